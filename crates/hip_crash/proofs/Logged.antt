@@ -14,7 +14,9 @@ use Rattle.hip_runs.specs.declared.input.Input.{Input}
 use Rattle.hip_runs.specs.Seen.{Seen, state_of}
 use Rattle.hip_crash.specs.Holding.{AreKeptOf, IsKeptOf}
 use Rattle.hip_crash.specs.Logging.{view_of, IsLogging}
-use Rattle.hip_crash.specs.Noting.{IsWithin, noted}
+use Rattle.hip_cache.specs.Laws.WithinLaws.{event_within}
+use Rattle.hip_cache.specs.Within.{IsWithin}
+use Rattle.hip_crash.specs.Noting.{noted}
 use Rattle.hip_crash.specs.Now.{fresh}
 use Rattle.hip_crash.specs.Region.{seen_at}
 use Rattle.hip_crash.specs.declared.waiting.Waiting.TheVariants as waits
@@ -22,7 +24,7 @@ use Rattle.hip_crash.specs.Waiting.{WaitsWithin}
 use Rattle.hip_crash.specs.declared.log.CrashLog.TheInside.{Inside}
 use Rattle.hip_crash.specs.declared.region_log.RegionLog.{RegionLog}
 use Rattle.hip_crash.proofs.Holding.{kept-fresh, kept-same}
-use Rattle.hip_crash.proofs.Steps.{kept-few, kept-step, event_within, steps-fit, entries-fit, entries-next, ended-next}
+use Rattle.hip_crash.proofs.Steps.{kept-few, kept-step, steps-fit, entries-fit, entries-next, ended-next}
 
 module _ (x : Inside) (h : IsLogging x) where
   abbrev P : Program
@@ -56,8 +58,8 @@ module _ (x : Inside) (h : IsLogging x) where
   pub event-same : (m : Seen) (e : Event) → view_of x ≡ m → e ≡ event m.program m.input (state_of m) → e ≡ event P I (run P I x.taken)
   event-same m e q s = subst (λ (y : Seen). e ≡ event y.program y.input (state_of y)) (sym q) s
 
-  pub event-within : (e : Event) → e ≡ event P I (run P I x.taken) → IsWithin I.base I.image e
-  event-within e q = subst (IsWithin I.base I.image) (sym q) (event_within P I x.taken whole)
+  pub event-within : (e : Event) → e ≡ event P I (run P I x.taken) → IsWithin I.base (length I.image) e
+  event-within e q = subst (IsWithin I.base (length I.image)) (sym q) (event_within P I x.taken whole)
 
   module _ (on : x.ended ≡ false) where
     goes : has_ended (run P I x.taken) ≡ false

@@ -24,48 +24,12 @@ use Rattle.hip_runs.specs.declared.event.Event.{Event}
 use Rattle.hip_runs.specs.declared.event.Event.TheVariants as events
 use Rattle.hip_runs.specs.declared.input.Input.{Input}
 use Rattle.hip_sound.specs.Sound.{IsSound}
+use Rattle.hip_cache.specs.Laws.WithinLaws.{site_there}
 use Rattle.hip_crash.specs.Holding.{AreKeptOf}
 use Rattle.hip_crash.specs.Kept.{Kept, with_flush}
-use Rattle.hip_crash.specs.Noting.{IsWithin, noted}
+use Rattle.hip_crash.specs.Noting.{noted}
 use Rattle.hip_crash.proofs.FewParts.{few_parts}
 use Rattle.hip_crash.proofs.Holding.{alike-length, alike-store, kept-stored, kept-flushed, kept-fenced, kept-same}
-
--- ---- events lie in the region
-
-plain_within : (base : ℕ) (image : List ℕ) (e : Event) → is_plain e ≡ true → IsWithin base image e
-plain_within base image events.Quiet p = tt
-plain_within base image (events.Print z) p = tt
-plain_within base image (events.Store a v n) p = absurd (let z : ⊥ = cc in z)
-plain_within base image (events.Flush line size) p = absurd (let z : ⊥ = cc in z)
-plain_within base image (events.Persist line size) p = absurd (let z : ⊥ = cc in z)
-plain_within base image events.Fence p = tt
-plain_within base image (events.Assert a n) p = tt
-plain_within base image (events.End e) p = tt
-
-stored_within : (base len a n : ℕ) → nat_le base a && nat_le (a + n) (base + len) ≡ true → (base ≤ a) × ((a - base) + n ≤ len)
-stored_within base len a n h = (grind (arith, nat_tests), grind (arith, nat_tests))
-
-flushed_within : (base len a n : ℕ) → len % 64 ≡ 0 → nat_lt 0 n && (nat_le base a && nat_le (a + n) (base + len)) ≡ true
-    → (base ≤ base + 64 * ((a - base) / 64)) × ((base + 64 * ((a - base) / 64) - base) + (64 * (((a - base) + n - 1) / 64 + 1) - 64 * ((a - base) / 64)) ≤ len)
-flushed_within base len a n whole h =
-    let some : 0 < n = grind (arith, nat_tests) in
-    let both : (base ≤ a) × (a + n ≤ base + len) = (grind (arith, nat_tests), grind (arith, nat_tests)) in
-    (omega arith, most (a - base) (omega (arith, both.0, both.1)) some)
-  where
-    most : (o : ℕ) → o + n ≤ len → 0 < n → (base + 64 * (o / 64) - base) + (64 * ((o + n - 1) / 64 + 1) - 64 * (o / 64)) ≤ len
-    most o h some = omega (arith, whole, h, some)
-
-within_cases : (I : Input) (s : State) → length I.image % 64 ≡ 0 → Cases I s (λ e ls. IsWithin I.base I.image e)
-within_cases I s whole = record {
-  plain = λ e p. plain_within I.base I.image e p;
-  store = λ f fs t a bytes e w. stored_within I.base (length I.image) a (length bytes) e;
-  flush = λ f fs t a n e. flushed_within I.base (length I.image) a n whole e;
-  persist = λ f fs t a n e. flushed_within I.base (length I.image) a n whole e;
-  fence = tt;
-}
-
-pub event_within : (P : Program) (I : Input) (n : ℕ) → length I.image % 64 ≡ 0 → IsWithin I.base I.image (event P I (run P I n))
-event_within P I n whole = step-cases P I (run P I n) (λ e ls. IsWithin I.base I.image e) (within_cases I (run P I n) whole)
 
 -- ---- lines after a step
 
@@ -82,13 +46,9 @@ module _ (I : Input) (counts : Counts) (t : Site) (levels : List Level) (ls : Li
   kept-noted (events.Assert a n) q = kept-same I.image see see' ls h q
   kept-noted (events.End e) q = kept-same I.image see see' ls h q
 
-top_there : (fs : List Frame) → has_frame fs ≡ true → (t : Site) × (top_site fs ≡ Some t)
-top_there [] e = absurd (let z : ⊥ = cc in z)
-top_there (f ∷ fs) e = (site_of f, refl)
-
 pub kept-step : (P : Program) (I : Input) (n : ℕ) (see see' : ℕ → Kept) → AreKeptOf I.image see (run P I n).lines → ((j : ℕ) → see' j ≡ noted I.base (event P I (run P I n)) j (see j)) → AreKeptOf I.image see' (run P I (suc n)).lines
 kept-step P I n see see' h q =
-    let t = top_there (run P I n).frames (standing-frame P I n) in
+    let t = site_there P I n in
     let s = run P I n in
     subst (AreKeptOf I.image see') (sym (next_lines P I n ∙ ap (λ o. lines_after I (event P I s) s.counts o (levels_of s.frames) s.lines) t.1))
     (kept-noted I s.counts t.0 (levels_of s.frames) s.lines see see' (lines_ordered P I n) h (event P I s) q)

@@ -1,5 +1,5 @@
 -- What a step's event does to what is kept of the region.
-use Rattle.std.specs.Prelude.{ℕ, ◌+◌, ◌-◌, ◌≤◌, cond, List, length}
+use Rattle.std.specs.Prelude.{ℕ, ◌-◌, cond}
 use Rattle.hip_lines.specs.Line.{has_bytes}
 use Rattle.hip_runs.specs.declared.event.Event.{Event}
 use Rattle.hip_runs.specs.declared.event.Event.TheVariants as events
@@ -13,10 +13,3 @@ noted base (events.Flush line size) j k = cond (has_bytes j (line - base) size) 
 noted base (events.Persist line size) j k = with_fence j (cond (has_bytes j (line - base) size) (with_flush k) k)
 noted base events.Fence j k = with_fence j k
 noted base _ j k = k
-
--- what the event names lies in the region
-abbrev pub IsWithin : ℕ → List ℕ → Event → Type 0
-IsWithin base image (events.Store a v n) = (base ≤ a) × ((a - base) + n ≤ length image)
-IsWithin base image (events.Flush line size) = (base ≤ line) × ((line - base) + size ≤ length image)
-IsWithin base image (events.Persist line size) = (base ≤ line) × ((line - base) + size ≤ length image)
-IsWithin base image _ = Unit {0}

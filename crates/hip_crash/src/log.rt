@@ -14,7 +14,7 @@ use crate::changes::line_bytes;
 use crate::counting::{count_header, is_counted, is_end};
 use crate::noting::note;
 use crate::region_log::RegionLog;
-use hip_engine::Machine;
+use hip_cache::Machine;
 use hip_picks::{Bounds, Pick, PickRefusal};
 use hip_runs::{Event, Input, longest};
 use hip_sound::Checked;

@@ -1,7 +1,8 @@
 //! What a step's event does to what is kept of the region.
 
 ghost use Rattle.std.specs.Prelude.{◌≡◌, ◌<◌, ◌^◌, ℕ, List, length};
-ghost use Rattle.hip_crash.specs.Noting.{IsWithin, noted};
+ghost use Rattle.hip_cache.specs.Within.{IsWithin};
+ghost use Rattle.hip_crash.specs.Noting.{noted};
 ghost use Rattle.hip_crash.specs.Region.{seen_at};
 ghost use Rattle.hip_crash.specs.Waiting.{WaitsWithin};
 ghost use Rattle.hip_crash.specs.declared.waiting.Waiting.TheVariants as waits;
@@ -14,10 +15,10 @@ use hip_runs::Event;
 #[inline(always)]
 pub fn note(log: &mut RegionLog, base: u64, event: Event)
     requires idle { log.old.waiting ≡ waits.Nothing }
-    requires within { (image : List ℕ) × IsWithin base image event × (length image < 2 ^ 40) }
+    requires within { (image : List ℕ) × IsWithin base (length image) event × (length image < 2 ^ 40) }
     ensures seen { (image : List ℕ) → (j : ℕ)
         → seen_at log.new image j ≡ noted base event j (seen_at log.old image j) }
-    ensures within { (image : List ℕ) → IsWithin base image event → WaitsWithin log.new.waiting image }
+    ensures within { (image : List ℕ) → IsWithin base (length image) event → WaitsWithin log.new.waiting image }
 {
     if let Event::Quiet = event {
         return;

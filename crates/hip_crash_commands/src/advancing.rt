@@ -2,8 +2,8 @@ ghost use Rattle.std.specs.Prelude.{◌≡◌, OnOk};
 ghost use Rattle.hip_crash_commands.specs.Advancing.{Reaches};
 ghost use Rattle.hip_crash_commands.specs.Images.{HasEntry};
 
+use hip_cache::Machine;
 use hip_crash::CrashLog;
-use hip_engine::Machine;
 use hip_types::NoMemory;
 
 /// Takes the steps of a run up to the first state with n entries, and notes them.

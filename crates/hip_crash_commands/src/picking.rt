@@ -5,8 +5,8 @@ ghost use Rattle.hip_runs.specs.Seen.{state_of};
 
 use crate::advancing::advance_to;
 use crate::refusal::{ImageRefusal, failure_of_picks};
+use hip_cache::Machine;
 use hip_crash::{CrashLog, Pick};
-use hip_engine::Machine;
 use hip_program_files::Failure;
 use hip_runs::Input;
 use hip_sound::Checked;

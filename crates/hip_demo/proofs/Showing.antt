@@ -28,7 +28,7 @@ pub shows : (P : Program) (I : Input) (replayed : Replayed) (repair : Repair) (k
     → after ≡ length kept.recorded.findings.reports
     → HasShown P I (counts replayed.entries reports repair.plan clones kept.recorded.entries after)
 shows P I replayed repair kept reports clones after cured f made k some many left =
-    let again : HasKept (repaired_for P replayed.findings) I kept = subst (λ R. HasKept R I kept) made.program_is k in
+    let again : HasKept (repaired_for P replayed.findings) I kept = subst (λ R. HasKept R I kept) made.applied.program_is k in
     record {
       found = replayed.findings;
       found_is = f.found;
@@ -40,5 +40,5 @@ shows P I replayed repair kept reports clones after cured f made k some many lef
       none_left = ap (λ (g : Findings). g.reports) again.found.is ∙ cured.clean again.found.steps;
       rerun = again.trace;
       is_rerun = again.is_trace;
-      shown_is = same_shown f.entries some made.plan_is (many ∙ ap (λ cs. length cs) made.clones_are) again.entries left;
+      shown_is = same_shown f.entries some made.plan_is (many ∙ ap (λ cs. length cs) made.applied.clones_are) again.entries left;
     }

@@ -58,9 +58,9 @@ fn mend(alloc: Global, checked: &Checked, replayed: Replayed) -> Result<Shown, N
     let _program = checked.program();
     let repair = repair_for(alloc, checked, &replayed.findings)?;
     let rerun = keep_run(alloc, &repair.repaired.checked, &replayed.input)?;
-    let reports = replayed.findings.reports.len();
+    let reports = replayed.findings.reports().len();
     let clones = repair.repaired.clones.len();
-    let after = rerun.recorded.findings.reports.len();
+    let after = rerun.recorded.findings.reports().len();
     let Repair { plan, .. } = repair;
     Ok(Shown {
         entries: replayed.entries,

@@ -1,7 +1,9 @@
 pub mod Told
 pub mod Runs
 pub mod Quietly
+pub mod Silently
 pub mod Quickly
 pub mod Locally
+pub mod StoresTold
 pub mod MainPlace
 pub mod StartStands

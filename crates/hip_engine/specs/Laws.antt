@@ -1,1 +1,2 @@
 pub mod QuietLaws
+pub mod SilentLaws

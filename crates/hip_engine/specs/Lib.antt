@@ -2,6 +2,8 @@ pub mod Given
 pub mod Starting
 pub mod Running
 pub mod Quiet
+pub mod Silent
 pub mod QuickSteps
 pub mod LocalSteps
+pub mod StoresAhead
 pub mod Laws

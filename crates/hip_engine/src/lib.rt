@@ -1,13 +1,17 @@
-//! The machine that runs resolved programs over persistent memory, one step of the definition at a time.
+//! The runner of resolved programs over persistent memory: it takes the steps of the definition, and keeps no cache
+//! lines.
 #![tactic(auto)]
 
+mod ahead;
 mod going;
 mod here;
-mod local_steps;
-mod machine;
 mod moves;
+mod printing;
 mod quick_calls;
 mod quick_steps;
 mod quick_stores;
+mod runner;
+mod stepping;
 
-pub use machine::Machine;
+pub use ahead::StoreAhead;
+pub use runner::Runner;

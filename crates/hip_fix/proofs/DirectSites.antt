@@ -1,12 +1,12 @@
 -- The walk that collects direct stores finds exactly those.
 use Rattle.std.proofs.Common.{ℕ, suc, ◌+◌, ◌≡◌, ◌||◌, ◌&&◌, not, Bool, true, false, cond, List, [], ◌∷◌, ◌++◌, Option, Some, None, refl, sym, ap, ◌∙◌, arith}
-use Rattle.std.specs.Prelude.{option_and_then, slice_get}
+use Rattle.std.specs.Prelude.{slice_get}
 use Rattle.std.specs.List.{filter, list_any}
-use Rattle.std.specs.Cmp.{both_ways}
 use Rattle.std.specs.Str.{bytes_eq}
+use Rattle.std.proofs.Math.Path.{fun_ext}
 use Rattle.std.proofs.lemmas.List.Folds.{list_any-append}
 use Rattle.hip_types.specs.Distinct.{met}
-use Rattle.hip_tree.specs.Sites.{has_site, instr_of, body_sites, block_sites, function_sites, sites_of}
+use Rattle.hip_tree.specs.Sites.{has_site, sites_of}
 use Rattle.hip_tree.specs.declared.block.Block.{Block}
 use Rattle.hip_tree.specs.declared.constant.Const.{Const, out-Const}
 use Rattle.hip_tree.specs.declared.constant.Const.TheOpen.{Const-F}
@@ -24,8 +24,9 @@ use Rattle.hip_names.specs.Names.{is_among}
 use Rattle.hip_names.specs.Laws.MetLaws.{met-alike}
 use Rattle.hip_runs.specs.Places.{blocks_in, blocks_of}
 use Rattle.hip_repairs.specs.Direct.{allocates, allocates_in, is_volatile_global, names_volatile, stores_outside, direct}
-use Rattle.hip_repairs.specs.Laws.SiteOrder.{filtered_has, filtered_in, has_in, site_in}
-use Rattle.hip_fix.specs.DirectWalk.{volatile_names, allocated, body_allocas, alloca_names, names_one_of, stores_by, outside_in_body, outside_in_blocks, outside_in_function, outside_in_functions}
+use Rattle.hip_sites.specs.Laws.PassingLaws.{listed, walk_filtered}
+use Rattle.hip_sites.specs.Passing.{passing_in_blocks, passing_in_functions}
+use Rattle.hip_fix.specs.DirectWalk.{volatile_names, allocated, body_allocas, alloca_names, names_one_of, stores_by, direct_in_functions}
 
 -- ---- the names
 
@@ -76,73 +77,28 @@ stores_same P blocks _ = refl
 
 -- ---- the sites
 
-filter-append : (test : Site → Bool) (xs ys : List Site) → filter test (xs ++ ys) ≡ filter test xs ++ filter test ys
-filter-append test [] ys = refl
-filter-append test (x ∷ xs) ys = by_test (test x) (filter-append test xs ys)
-  where
-    by_test : (b : Bool) → filter test (xs ++ ys) ≡ filter test xs ++ filter test ys → cond b (x ∷ filter test (xs ++ ys)) (filter test (xs ++ ys)) ≡ cond b (x ∷ filter test xs) (filter test xs) ++ filter test ys
-    by_test true e = ap (λ zs. x ∷ zs) e
-    by_test false e = e
-
-chosen : (b : Bool) (s : Site) (rest : List Site) → cond b (s ∷ rest) rest ≡ cond b (s ∷ []) [] ++ rest
-chosen true s rest = refl
-chosen false s rest = refl
-
 module _ (P : Program) where
-  direct_there : (f b k : ℕ) (fn : Function) (block : Block) (i : Instr) → slice_get P.functions f ≡ Some fn → slice_get fn.blocks b ≡ Some block → slice_get block.body k ≡ Some i →
-      direct P (record { function = f; block = b; index = k }) ≡ stores_by (met bytes_eq [] (volatile_names P.globals)) (met bytes_eq [] (alloca_names fn.blocks)) i
-  direct_there f b k fn block i e_f e_b e_i =
-      let instr : instr_of P (record { function = f; block = b; index = k }) ≡ Some i =
-      ap (λ o. option_and_then (λ (x : Block). slice_get x.body k) (option_and_then (λ (x : Function). slice_get x.blocks b) o)) e_f
-      ∙ ap (λ o. option_and_then (λ (x : Block). slice_get x.body k) o) e_b ∙ e_i in
-      ap (λ o. stores_outside P (blocks_in o) (instr_of P (record { function = f; block = b; index = k }))) e_f
-      ∙ ap (stores_outside P fn.blocks) instr ∙ sym (stores_same P fn.blocks i)
+  abbrev volatile : List (List ℕ)
+  volatile = met bytes_eq [] (volatile_names P.globals)
 
-  body_filtered : (f b k : ℕ) (fn : Function) (block : Block) (is : List Instr) → slice_get P.functions f ≡ Some fn → slice_get fn.blocks b ≡ Some block →
-      ((j : ℕ) → slice_get is j ≡ slice_get block.body (k + j)) →
-      filter (direct P) (body_sites f b k is) ≡ outside_in_body (met bytes_eq [] (volatile_names P.globals)) (met bytes_eq [] (alloca_names fn.blocks)) f b k is
-  body_filtered f b k fn block [] e_f e_b at = refl
-  body_filtered f b k fn block (i ∷ is) e_f e_b at =
-      let s : Site = record { function = f; block = b; index = k } in
-      let here : k ≡ k + 0 = omega arith in
-      let rest = body_filtered f b (suc k) fn block is e_f e_b (λ j. at (suc j) ∙ ap (slice_get block.body) (let q : k + suc j ≡ suc k + j = omega arith in q)) in
-      ap (λ t. cond t (s ∷ filter (direct P) (body_sites f b (suc k) is)) (filter (direct P) (body_sites f b (suc k) is))) (direct_there f b k fn block i e_f e_b (ap (slice_get block.body) here ∙ sym (at 0)))
-      ∙ chosen (stores_by (met bytes_eq [] (volatile_names P.globals)) (met bytes_eq [] (alloca_names fn.blocks)) i) s (filter (direct P) (body_sites f b (suc k) is))
-      ∙ ap (λ zs. cond (stores_by (met bytes_eq [] (volatile_names P.globals)) (met bytes_eq [] (alloca_names fn.blocks)) i) (s ∷ []) [] ++ zs) rest
-
-  blocks_filtered : (f b : ℕ) (fn : Function) (xs : List Block) → slice_get P.functions f ≡ Some fn → ((j : ℕ) → slice_get xs j ≡ slice_get fn.blocks (b + j)) →
-      filter (direct P) (block_sites f b xs) ≡ outside_in_blocks (met bytes_eq [] (volatile_names P.globals)) (met bytes_eq [] (alloca_names fn.blocks)) f b xs
-  blocks_filtered f b fn [] e_f at = refl
-  blocks_filtered f b fn (x ∷ xs) e_f at =
-      let here : b ≡ b + 0 = omega arith in
-      let first = body_filtered f b 0 fn x x.body e_f (ap (slice_get fn.blocks) here ∙ sym (at 0)) (λ j. ap (slice_get x.body) (let q : j ≡ 0 + j = omega arith in q)) in
-      let rest = blocks_filtered f (suc b) fn xs e_f (λ j. at (suc j) ∙ ap (slice_get fn.blocks) (let q : b + suc j ≡ suc b + j = omega arith in q)) in
-      filter-append (direct P) (body_sites f b 0 x.body) (block_sites f (suc b) xs)
-      ∙ ap (λ ys. ys ++ filter (direct P) (block_sites f (suc b) xs)) first
-      ∙ ap (λ ys. outside_in_body (met bytes_eq [] (volatile_names P.globals)) (met bytes_eq [] (alloca_names fn.blocks)) f b 0 x.body ++ ys) rest
-
-  functions_filtered : (f : ℕ) (xs : List Function) → ((j : ℕ) → slice_get xs j ≡ slice_get P.functions (f + j)) →
-      filter (direct P) (function_sites f xs) ≡ outside_in_functions (met bytes_eq [] (volatile_names P.globals)) f xs
-  functions_filtered f [] at = refl
-  functions_filtered f (x ∷ xs) at =
+  -- each function is searched by the test of the function of its number
+  functions_tested : (f : ℕ) (xs : List Function) → ((j : ℕ) → slice_get xs j ≡ slice_get P.functions (f + j)) →
+      direct_in_functions volatile f xs ≡ passing_in_functions (λ g i. stores_outside P (blocks_of P g) (Some i)) f xs
+  functions_tested f [] at = refl
+  functions_tested f (x ∷ xs) at =
       let here : f ≡ f + 0 = omega arith in
-      let first = blocks_filtered f 0 x x.blocks (ap (slice_get P.functions) here ∙ sym (at 0)) (λ j. ap (slice_get x.blocks) (let q : j ≡ 0 + j = omega arith in q)) in
-      let rest = functions_filtered (suc f) xs (λ j. at (suc j) ∙ ap (slice_get P.functions) (let q : f + suc j ≡ suc f + j = omega arith in q)) in
-      filter-append (direct P) (block_sites f 0 x.blocks) (function_sites (suc f) xs)
-      ∙ ap (λ ys. ys ++ filter (direct P) (function_sites (suc f) xs)) first
-      ∙ ap (λ ys. outside_in_function (met bytes_eq [] (volatile_names P.globals)) f x ++ ys) rest
+      let blocks : blocks_of P f ≡ x.blocks = ap blocks_in (ap (slice_get P.functions) here ∙ sym (at 0)) in
+      let test : stores_by volatile (met bytes_eq [] (alloca_names x.blocks)) ≡ (λ (i : Instr). stores_outside P (blocks_of P f) (Some i)) =
+      fun_ext (λ i. stores_same P x.blocks i ∙ ap (λ bs. stores_outside P bs (Some i)) (sym blocks)) in
+      let rest = functions_tested (suc f) xs (λ j. at (suc j) ∙ ap (slice_get P.functions) (let q : f + suc j ≡ suc f + j = omega arith in q)) in
+      ap (λ t. passing_in_blocks t f 0 x.blocks ++ direct_in_functions volatile (suc f) xs) test
+      ∙ ap (λ ys. passing_in_blocks (λ i. stores_outside P (blocks_of P f) (Some i)) f 0 x.blocks ++ ys) rest
 
-pub walk_filtered : (P : Program) → outside_in_functions (met bytes_eq [] (volatile_names P.globals)) 0 P.functions ≡ filter (direct P) (sites_of P)
-walk_filtered P = sym (functions_filtered P 0 P.functions (λ j. ap (slice_get P.functions) (let q : j ≡ 0 + j = omega arith in q)))
+  pub direct_filtered : direct_in_functions volatile 0 P.functions ≡ filter (direct P) (sites_of P)
+  direct_filtered =
+      functions_tested 0 P.functions (λ j. ap (slice_get P.functions) (let q : j ≡ 0 + j = omega arith in q))
+      ∙ walk_filtered P (λ f o. stores_outside P (blocks_of P f) o)
 
 -- a site is found exactly where a direct store stands
 pub found_direct : (P : Program) (s : Site) → has_site (filter (direct P) (sites_of P)) s ≡ direct P s
-found_direct P s =
-    both_ways _ _ (λ e. (filtered_in (direct P) (sites_of P) s (has_in (filter (direct P) (sites_of P)) s e)).1) (λ e. there (instr_of P s) refl e)
-  where
-    there : (o : Option Instr) → instr_of P s ≡ o → direct P s ≡ true → has_site (filter (direct P) (sites_of P)) s ≡ true
-    there None e d = let none : direct P s ≡ false = ap (stores_outside P (blocks_of P s.function)) e in absurd (never (sym none ∙ d))
-      where
-        never : false ≡ true → ⊥
-        never e = cc
-    there (Some i) e d = filtered_has (direct P) (sites_of P) s (site_in P s i e) d
+found_direct P = listed P (direct P) (λ s e. ap (stores_outside P (blocks_of P s.function)) e)

@@ -1,5 +1,5 @@
--- The stores whose bytes are never in the region, as one walk finds them: with the volatile globals and, for each
--- function, the registers that `alloca` assigns as sets of names.
+-- The direct stores, as one walk finds them by sets of names: of the volatile globals and, for each function, of the
+-- registers that `alloca` assigns.
 use Rattle.std.specs.Prelude.{ℕ, suc, Bool, false, cond, List, [], ◌∷◌, ◌++◌}
 use Rattle.std.specs.List.{flat_map}
 use Rattle.std.specs.Str.{bytes_eq}
@@ -17,6 +17,7 @@ use Rattle.hip_tree.specs.declared.program.Function.{Function}
 use Rattle.hip_tree.specs.declared.program.GlobalVar.{GlobalVar}
 use Rattle.hip_tree.specs.declared.site.Site.{Site}
 use Rattle.hip_names.specs.Names.{is_among}
+use Rattle.hip_sites.specs.Passing.{passing_in_blocks}
 
 -- the names of the volatile globals, in their order
 abbrev pub volatile_names : List GlobalVar → List (List ℕ)
@@ -36,7 +37,7 @@ body_allocas is = flat_map allocated is
 abbrev pub alloca_names : List Block → List (List ℕ)
 alloca_names blocks = flat_map (λ b. body_allocas b.body) blocks
 
--- the constant is the address of one of these globals; a `getelementptr` from one is not taken for one
+-- the constant is the address of one of these globals itself, and no `getelementptr`
 abbrev pub names_one_of : List (List ℕ) → Const-F Const ConstGep TypedConst → Bool
 names_one_of volatile (Const-F.Address name) = is_among volatile name
 names_one_of volatile _ = false
@@ -51,26 +52,13 @@ abbrev pub stores_by : List (List ℕ) → List (List ℕ) → Instr → Bool
 stores_by volatile registers (Store ty value addr align) = lies_by volatile registers addr
 stores_by volatile registers _ = false
 
--- the sites of such stores of a body from place k on, of blocks from number b on, of a function, and of functions from
--- number f on
-abbrev pub outside_in_body : List (List ℕ) → List (List ℕ) → ℕ → ℕ → ℕ → List Instr → List Site
-outside_in_body volatile registers f b k [] = []
-outside_in_body volatile registers f b k (i ∷ is) =
-    cond (stores_by volatile registers i) (record { function = f; block = b; index = k } ∷ []) []
-    ++ outside_in_body volatile registers f b (suc k) is
-
--- those of blocks of function f, the first of which has number b
-abbrev pub outside_in_blocks : List (List ℕ) → List (List ℕ) → ℕ → ℕ → List Block → List Site
-outside_in_blocks volatile registers f b [] = []
-outside_in_blocks volatile registers f b (x ∷ xs) =
-    outside_in_body volatile registers f b 0 x.body ++ outside_in_blocks volatile registers f (suc b) xs
-
--- those of function f, by the registers that its own `alloca` assign
-abbrev pub outside_in_function : List (List ℕ) → ℕ → Function → List Site
-outside_in_function volatile f x = outside_in_blocks volatile (met bytes_eq [] (alloca_names x.blocks)) f 0 x.blocks
+-- the sites of such stores of function f, by the registers that its own `alloca` assign
+abbrev pub direct_in_function : List (List ℕ) → ℕ → Function → List Site
+direct_in_function volatile f x =
+    passing_in_blocks (stores_by volatile (met bytes_eq [] (alloca_names x.blocks))) f 0 x.blocks
 
 -- those of functions, the first of which has number f
-abbrev pub outside_in_functions : List (List ℕ) → ℕ → List Function → List Site
-outside_in_functions volatile f [] = []
-outside_in_functions volatile f (x ∷ xs) =
-    outside_in_function volatile f x ++ outside_in_functions volatile (suc f) xs
+abbrev pub direct_in_functions : List (List ℕ) → ℕ → List Function → List Site
+direct_in_functions volatile f [] = []
+direct_in_functions volatile f (x ∷ xs) =
+    direct_in_function volatile f x ++ direct_in_functions volatile (suc f) xs

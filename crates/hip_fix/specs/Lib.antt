@@ -1,3 +1,4 @@
+pub mod Applied
 pub mod SuitsTest
 pub mod Walked
 pub mod DirectWalk

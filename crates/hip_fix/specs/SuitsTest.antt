@@ -1,4 +1,4 @@
--- Whether a plan suits, as it is tested: ascending lists are gone through side by side.
+-- The test whether a plan suits: it walks over two ascending lists side by side.
 use Rattle.std.specs.Prelude.{Bool, true, false, cond, ◌&&◌, ◌||◌, is_none, List, [], ◌∷◌, Option, Some}
 use Rattle.std.specs.List.{list_all}
 use Rattle.hip_externs.specs.Externs.{call_of}
@@ -11,27 +11,27 @@ use Rattle.hip_runs.specs.Sites.{is_flush_call, is_store}
 use Rattle.hip_repairs.specs.Suits.{site_before, is_ascending}
 use Rattle.hip_repairs.specs.declared.plan.Plan.{Plan}
 
--- the site is before the first of the list, if there is one
+-- the site is before the first of the list, or the list is empty
 abbrev pub is_before_first : Site → List Site → Bool
 is_before_first s [] = true
 is_before_first s (x ∷ xs) = site_before s x
 
--- the sites from the first on that is not before a site
+-- what is left of the sites without the first ones, which are before a site
 abbrev pub not_before : Site → List Site → List Site
 not_before s [] = []
 not_before s (x ∷ xs) = cond (site_before x s) (not_before s xs) (x ∷ xs)
 
--- the first site of the list is this one; an empty list begins with none
+-- the first site of the list is this one
 abbrev pub begins_with : List Site → Site → Bool
 begins_with [] s = false
 begins_with (x ∷ xs) s = same_site s x
 
--- a call that is of no external function; in a sound program it is of a defined one
+-- a call of a function that is not external; in a sound program that function is defined
 abbrev pub calls_defined : Option Instr → Bool
 calls_defined (Some (Call dest ret callee args)) = is_none (call_of callee)
 calls_defined _ = false
 
--- each of these sites is a flush call or among the first ones, where both lists ascend
+-- each fenced site is a flush call or a flushed site; both lists ascend
 abbrev pub fences_pass : Program → List Site → List Site → Bool
 fences_pass P flushes [] = true
 fences_pass P flushes (s ∷ ss) =
@@ -41,7 +41,7 @@ fences_pass P flushes (s ∷ ss) =
 abbrev pub ascend : Plan → Bool
 ascend plan = is_ascending plan.flush_after && is_ascending plan.fence_after && is_ascending plan.hoist
 
--- The test of a plan: a plan passes it exactly where it suits the program, if that is sound.
+-- The test of a plan. If the program is sound, a plan passes exactly if it suits the program.
 abbrev pub passes : Program → Plan → Bool
 passes P plan =
     ascend plan && list_all (λ s. is_store (instr_of P s)) plan.flush_after

@@ -5,9 +5,10 @@ ghost use Rattle.hip_types.specs.Distinct.{met};
 ghost use Rattle.hip_tree.specs.Sites.{sites_of};
 ghost use Rattle.hip_repairs.specs.Direct.{direct};
 ghost use Rattle.hip_fix.specs.DirectWalk as spec;
-ghost use Rattle.hip_fix.specs.DirectWalk.{alloca_names, body_allocas, outside_in_blocks, outside_in_body, outside_in_function, outside_in_functions, stores_by, volatile_names};
+ghost use Rattle.hip_fix.specs.DirectWalk.{alloca_names, body_allocas, direct_in_function, direct_in_functions, stores_by, volatile_names};
 
 use hip_names::NameSet;
+use hip_sites::{InstrTest, add_passing};
 use hip_tree::{Block, Const, Function, GlobalVar, Instr, Operand, Program, Site};
 use hip_types::{NoMemory, Row};
 use std::alloc::Global;
@@ -70,52 +71,21 @@ fn stores_by(volatile: &NameSet<'_>, allocated: &NameSet<'_>, instr: &Instr) -> 
     }
 }
 
-/// Adds the sites of such stores of a body.
-fn add_body(
-    sites: &mut Row<Site>,
-    volatile: &NameSet<'_>,
-    allocated: &NameSet<'_>,
-    function: usize,
-    block: usize,
-    body: &[Instr],
-) -> Result<(), NoMemory>
-    ensures { OnOk result (sites.new
-        ≡ sites.old ++ outside_in_body volatile.now allocated.now function block 0 body.now) }
-{
-    'each: for index in 0..body.len() {
-        if stores_by(volatile, allocated, &body[index]) {
-            sites.push(Site {
-                function,
-                block,
-                index,
-            })?;
-        }
-    }
-    Ok(())
+/// The test for such stores: the volatile globals, and the registers that the `alloca` of one function assign.
+#[derive(Clone, Copy)]
+struct DirectTest<'a> {
+    volatile: &'a NameSet<'a>,
+    allocated: &'a NameSet<'a>,
 }
 
-/// Adds the sites of such stores of blocks.
-fn add_blocks(
-    sites: &mut Row<Site>,
-    volatile: &NameSet<'_>,
-    allocated: &NameSet<'_>,
-    function: usize,
-    blocks: &[Block],
-) -> Result<(), NoMemory>
-    ensures { OnOk result (sites.new
-        ≡ sites.old ++ outside_in_blocks volatile.now allocated.now function 0 blocks.now) }
-{
-    'each: for block in 0..blocks.len() {
-        add_body(
-            sites,
-            volatile,
-            allocated,
-            function,
-            block,
-            blocks[block].body.as_slice(),
-        )?;
+impl InstrTest for DirectTest<'_> {
+    ghost test = { λ t i. stores_by t.volatile.now t.allocated.now i };
+
+    ghost takes = { λ t i. Unit {0} };
+
+    fn passes(&self, instr: &Instr) -> Result<bool, NoMemory> {
+        Ok(stores_by(self.volatile, self.allocated, instr))
     }
-    Ok(())
 }
 
 /// Adds the sites of the stores of a function whose address is a register that an `alloca` assigns, or one of these
@@ -127,16 +97,15 @@ fn add_function(
     number: usize,
     function: &Function,
 ) -> Result<(), NoMemory>
-    ensures { OnOk result (sites.new ≡ sites.old ++ outside_in_function volatile.now number function.now) }
+    ensures { OnOk result (sites.new ≡ sites.old ++ direct_in_function volatile.now number function.now) }
 {
-    let allocated = alloca_names(alloc, function.blocks.as_slice())?;
-    add_blocks(
-        sites,
+    let blocks = function.blocks.as_slice();
+    let allocated = alloca_names(alloc, blocks)?;
+    let test = DirectTest {
         volatile,
-        &allocated,
-        number,
-        function.blocks.as_slice(),
-    )
+        allocated: &allocated,
+    };
+    add_passing(sites, &test, number, blocks)
 }
 
 /// Adds those of all functions.
@@ -146,7 +115,7 @@ fn add_functions(
     volatile: &NameSet<'_>,
     functions: &[Function],
 ) -> Result<(), NoMemory>
-    ensures { OnOk result (sites.new ≡ sites.old ++ outside_in_functions volatile.now 0 functions.now) }
+    ensures { OnOk result (sites.new ≡ sites.old ++ direct_in_functions volatile.now 0 functions.now) }
 {
     'each: for number in 0..functions.len() {
         add_function(alloc, sites, volatile, number, &functions[number])?;

@@ -16,12 +16,10 @@ use hip_tree::{Instr, Program, Site, instr_at};
 fn is_before(a: Site, b: Site) -> bool
     ensures { result ≡ site_before a b }
 {
-    a.function < b.function
-        || a.function == b.function
-            && (a.block < b.block || a.block == b.block && a.index < b.index)
+    a < b
 }
 
-/// Whether the first site is before the others' first, if there is one.
+/// Whether a site is before the first of the others. True if there are none.
 fn is_before_first(site: Site, others: &[Site]) -> bool
     ensures { result ≡ test.is_before_first site others.now }
 {
@@ -45,7 +43,7 @@ fn is_ascending(sites: &[Site]) -> bool
     true
 }
 
-/// The sites from the first on that is not before a site.
+/// What is left of the sites without the first ones, which are before a site.
 fn not_before(sites: &[Site], site: Site) -> &[Site]
     ensures { result.now ≡ test.not_before site sites.now }
 {
@@ -64,10 +62,7 @@ fn begins_with(sites: &[Site], site: Site) -> bool
 {
     match sites {
         [] => false,
-        [first, ..] => {
-            site.function == first.function
-                && (site.block == first.block && site.index == first.index)
-        }
+        [first, ..] => site == *first,
     }
 }
 
@@ -120,7 +115,7 @@ fn are_calls(program: &Program, sites: &[Site]) -> bool
     sites.iter().all(|site| is_call_at(program, *site))
 }
 
-/// Whether each of these sites is a flush call or among the others, where both lists ascend.
+/// Whether each fenced site is a flush call or a flushed site. Both lists ascend.
 fn are_flushes(program: &Program, flush_after: &[Site], fence_after: &[Site]) -> bool
     ensures { result ≡ fences_pass program.now flush_after.now fence_after.now }
 {
@@ -152,9 +147,9 @@ fn passes(program: &Program, plan: &Plan) -> bool
         && are_calls(program, plan.hoist.as_slice())
 }
 
-/// Whether a plan suits a program: flushes are put after stores, fences after flush calls and after stores that a flush
-/// is put after, and the hoisted calls are calls of defined functions; each list is strictly ascending. It takes no
-/// memory, and time linear in the plan.
+/// Whether a plan suits a program: flushes go after stores; fences go after flush calls, and after stores that get a
+/// flush; the hoisted calls are calls of defined functions; each list is strictly ascending. It takes no memory, and
+/// time linear in the plan.
 pub fn suits(checked: &Checked, plan: &Plan) -> bool
     ensures { IsTrue result ↔ IsSuiting checked.now plan.now }
 {

@@ -2,22 +2,23 @@ ghost use Rattle.std.specs.Prelude.{◌≡◌, length, IfOk};
 ghost use Rattle.hip_calls.specs.Fresh.{fresh_names};
 ghost use Rattle.hip_tree.specs.Sites.{has_site};
 ghost use Rattle.hip_repairs.specs.Repaired.{cloned, clones_from, repaired, wanted_by};
-ghost use Rattle.hip_insertions.specs.Walk.{none_needed, wanted_in};
+ghost use Rattle.hip_insertions.specs.Walk.{wanted_in};
 ghost use Rattle.hip_fix.specs.Walked.{walked};
 
 use hip_copies::Structural;
-use hip_insertions::{CloneTable, Needed, Repair, SiteSet, declarations};
+use hip_insertions::{CloneTable, Made, Repair, declarations};
 use hip_repairs::Plan;
+use hip_sites::SiteSet;
 use hip_tree::{Program, Site};
-use hip_types::{Name, NoMemory, Row};
+use hip_types::{Name, NoMemory};
 use std::alloc::Global;
 
 /// The sites of a plan as sets, in a program whose functions of these numbers have clones of these names.
 fn repair_of<'a>(
     alloc: Global,
     program: &'a Program,
-    plan: &'a Plan,
-    skip: &'a [Site],
+    plan: &Plan,
+    skip: &[Site],
     originals: &'a [usize],
     names: &'a [Name],
 ) -> Result<Repair<'a>, NoMemory>
@@ -25,10 +26,10 @@ fn repair_of<'a>(
     ensures clones { IfOk result (λ r. r.clones ≡ clones_from program.now originals.now names.now) }
 {
     Ok(Repair {
-        flush_after: SiteSet::new(alloc, plan.flush_after.as_slice())?,
-        fence_after: SiteSet::new(alloc, plan.fence_after.as_slice())?,
-        hoist: SiteSet::new(alloc, plan.hoist.as_slice())?,
-        skip: SiteSet::new(alloc, skip)?,
+        flush_after: SiteSet::of(alloc, plan.flush_after.as_slice())?,
+        fence_after: SiteSet::of(alloc, plan.fence_after.as_slice())?,
+        hoist: SiteSet::of(alloc, plan.hoist.as_slice())?,
+        skip: SiteSet::of(alloc, skip)?,
         clones: CloneTable::new(alloc, program, originals, names)?,
     })
 }
@@ -45,22 +46,13 @@ fn walk(
     ensures { IfOk result (λ p. p
         ≡ walked program.now repair.now.clones (wanted_in repair.now) originals.now names.now) }
 {
-    let mut needed = Needed::none();
-    let mut functions = Row::new(alloc);
-    let old = program.functions.as_slice();
-    repair.add_functions(alloc, &mut functions, &mut needed, old)?;
-    repair.add_clones(
-        alloc,
-        &mut functions,
-        &mut needed,
-        program,
-        originals,
-        names,
-    )?;
+    let mut made = Made::none(alloc);
+    repair.add_functions(alloc, &mut made, program.functions.as_slice())?;
+    repair.add_clones(alloc, &mut made, program, originals, names)?;
     Ok(Program {
         globals: program.globals.copy(alloc)?,
-        externs: declarations(alloc, &program.externs, needed)?,
-        functions,
+        externs: declarations(alloc, &program.externs, made.needed)?,
+        functions: made.functions,
     })
 }
 

@@ -1,17 +1,9 @@
-ghost use Rattle.std.specs.Prelude.{◌≡◌, length, IfOk, OnOk};
+ghost use Rattle.std.specs.Prelude.{◌≡◌, length, IfOk};
 ghost use Rattle.hip_tree.specs.Sites.{has_site};
-ghost use Rattle.hip_runs.specs.Found.Marks.{IsFound};
-ghost use Rattle.hip_runs.specs.Validity.{IsValid};
-ghost use Rattle.hip_runs.specs.declared.input.Input.{Input};
-ghost use Rattle.hip_runs.specs.declared.report.Findings.{Findings};
-ghost use Rattle.hip_repairs.specs.Choice.{Contains, plan_for};
-ghost use Rattle.hip_repairs.specs.Clean.{IsClean};
-ghost use Rattle.hip_repairs.specs.CloneNumbers.{clone_numbers, numbered_from};
-ghost use Rattle.hip_repairs.specs.Covered.{AreHoistsFenced, IsCovered};
+ghost use Rattle.hip_repairs.specs.CloneNumbers.{numbered_from};
 ghost use Rattle.hip_repairs.specs.Direct.{direct};
-ghost use Rattle.hip_repairs.specs.Harmless.{IsHarmless};
 ghost use Rattle.hip_repairs.specs.Quiet.{IsQuiet};
-ghost use Rattle.hip_repairs.specs.Repaired as spec;
+ghost use Rattle.hip_fix.specs.Applied.{IsApplied, IsThorough};
 
 use crate::direct::direct_stores;
 use crate::program::repaired_program;
@@ -43,9 +35,9 @@ fn numbered(
     Ok(clones)
 }
 
-/// The program repaired by a plan, where the stores of `skip` get no flush by cloning. It does no harm; and where no
-/// store of `skip` ever lies in the region, it is clean and its hoisted calls are covered. The program, the plan and
-/// `skip` stay as they are.
+/// The program repaired by a plan. Its clones do not flush the stores of `skip`. It does no harm. If no store of `skip`
+/// ever lies in the region, it is clean and its hoisted calls are covered. The program, the plan and `skip` stay as
+/// they are.
 ///
 /// Time and memory are linear in the program, the plan, `skip` and the clones together.
 pub fn apply_skipping(
@@ -54,15 +46,11 @@ pub fn apply_skipping(
     plan: &Plan,
     skip: &[Site],
 ) -> Result<Repaired, NoMemory>
-    ensures program { IfOk result (λ r. r.checked ≡ spec.repaired checked.now plan.now (has_site skip.now)) }
-    ensures clones { IfOk result (λ r. r.clones ≡ clone_numbers checked.now plan.now) }
-    ensures harmless { OnOk result (IsHarmless checked.now plan.now (has_site skip.now)) }
-    ensures clean { IfOk result (λ r. (I : Input) → (found : Findings) →
-        IsQuiet checked.now (has_site skip.now) → IsValid checked.now I → IsFound checked.now I found →
-        Contains plan.now (plan_for checked.now found) → IsClean r.checked I) }
-    ensures covered { IfOk result (λ r. IsQuiet checked.now (has_site skip.now) → IsCovered checked.now r.checked) }
-    ensures fenced { OnOk result (AreHoistsFenced checked.now plan.now (has_site skip.now)) }
+    ensures repaired { IfOk result (IsApplied checked.now plan.now (has_site skip.now)) }
+    ensures thorough { IfOk result (λ r. IsQuiet checked.now (has_site skip.now) →
+        IsThorough checked.now plan.now r.checked) }
 {
+    // Lemmas: the repaired program is sound, and keeps the promises of a repair.
     repaired_is_sound();
     repairs_do_no_harm();
     repairs_are_clean();
@@ -86,21 +74,16 @@ pub fn apply_skipping(
     })
 }
 
-/// The program repaired by a plan, where no flush is put by cloning after stores whose address is a register assigned
-/// by `alloca`, or a volatile global itself: those are never in the region. It does no harm, it is clean, and its
-/// hoisted calls are covered.
+/// The program repaired by a plan. Its clones do not flush the stores whose address is a register assigned by `alloca`,
+/// or a volatile global itself: those never lie in the region. It does no harm, it is clean, and its hoisted calls are
+/// covered.
 ///
 /// Time and memory are linear in the program, the plan and the clones together.
 pub fn apply(alloc: Global, checked: &Checked, plan: &Plan) -> Result<Repaired, NoMemory>
-    ensures program { IfOk result (λ r. r.checked ≡ spec.repaired checked.now plan.now (direct checked.now)) }
-    ensures clones { IfOk result (λ r. r.clones ≡ clone_numbers checked.now plan.now) }
-    ensures harmless { OnOk result (IsHarmless checked.now plan.now (direct checked.now)) }
-    ensures clean { IfOk result (λ r. (I : Input) → (found : Findings) →
-        IsValid checked.now I → IsFound checked.now I found →
-        Contains plan.now (plan_for checked.now found) → IsClean r.checked I) }
-    ensures covered { IfOk result (λ r. IsCovered checked.now r.checked) }
-    ensures fenced { OnOk result (AreHoistsFenced checked.now plan.now (direct checked.now)) }
+    ensures repaired { IfOk result (IsApplied checked.now plan.now (direct checked.now)) }
+    ensures thorough { IfOk result (λ r. IsThorough checked.now plan.now r.checked) }
 {
+    // Lemma: no direct store ever lies in the region.
     direct_stores_are_quiet();
     let skip = direct_stores(alloc, checked.program())?;
     apply_skipping(alloc, checked, plan, skip.as_slice())

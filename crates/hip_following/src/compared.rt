@@ -7,11 +7,11 @@ ghost use Rattle.hip_following.specs.Replaying.{Follows, FollowsSteps, Replays};
 ghost use Rattle.hip_report.specs.Tracking.{HasNoted};
 ghost use Rattle.hip_trace.specs.declared.refusal.Progress.TheVariants.{Reading};
 
-use hip_engine::Machine;
+use hip_cache::Machine;
 use hip_invariants::runs_are_bounded;
 use hip_io::Cabinet;
 use hip_lockstep::{Begun, Ended, Lockstep, ReplayRefusal, read_header};
-use hip_report::{Findings, Tracker};
+use hip_report::{SharedFindings, Tracker};
 use hip_runs::{Ending, Input, events_tell_output_and_ending, longest, runs_end};
 use hip_sound::Checked;
 use hip_step::Begin;
@@ -22,7 +22,7 @@ use std::alloc::Global;
 #[derive(Drop)]
 pub struct Replayed {
     pub input: Input,
-    pub findings: Findings,
+    pub findings: SharedFindings,
     pub ending: Ending,
     pub entries: u128,
 }
@@ -30,7 +30,7 @@ pub struct Replayed {
 /// What a run that was followed found, how it has ended, and how many entries its trace has.
 #[derive(Drop)]
 pub(crate) struct Followed {
-    pub findings: Findings,
+    pub findings: SharedFindings,
     pub ending: Ending,
     pub entries: u128,
 }

@@ -11,6 +11,7 @@ use crate::table::{AddressTable, address_of};
 use hip_tree::{Const, ConstGep, TypedConst};
 use hip_types::{Bits, NoMemory, Row, Ty, align, gep_offset, size};
 use std::alloc::Global;
+use std::mem;
 
 /// Adds the low bytes of a number, the lowest first.
 fn push_number(bytes: &mut Row<u8>, count: u64, number: u64) -> Result<(), NoMemory>
@@ -24,11 +25,17 @@ fn push_number(bytes: &mut Row<u8>, count: u64, number: u64) -> Result<(), NoMem
     Ok(())
 }
 
-/// Adds n bytes of 0.
+/// Adds n bytes of 0, in place: an object may be as large as the region.
 fn push_zeros(alloc: Global, bytes: &mut Row<u8>, count: usize) -> Result<(), NoMemory>
     ensures { OnOk result (bytes.new ≡ bytes.old ++ replicate count 0) }
 {
-    bytes.append(Row::from_vec(vec![in alloc; 0; count]?))
+    let mut items = mem::replace(bytes, Row::new(alloc)).into_vec();
+    let Some(len) = items.len().checked_add(count) else {
+        return Err(NoMemory);
+    };
+    items.resize(len, 0)?;
+    *bytes = Row::from_vec(items);
+    Ok(())
 }
 
 /// Cuts what is after a place to a size, or fills it up with zeros.

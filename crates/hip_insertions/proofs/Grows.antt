@@ -1,13 +1,15 @@
--- A body grows by lists of instructions, one behind another.
+-- A body grows by lists of instructions, and so does what is made by lists of functions.
 use Rattle.std.proofs.Common.{ℕ, ◌≡◌, ◌||◌, ◌&&◌, Bool, true, false, List, [], ◌∷◌, ◌++◌, append_assoc, append-nil, refl, sym, ap, ◌∙◌}
 use Rattle.std.proofs.lemmas.List.{map-append}
 use Rattle.std.proofs.lemmas.List.Folds.{list_any-append}
 use Rattle.hip_tree.specs.declared.instr.Instr.{Instr}
 use Rattle.hip_tree.specs.declared.instr.Operand.{Operand}
+use Rattle.hip_tree.specs.declared.program.Function.{Function}
 use Rattle.hip_repairs.specs.Repaired.{Marked, inserts, is_call_of, instrs_of, clwb_name, sfence_name, pmem_flush_name, line_flush, range_flush, the_fence}
-use Rattle.hip_insertions.specs.Walk.{grown, noted}
+use Rattle.hip_insertions.specs.Walk.{grown, noted, with_functions}
 use Rattle.hip_insertions.specs.declared.body.Body.{Body}
 use Rattle.hip_insertions.specs.declared.body.Needed.{Needed}
+use Rattle.hip_insertions.specs.declared.repair.Made.{Made}
 
 or_false : (b : Bool) → b ≡ (b || false)
 or_false true = refl
@@ -43,6 +45,10 @@ grown-append b xs ys =
 
 pub grown-none : (b : Body) → b ≡ grown b []
 grown-none b = λ i. record { instrs = sym (append-nil b.instrs) i; needed = noted-none b.needed i }
+
+-- what is made, with no function more
+pub made-none : (m : Made) → m ≡ with_functions m [] []
+made-none m = λ i. record { functions = sym (append-nil m.functions) i; needed = noted-none m.needed i }
 
 -- an instruction of the program
 pub grown-kept : (b : Body) (instrs : List Instr) (instr : Instr) → instrs ≡ b.instrs ++ instr ∷ [] → record b { instrs = instrs } ≡ grown b ((instr, false) ∷ [])

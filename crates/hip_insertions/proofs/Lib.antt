@@ -1,4 +1,3 @@
 pub mod Grows
 pub mod Walks
-pub mod SiteKeys
 pub mod CloneNames

@@ -8,12 +8,13 @@ use Rattle.hip_tree.specs.declared.program.Function.{Function}
 use Rattle.hip_tree.specs.declared.program.Program.{Program}
 use Rattle.hip_tree.specs.declared.site.Site.{Site}
 use Rattle.hip_repairs.specs.Repaired.{Marked, Clone, Wanted, renamed, flush_behind, fence_behind, repaired_body, repaired_block, repaired_blocks, repaired_function, repaired_functions, clone_in, clone_functions}
-use Rattle.hip_insertions.specs.Walk.{grown, noted, repaired_at, marked_blocks, marked_functions, marked_clone, marked_clones}
+use Rattle.hip_insertions.specs.Walk.{grown, noted, repaired_at, marked_blocks, marked_functions, marked_clone, marked_clones, with_functions}
 use Rattle.hip_insertions.specs.declared.body.Body.{Body}
 use Rattle.hip_insertions.specs.declared.body.Needed.{Needed}
+use Rattle.hip_insertions.specs.declared.repair.Made.{Made}
 use Rattle.hip_insertions.proofs.Grows.{grown-append, noted-append}
 
--- an item stands in front of those behind it
+-- an item stands before the rest
 pub ahead : {A : Type 0} (xs : List A) (k : ℕ) (x d : A) → k < length xs → x ≡ get_or xs k d → x ∷ drop (k + 1) xs ≡ drop k xs
 ahead xs k x d h e = ap (λ z. z ∷ drop (k + 1) xs) e ∙ sym (drop_more xs k d h)
 
@@ -21,7 +22,7 @@ next : (k : ℕ) → k + 1 ≡ suc k
 next k = omega arith
 
 module _ (clones : List Clone) (w : Wanted) where
-  -- an instruction with what is inserted behind it
+  -- an instruction with what is inserted after it
   pub added_at : (clone : Bool) (s : Site) (i j : Instr) (body first second : Body) (to flush fence : Bool) →
       to ≡ (clone || w.hoist s) → j ≡ renamed clones i to → first ≡ grown body ((j, false) ∷ []) →
       flush ≡ (w.flush_after s || (clone && not (w.skip s))) → second ≡ grown first (flush_behind i flush) → fence ≡ (w.fence_after s || w.hoist s) →
@@ -59,21 +60,27 @@ module _ (clones : List Clone) (w : Wanted) where
         ∙ ap (λ j. noted n (repaired_body clones w clone f k 0 x.body ++ marked_blocks clones w clone f j (drop (k + 1) xs))) (next k)
         ∙ ap (λ ys. noted n (marked_blocks clones w clone f k ys)) (ahead xs k x x h e)
 
-  pub functions_next : (out : List Function) (k : ℕ) (xs : List Function) (x : Function) → k < length xs → x ≡ get_or xs k x →
+  functions_next : (out : List Function) (k : ℕ) (xs : List Function) (x : Function) → k < length xs → x ≡ get_or xs k x →
       (out ++ repaired_function clones w false k x.name x ∷ []) ++ repaired_functions clones w (k + 1) (drop (k + 1) xs) ≡ out ++ repaired_functions clones w k (drop k xs)
   functions_next out k xs x h e =
       append_assoc out (repaired_function clones w false k x.name x ∷ []) (repaired_functions clones w (k + 1) (drop (k + 1) xs))
       ∙ ap (λ j. out ++ repaired_function clones w false k x.name x ∷ repaired_functions clones w j (drop (k + 1) xs)) (next k)
       ∙ ap (λ ys. out ++ repaired_functions clones w k ys) (ahead xs k x x h e)
 
-  pub noted_functions_next : (n : Needed) (k : ℕ) (xs : List Function) (x : Function) → k < length xs → x ≡ get_or xs k x →
+  noted_functions_next : (n : Needed) (k : ℕ) (xs : List Function) (x : Function) → k < length xs → x ≡ get_or xs k x →
       noted (noted n (marked_blocks clones w false k 0 x.blocks)) (marked_functions clones w (k + 1) (drop (k + 1) xs)) ≡ noted n (marked_functions clones w k (drop k xs))
   noted_functions_next n k xs x h e =
       noted-append n (marked_blocks clones w false k 0 x.blocks) (marked_functions clones w (k + 1) (drop (k + 1) xs))
       ∙ ap (λ j. noted n (marked_blocks clones w false k 0 x.blocks ++ marked_functions clones w j (drop (k + 1) xs))) (next k)
       ∙ ap (λ ys. noted n (marked_functions clones w k ys)) (ahead xs k x x h e)
 
-  pub clones_next : (P : Program) (out : List Function) (k : ℕ) (fs : List ℕ) (names : List (List ℕ)) (f d : ℕ) (name e : List ℕ) →
+  pub made_functions_next : (made : Made) (k : ℕ) (xs : List Function) (x : Function) → k < length xs → x ≡ get_or xs k x →
+      with_functions (with_functions made (repaired_function clones w false k x.name x ∷ []) (marked_blocks clones w false k 0 x.blocks))
+      (repaired_functions clones w (k + 1) (drop (k + 1) xs)) (marked_functions clones w (k + 1) (drop (k + 1) xs))
+      ≡ with_functions made (repaired_functions clones w k (drop k xs)) (marked_functions clones w k (drop k xs))
+  made_functions_next made k xs x h e = λ i. record { functions = functions_next made.functions k xs x h e i; needed = noted_functions_next made.needed k xs x h e i }
+
+  clones_next : (P : Program) (out : List Function) (k : ℕ) (fs : List ℕ) (names : List (List ℕ)) (f d : ℕ) (name e : List ℕ) →
       k < length fs → k < length names → f ≡ get_or fs k d → name ≡ get_or names k e →
       (out ++ clone_in clones w f name (slice_get P.functions f)) ++ clone_functions P clones w (drop (k + 1) fs) (drop (k + 1) names)
       ≡ out ++ clone_functions P clones w (drop k fs) (drop k names)
@@ -82,8 +89,19 @@ module _ (clones : List Clone) (w : Wanted) where
       ∙ ap (λ xs. out ++ clone_functions P clones w xs (name ∷ drop (k + 1) names)) (ahead fs k f d h at)
       ∙ ap (λ xs. out ++ clone_functions P clones w (drop k fs) xs) (ahead names k name e g named)
 
-  pub noted_clones_next : (P : Program) (n : Needed) (k : ℕ) (fs : List ℕ) (f d : ℕ) → k < length fs → f ≡ get_or fs k d →
+  noted_clones_next : (P : Program) (n : Needed) (k : ℕ) (fs : List ℕ) (f d : ℕ) → k < length fs → f ≡ get_or fs k d →
       noted (noted n (marked_clone clones w f (slice_get P.functions f))) (marked_clones P clones w (drop (k + 1) fs)) ≡ noted n (marked_clones P clones w (drop k fs))
   noted_clones_next P n k fs f d h at =
       noted-append n (marked_clone clones w f (slice_get P.functions f)) (marked_clones P clones w (drop (k + 1) fs))
       ∙ ap (λ xs. noted n (marked_clones P clones w xs)) (ahead fs k f d h at)
+
+  pub made_clones_next : (P : Program) (made : Made) (k : ℕ) (fs : List ℕ) (names : List (List ℕ)) (f d : ℕ) (name e : List ℕ) →
+      k < length fs → k < length names → f ≡ get_or fs k d → name ≡ get_or names k e →
+      with_functions (with_functions made (clone_in clones w f name (slice_get P.functions f)) (marked_clone clones w f (slice_get P.functions f)))
+      (clone_functions P clones w (drop (k + 1) fs) (drop (k + 1) names)) (marked_clones P clones w (drop (k + 1) fs))
+      ≡ with_functions made (clone_functions P clones w (drop k fs) (drop k names)) (marked_clones P clones w (drop k fs))
+  made_clones_next P made k fs names f d name e h g at named =
+      λ i. record {
+        functions = clones_next P made.functions k fs names f d name e h g at named i;
+        needed = noted_clones_next P made.needed k fs f d h at i;
+      }

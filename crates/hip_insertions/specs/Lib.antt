@@ -1,2 +1,1 @@
-pub mod SiteSets
 pub mod Walk

@@ -1,5 +1,4 @@
--- The repaired program as one walk makes it: what is put behind one another, and which functions the inserted calls
--- name.
+-- The repaired program as one walk makes it: its instructions in order, and which functions the inserted calls name.
 use Rattle.std.specs.Prelude.{ℕ, suc, Bool, true, false, ◌||◌, List, [], ◌∷◌, ◌++◌, Option, Some, None, slice_get}
 use Rattle.std.specs.List.{flat_map}
 use Rattle.hip_types.specs.declared.number.Scalar.TheVariants.{Int, Ptr}
@@ -14,6 +13,7 @@ use Rattle.hip_tree.specs.declared.site.Site.{Site}
 use Rattle.hip_repairs.specs.Repaired.{Marked, Clone, Wanted, clwb_name, sfence_name, pmem_flush_name, declared_if, renamed, inserted_behind, repaired_body, instrs_of, inserts}
 use Rattle.hip_insertions.specs.declared.body.Body.{Body}
 use Rattle.hip_insertions.specs.declared.body.Needed.{Needed}
+use Rattle.hip_insertions.specs.declared.repair.Made.{Made}
 use Rattle.hip_insertions.specs.declared.repair.Repair.{Repair}
 
 -- where a repair inserts, as sets of sites
@@ -39,21 +39,29 @@ noted n ms =
       pmem_flush = n.pmem_flush || inserts pmem_flush_name ms;
     }
 
--- these instructions are put behind
+-- a body after these instructions were added
 abbrev pub grown : Body → List Marked → Body
 grown body ms = record { instrs = body.instrs ++ instrs_of ms; needed = noted body.needed ms }
 
--- the repaired instruction of a site, and what is inserted behind it
+-- no function so far
+abbrev pub none_made : Made
+none_made = record { functions = []; needed = none_needed }
+
+-- what is made after these functions were added, which have these instructions
+abbrev pub with_functions : Made → List Function → List Marked → Made
+with_functions made functions ms = record { functions = made.functions ++ functions; needed = noted made.needed ms }
+
+-- the repaired instruction of a site, and what is inserted after it
 abbrev pub repaired_at : List Clone → Wanted → Bool → Site → Instr → List Marked
 repaired_at clones w clone s i = (renamed clones i (clone || w.hoist s), false) ∷ inserted_behind w clone s i
 
--- the repaired bodies of blocks from number b on, one behind another
+-- the repaired bodies of blocks in order, the first of which has number b
 abbrev pub marked_blocks : List Clone → Wanted → Bool → ℕ → ℕ → List Block → List Marked
 marked_blocks clones w clone f b [] = []
 marked_blocks clones w clone f b (x ∷ xs) =
     repaired_body clones w clone f b 0 x.body ++ marked_blocks clones w clone f (suc b) xs
 
--- those of functions from number f on
+-- those of functions, the first of which has number f
 abbrev pub marked_functions : List Clone → Wanted → ℕ → List Function → List Marked
 marked_functions clones w f [] = []
 marked_functions clones w f (x ∷ xs) =

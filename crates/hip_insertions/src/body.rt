@@ -30,7 +30,7 @@ impl Needed {
     }
 }
 
-/// Repaired instructions, and which functions those name that were inserted so far.
+/// Repaired instructions, and which functions the inserted ones among them name.
 #[derive(Drop)]
 pub struct Body {
     pub instrs: Row<Instr>,
@@ -82,7 +82,7 @@ impl Body {
     }
 
     /// Adds the flush after an instruction, if it is a store that gets one.
-    pub fn add_flush_behind(
+    pub fn add_flush_after(
         &mut self,
         alloc: Global,
         instr: &Instr,
@@ -111,7 +111,7 @@ impl Body {
     }
 
     /// Adds a fence, if the repair inserts one.
-    pub fn add_fence_behind(&mut self, alloc: Global, is_wanted: bool) -> Result<(), NoMemory>
+    pub fn add_fence_after(&mut self, alloc: Global, is_wanted: bool) -> Result<(), NoMemory>
         ensures { OnOk result (self.new ≡ grown self.old (fence_behind is_wanted)) }
     {
         if is_wanted {

@@ -10,7 +10,7 @@ use hip_types::{Name, NoMemory};
 use std::alloc::Global;
 use std::marker::Model;
 
-/// The functions that have clones, found by their names. Contracts see the list of names and of clones' names.
+/// The functions that have clones, found by their names. Contracts see the list of both names of each.
 #[derive(Drop)]
 pub struct CloneTable<'a> {
     program: &'a Program,
@@ -66,7 +66,7 @@ impl<'a> CloneTable<'a> {
         })
     }
 
-    /// The name of the clone of the function of that name; that name where the function has none.
+    /// The name of a function's clone, or the function's own name if it has no clone.
     pub fn clone_name<'b>(&'b self, name: &'b [u8]) -> &'b [u8]
         ensures { result.now ≡ clone_name self.now name.now }
     {
@@ -77,7 +77,7 @@ impl<'a> CloneTable<'a> {
     }
 }
 
-/// The name at a place, and another one where there is none.
+/// The name at a place, or another one if there is none.
 fn name_at<'b>(names: &'b [Name], place: usize, other: &'b [u8]) -> &'b [u8]
     ensures { result.now ≡ unwrap_or (slice_get names.now place) other.now }
 {

@@ -6,10 +6,8 @@ mod clone_table;
 mod externs;
 mod insertions;
 mod repair;
-mod sites;
 
 pub use body::{Body, Needed};
 pub use clone_table::CloneTable;
 pub use externs::declarations;
-pub use repair::Repair;
-pub use sites::SiteSet;
+pub use repair::{Made, Repair};

@@ -1,24 +1,43 @@
-ghost use Rattle.std.specs.Prelude.{◌≡◌, ◌++◌, ◌||◌, ◌&&◌, not, length, slice_get, IfOk, OnOk};
+ghost use Rattle.std.specs.Prelude.{◌≡◌, [], ◌∷◌, ◌||◌, ◌&&◌, not, length, slice_get, IfOk, OnOk};
 ghost use Rattle.hip_repairs.specs.Repaired as spec;
 ghost use Rattle.hip_repairs.specs.Repaired.{clone_functions, clone_in, instrs_of, repaired_body, repaired_functions};
-ghost use Rattle.hip_insertions.specs.Walk.{grown, marked_blocks, marked_clone, marked_clones, marked_functions, noted, repaired_at, wanted_in};
+ghost use Rattle.hip_insertions.specs.Walk.{grown, marked_blocks, marked_clone, marked_clones, marked_functions, none_made, noted, repaired_at, wanted_in, with_functions};
 
 use crate::body::{Body, Needed};
 use crate::clone_table::CloneTable;
-use crate::sites::SiteSet;
 use hip_copies::Structural;
+use hip_sites::SiteSet;
 use hip_tree::{Block, Function, Instr, Program, Site};
 use hip_types::{Name, NoMemory, Row};
 use std::alloc::Global;
 
-/// Where a repair inserts, and what its clones are named. In clones the stores of `skip` get no flush by cloning.
+/// Where a repair inserts, and the names of its clones. Clones flush all stores but those of `skip`.
 #[derive(Drop)]
 pub struct Repair<'a> {
-    pub flush_after: SiteSet<'a>,
-    pub fence_after: SiteSet<'a>,
-    pub hoist: SiteSet<'a>,
-    pub skip: SiteSet<'a>,
+    pub flush_after: SiteSet,
+    pub fence_after: SiteSet,
+    pub hoist: SiteSet,
+    pub skip: SiteSet,
     pub clones: CloneTable<'a>,
+}
+
+/// Repaired functions, and which functions the inserted calls in them name.
+#[derive(Drop)]
+pub struct Made {
+    pub functions: Row<Function>,
+    pub needed: Needed,
+}
+
+impl Made {
+    /// No functions so far.
+    pub fn none(alloc: Global) -> Made
+        ensures { result ≡ none_made }
+    {
+        Made {
+            functions: Row::new(alloc),
+            needed: Needed::none(),
+        }
+    }
 }
 
 /// A function that is repaired, or whose clone is made.
@@ -49,14 +68,14 @@ impl Repair<'_> {
         }
     }
 
-    /// Whether a call there names a clone, of a function or of its clone.
+    /// Whether a call at a site names a clone, in the function of the site or in its clone.
     pub fn names_clone(&self, is_clone: bool, site: Site) -> bool
         ensures { result ≡ (is_clone || (wanted_in self.now).hoist site) }
     {
         is_clone || self.hoist.contains(site)
     }
 
-    /// Whether a store there gets a flush, of a function or of its clone.
+    /// Whether a store at a site gets a flush, in the function of the site or in its clone.
     pub fn is_flushed(&self, is_clone: bool, site: Site) -> bool
         ensures { result
             ≡ ((wanted_in self.now).flush_after site || (is_clone && not ((wanted_in self.now).skip site))) }
@@ -64,7 +83,7 @@ impl Repair<'_> {
         self.flush_after.contains(site) || is_clone && !self.skip.contains(site)
     }
 
-    /// Whether a fence follows the instruction there and its inserted flush.
+    /// Whether a fence follows the instruction at a site and its inserted flush.
     pub fn is_fenced(&self, site: Site) -> bool
         ensures { result ≡ ((wanted_in self.now).fence_after site || (wanted_in self.now).hoist site) }
     {
@@ -85,8 +104,8 @@ impl Repair<'_> {
     {
         let to_clone = self.names_clone(is_clone, site);
         body.add(self.renamed(alloc, instr, to_clone)?)?;
-        body.add_flush_behind(alloc, instr, self.is_flushed(is_clone, site))?;
-        body.add_fence_behind(alloc, self.is_fenced(site))
+        body.add_flush_after(alloc, instr, self.is_flushed(is_clone, site))?;
+        body.add_fence_after(alloc, self.is_fenced(site))
     }
 
     /// Adds the repaired instructions of a block's body.
@@ -179,40 +198,39 @@ impl Repair<'_> {
         Ok(repaired)
     }
 
-    /// A repaired function, or its clone, under a name.
-    fn function(
+    /// Adds a repaired function, or its clone, under a name.
+    fn add_function(
         &self,
         alloc: Global,
-        needed: &mut Needed,
+        made: &mut Made,
         place: Place,
         name: &Name,
         function: &Function,
-    ) -> Result<Function, NoMemory>
-        ensures function { IfOk result (λ f. f
-            ≡ spec.repaired_function self.now.clones (wanted_in self.now) place.is_clone place.function name.now
-            function.now) }
-        ensures needed { OnOk result (needed.new ≡ noted needed.old
+    ) -> Result<(), NoMemory>
+        ensures { OnOk result (made.new ≡ with_functions made.old
+            (spec.repaired_function self.now.clones (wanted_in self.now) place.is_clone place.function name.now
+            function.now ∷ [])
             (marked_blocks self.now.clones (wanted_in self.now) place.is_clone place.function 0 function.now.blocks)) }
     {
-        Ok(Function {
+        let blocks = function.blocks.as_slice();
+        let repaired = Function {
             ret: function.ret,
             name: name.copy(alloc)?,
             params: function.params.copy(alloc)?,
-            blocks: self.blocks(alloc, needed, place, function.blocks.as_slice())?,
-        })
+            blocks: self.blocks(alloc, &mut made.needed, place, blocks)?,
+        };
+        made.functions.push(repaired)
     }
 
     /// Adds the repaired functions of a program.
     pub fn add_functions(
         &self,
         alloc: Global,
-        out: &mut Row<Function>,
-        needed: &mut Needed,
+        made: &mut Made,
         functions: &[Function],
     ) -> Result<(), NoMemory>
-        ensures functions { OnOk result (out.new
-            ≡ out.old ++ repaired_functions self.now.clones (wanted_in self.now) 0 functions.now) }
-        ensures needed { OnOk result (needed.new ≡ noted needed.old
+        ensures { OnOk result (made.new ≡ with_functions made.old
+            (repaired_functions self.now.clones (wanted_in self.now) 0 functions.now)
             (marked_functions self.now.clones (wanted_in self.now) 0 functions.now)) }
     {
         'each: for number in 0..functions.len() {
@@ -221,7 +239,7 @@ impl Repair<'_> {
                 is_clone: false,
             };
             let function = &functions[number];
-            out.push(self.function(alloc, needed, place, &function.name, function)?)?;
+            self.add_function(alloc, made, place, &function.name, function)?;
         }
         Ok(())
     }
@@ -230,16 +248,13 @@ impl Repair<'_> {
     fn add_clone(
         &self,
         alloc: Global,
-        out: &mut Row<Function>,
-        needed: &mut Needed,
+        made: &mut Made,
         program: &Program,
         number: usize,
         name: &Name,
     ) -> Result<(), NoMemory>
-        ensures functions { OnOk result (out.new
-            ≡ out.old ++ clone_in self.now.clones (wanted_in self.now) number name.now
-            (slice_get program.now.functions number)) }
-        ensures needed { OnOk result (needed.new ≡ noted needed.old
+        ensures { OnOk result (made.new ≡ with_functions made.old
+            (clone_in self.now.clones (wanted_in self.now) number name.now (slice_get program.now.functions number))
             (marked_clone self.now.clones (wanted_in self.now) number (slice_get program.now.functions number))) }
     {
         let place = Place {
@@ -247,7 +262,7 @@ impl Repair<'_> {
             is_clone: true,
         };
         match program.functions.get(number) {
-            Some(function) => out.push(self.function(alloc, needed, place, name, function)?),
+            Some(function) => self.add_function(alloc, made, place, name, function),
             None => Ok(()),
         }
     }
@@ -256,20 +271,18 @@ impl Repair<'_> {
     pub fn add_clones(
         &self,
         alloc: Global,
-        out: &mut Row<Function>,
-        needed: &mut Needed,
+        made: &mut Made,
         program: &Program,
         originals: &[usize],
         names: &[Name],
     ) -> Result<(), NoMemory>
         requires { length names.now ≡ length originals.now }
-        ensures functions { OnOk result (out.new
-            ≡ out.old ++ clone_functions program.now self.now.clones (wanted_in self.now) originals.now names.now) }
-        ensures needed { OnOk result (needed.new ≡ noted needed.old
+        ensures { OnOk result (made.new ≡ with_functions made.old
+            (clone_functions program.now self.now.clones (wanted_in self.now) originals.now names.now)
             (marked_clones program.now self.now.clones (wanted_in self.now) originals.now)) }
     {
         'each: for place in 0..originals.len() {
-            self.add_clone(alloc, out, needed, program, originals[place], &names[place])?;
+            self.add_clone(alloc, made, program, originals[place], &names[place])?;
         }
         Ok(())
     }

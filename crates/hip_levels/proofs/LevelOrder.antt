@@ -7,7 +7,7 @@ use Rattle.std.proofs.lemmas.Bool.{and_parts}
 use Rattle.std.proofs.lemmas.Bool.Decides.{nat_tests}
 use Rattle.std.proofs.lemmas.Slice.Eq.{bytes_eq-Decides}
 use Rattle.hip_invariants.specs.PointerLevels.{PointerLevel, is_at_most, behind_offset}
-use Rattle.hip_levels.specs.Bounds.{Variable, Bound, Assignment, Register, Result, Known, Behind, bound_in, same_variable}
+use Rattle.hip_levels.specs.Bounds.{Variable, Bound, Assignment, Register, Result, Known, AtOffset, bound_in, same_variable}
 use Rattle.hip_levels.specs.Closed.{is_level, greater}
 
 -- ---- the order
@@ -108,7 +108,7 @@ behind_is_level (Some t) offset p = go (nat_eq offset 0) (nat_lt offset 67108864
 
 pub bound_more : (A B : Assignment) → ((v : Variable) → is_at_most (A v) (B v)) → (least : Bound) → is_at_most (bound_in A least) (bound_in B least)
 bound_more A B below (Known a) = at_most_same a
-bound_more A B below (Behind offset v) = behind_more (A v) (B v) offset (below v)
+bound_more A B below (AtOffset offset v) = behind_more (A v) (B v) offset (below v)
 
 -- ---- variables
 

@@ -1,69 +1,21 @@
 -- The walk that collects low stores finds exactly those.
-use Rattle.std.proofs.Common.{ℕ, zero, suc, ◌+◌, ◌<◌, ◌≡◌, length, get_or, drop, append_assoc, Bool, true, false, cond, List, [], ◌∷◌, ◌++◌, Option, Some, None, refl, sym, ap, ◌∙◌, arith}
-use Rattle.std.specs.Prelude.{option_and_then, slice_get}
+use Rattle.std.proofs.Common.{◌≡◌, Bool, ap}
 use Rattle.std.specs.List.{filter}
-use Rattle.std.specs.Cmp.{both_ways}
 use Rattle.std.proofs.Math.Path.{fun_ext}
-use Rattle.hip_tree.specs.Sites.{has_site, instr_of, body_sites, block_sites, function_sites, sites_of}
-use Rattle.hip_tree.specs.declared.block.Block.{Block}
-use Rattle.hip_tree.specs.declared.instr.Instr.{Instr}
-use Rattle.hip_tree.specs.declared.program.Function.{Function}
+use Rattle.hip_tree.specs.Sites.{has_site, instr_of, sites_of}
 use Rattle.hip_tree.specs.declared.program.Program.{Program}
 use Rattle.hip_tree.specs.declared.site.Site.{Site}
-use Rattle.hip_repairs.specs.Laws.SiteOrder.{filter-append, front_chosen, filtered_has, filtered_in, has_in, site_in}
+use Rattle.hip_sites.specs.Laws.PassingLaws.{listed}
 use Rattle.hip_levels.specs.Bounds.{Assignment}
 use Rattle.hip_levels.specs.Closed.{IsLeast}
 use Rattle.hip_levels.specs.LowStores.{stores_low, low_stores, least_levels}
-use Rattle.hip_levels.specs.Picked.{picked_in_body, picked_in_blocks, picked_in_functions}
 use Rattle.hip_levels.specs.Rules.{level_rules}
 use Rattle.hip_levels.proofs.KnownLevels.{rules_know, program_is_least}
 use Rattle.hip_levels.proofs.LeastLevels.{least_is_one}
 
-module _ (P : Program) (A : Assignment) where
-  abbrev test : ℕ → Instr → Bool
-  test f i = stores_low P A f (Some i)
-
-  abbrev pub low_by : Site → Bool
-  low_by s = stores_low P A s.function (instr_of P s)
-
-  there : (f b k : ℕ) (fn : Function) (block : Block) (i : Instr) → slice_get P.functions f ≡ Some fn → slice_get fn.blocks b ≡ Some block → slice_get block.body k ≡ Some i →
-      low_by (record { function = f; block = b; index = k }) ≡ test f i
-  there f b k fn block i e_f e_b e_i =
-      ap (stores_low P A f)
-      (ap (λ o. option_and_then (λ (x : Block). slice_get x.body k) (option_and_then (λ (x : Function). slice_get x.blocks b) o)) e_f
-      ∙ ap (λ o. option_and_then (λ (x : Block). slice_get x.body k) o) e_b ∙ e_i)
-
-  body_filtered : (f b k : ℕ) (fn : Function) (block : Block) (is : List Instr) → slice_get P.functions f ≡ Some fn → slice_get fn.blocks b ≡ Some block →
-      ((j : ℕ) → slice_get is j ≡ slice_get block.body (k + j)) → filter low_by (body_sites f b k is) ≡ picked_in_body test f b k is
-  body_filtered f b k fn block [] e_f e_b at = refl
-  body_filtered f b k fn block (i ∷ is) e_f e_b at =
-      let s : Site = record { function = f; block = b; index = k } in
-      let here : k ≡ k + 0 = omega arith in
-      let rest = body_filtered f b (suc k) fn block is e_f e_b (λ j. at (suc j) ∙ ap (slice_get block.body) (let q : k + suc j ≡ suc k + j = omega arith in q)) in
-      ap (λ t. cond t (s ∷ filter low_by (body_sites f b (suc k) is)) (filter low_by (body_sites f b (suc k) is))) (there f b k fn block i e_f e_b (ap (slice_get block.body) here ∙ sym (at 0)))
-      ∙ front_chosen (test f i) s (filter low_by (body_sites f b (suc k) is)) ∙ ap (λ zs. cond (test f i) (s ∷ []) [] ++ zs) rest
-
-  blocks_filtered : (f b : ℕ) (fn : Function) (xs : List Block) → slice_get P.functions f ≡ Some fn → ((j : ℕ) → slice_get xs j ≡ slice_get fn.blocks (b + j)) →
-      filter low_by (block_sites f b xs) ≡ picked_in_blocks test f b xs
-  blocks_filtered f b fn [] e_f at = refl
-  blocks_filtered f b fn (x ∷ xs) e_f at =
-      let here : b ≡ b + 0 = omega arith in
-      let first = body_filtered f b 0 fn x x.body e_f (ap (slice_get fn.blocks) here ∙ sym (at 0)) (λ j. ap (slice_get x.body) (let q : j ≡ 0 + j = omega arith in q)) in
-      let rest = blocks_filtered f (suc b) fn xs e_f (λ j. at (suc j) ∙ ap (slice_get fn.blocks) (let q : b + suc j ≡ suc b + j = omega arith in q)) in
-      filter-append low_by (body_sites f b 0 x.body) (block_sites f (suc b) xs)
-      ∙ ap (λ ys. ys ++ filter low_by (block_sites f (suc b) xs)) first ∙ ap (λ ys. picked_in_body test f b 0 x.body ++ ys) rest
-
-  functions_filtered : (f : ℕ) (xs : List Function) → ((j : ℕ) → slice_get xs j ≡ slice_get P.functions (f + j)) → filter low_by (function_sites f xs) ≡ picked_in_functions test f xs
-  functions_filtered f [] at = refl
-  functions_filtered f (x ∷ xs) at =
-      let here : f ≡ f + 0 = omega arith in
-      let first = blocks_filtered f 0 x x.blocks (ap (slice_get P.functions) here ∙ sym (at 0)) (λ j. ap (slice_get x.blocks) (let q : j ≡ 0 + j = omega arith in q)) in
-      let rest = functions_filtered (suc f) xs (λ j. at (suc j) ∙ ap (slice_get P.functions) (let q : f + suc j ≡ suc f + j = omega arith in q)) in
-      filter-append low_by (block_sites f 0 x.blocks) (function_sites (suc f) xs)
-      ∙ ap (λ ys. ys ++ filter low_by (function_sites (suc f) xs)) first ∙ ap (λ ys. picked_in_blocks test f 0 x.blocks ++ ys) rest
-
-  pub walk_filtered : picked_in_functions (λ f i. stores_low P A f (Some i)) 0 P.functions ≡ filter low_by (sites_of P)
-  walk_filtered = sym (functions_filtered 0 P.functions (λ j. ap (slice_get P.functions) (let q : j ≡ 0 + j = omega arith in q)))
+-- the stores that are low by an assignment
+abbrev pub low_by : Program → Assignment → Site → Bool
+low_by P A s = stores_low P A s.function (instr_of P s)
 
 -- where the assignment is a least one, the stores are the low ones
 pub low_by_least : (P : Program) (A : Assignment) → IsLeast (level_rules P) A → low_by P A ≡ low_stores P
@@ -72,36 +24,4 @@ low_by_least P A least =
 
 -- a site is found exactly where a low store stands
 pub found_low : (P : Program) (s : Site) → has_site (filter (low_stores P) (sites_of P)) s ≡ low_stores P s
-found_low P s =
-    both_ways _ _ (λ e. (filtered_in (low_stores P) (sites_of P) s (has_in (filter (low_stores P) (sites_of P)) s e)).1) (λ e. known (instr_of P s) refl e)
-  where
-    known : (o : Option Instr) → instr_of P s ≡ o → low_stores P s ≡ true → has_site (filter (low_stores P) (sites_of P)) s ≡ true
-    known None e d = let none : low_stores P s ≡ false = ap (stores_low P (least_levels P) s.function) e in absurd (never (sym none ∙ d))
-      where
-        never : false ≡ true → ⊥
-        never e = cc
-    known (Some i) e d = filtered_has (low_stores P) (sites_of P) s (site_in P s i e) d
-
--- ---- a loop over blocks, or over functions
-
-drop_next : {X : Type 0} (xs : List X) (k : ℕ) (x : X) → k < length xs → x ≡ get_or xs k x → drop k xs ≡ x ∷ drop (suc k) xs
-drop_next [] k x lt e = absurd (omega arith)
-drop_next (y ∷ xs) zero x lt e = ap (λ z. z ∷ xs) (sym e)
-drop_next (y ∷ xs) (suc k) x lt e = drop_next xs k x (omega arith) e
-
-module _ (test : ℕ → Instr → Bool) where
-  pub blocks_next : (f : ℕ) (blocks : List Block) (k : ℕ) (x : Block) → k < length blocks → x ≡ get_or blocks k x →
-      picked_in_body test f k 0 x.body ++ picked_in_blocks test f (k + 1) (drop (k + 1) blocks) ≡ picked_in_blocks test f k (drop k blocks)
-  blocks_next f blocks k x lt e =
-      let one : k + 1 ≡ suc k = omega arith in
-      ap (λ n. picked_in_body test f k 0 x.body ++ picked_in_blocks test f n (drop n blocks)) one ∙ sym (ap (picked_in_blocks test f k) (drop_next blocks k x lt e))
-
-  pub functions_next : (functions : List Function) (k : ℕ) (x : Function) → k < length functions → x ≡ get_or functions k x →
-      picked_in_blocks test k 0 x.blocks ++ picked_in_functions test (k + 1) (drop (k + 1) functions) ≡ picked_in_functions test k (drop k functions)
-  functions_next functions k x lt e =
-      let one : k + 1 ≡ suc k = omega arith in
-      ap (λ n. picked_in_blocks test k 0 x.blocks ++ picked_in_functions test n (drop n functions)) one ∙ sym (ap (picked_in_functions test k) (drop_next functions k x lt e))
-
--- what was found, with what one more item adds
-pub found_next : (sites new here rest all whole : List Site) → new ≡ sites ++ here → here ++ rest ≡ all → sites ++ all ≡ whole → new ++ rest ≡ whole
-found_next sites new here rest all whole e f g = ap (λ xs. xs ++ rest) e ∙ append_assoc sites here rest ∙ ap (λ xs. sites ++ xs) f ∙ g
+found_low P = listed P (low_stores P) (λ s e. ap (stores_low P (least_levels P) s.function) e)

@@ -12,9 +12,9 @@ use Rattle.hip_invariants.specs.PointerLevels.{PointerLevel, is_at_most, behind_
 use Rattle.hip_levels.specs.declared.numbered.Least as numbered_least
 use Rattle.hip_levels.specs.declared.numbered.Least.TheVariants as numbered
 use Rattle.hip_levels.specs.declared.numbered.Rule as numbered_rule
-use Rattle.hip_levels.specs.Bounds.{Variable, Rule, Assignment, Result, Behind, bound_in, same_variable}
+use Rattle.hip_levels.specs.Bounds.{Variable, Rule, Assignment, Result, AtOffset, bound_in, same_variable}
 use Rattle.hip_levels.specs.Closed.{is_level, IsMet, IsClosedUnder, IsLeast}
-use Rattle.hip_levels.specs.Numbered.{behind_rank, reached_by, at, reached, LeastIsWithin, IsWithin, AreWithin, AreMetBy, IsBelowAll}
+use Rattle.hip_levels.specs.Numbered.{offset_rank, reached_by, at, reached, LeastIsWithin, IsWithin, AreWithin, AreMetBy, IsBelowAll}
 use Rattle.hip_levels.specs.Tables.{level_of, variable_at, least_named, named, IsTable, Grows, leveled, level_among}
 use Rattle.hip_levels.proofs.LevelOrder.{zero_at_most, same_variable_is, same_as_itself}
 use Rattle.hip_levels.proofs.LeastLevels.{rank, rank_more, knows_level, bound_is_level}
@@ -74,7 +74,7 @@ there_within vs k v e = (get_within vs k v e, ap (λ o. unwrap_or o (Result 0)) 
 
 pub least_kept : (vs ws : List Variable) → Grows vs ws → (l : numbered_least.Least) → LeastIsWithin (length vs) l → LeastIsWithin (length ws) l × (least_named ws l ≡ least_named vs l)
 least_kept vs ws g (numbered.Known level) w = (w, refl)
-least_kept vs ws g (numbered.Behind offset k) w = let kept = g.kept k w in (kept.0, ap (Behind offset) kept.1)
+least_kept vs ws g (numbered.AtOffset offset k) w = let kept = g.kept k w in (kept.0, ap (AtOffset offset) kept.1)
 
 rule_kept : (vs ws : List Variable) → Grows vs ws → (r : numbered_rule.Rule) → IsWithin (length vs) r → IsWithin (length ws) r × (named ws r ≡ named vs r)
 rule_kept vs ws g r w =
@@ -92,7 +92,7 @@ pub named_grown : (vs ws : List Variable) → Grows vs ws → (rs : List numbere
 named_grown vs ws g [] w = refl
 named_grown vs ws g (r ∷ rs) w = λ i. (rule_kept vs ws g r (w.each r (inl refl))).1 i ∷ named_grown vs ws g rs (record { each = λ s m. w.each s (inr m) }) i
 
--- a rule is put behind
+-- a rule is added at the end
 pub table_next : (vs : List Variable) (rs : List numbered_rule.Rule) (r : numbered_rule.Rule) → IsTable vs rs → IsWithin (length vs) r → IsTable vs (rs ++ r ∷ [])
 table_next vs rs r t w = record {
   distinct = t.distinct;
@@ -164,7 +164,7 @@ levels_at_most m n le = go (nat_lt m 33) (nat_lt n 33) refl refl
     go true true e f = le
     go false true e f = let lt : n < 33 = ltb-true n 33 f in let ge : 33 ≤ m = grind (arith, nat_tests) in absurd (omega arith)
 
-pub rank_behind : (a : PointerLevel) (offset : ℕ) → is_level a → rank (behind_offset a offset) ≡ behind_rank (rank a) offset
+pub rank_behind : (a : PointerLevel) (offset : ℕ) → is_level a → rank (behind_offset a offset) ≡ offset_rank (rank a) offset
 rank_behind None offset h = go (nat_eq offset 0) (nat_lt offset 67108864) 33
   where
     go : (x y : Bool) (n : ℕ) → n ≡ cond x n (cond y n n)
@@ -185,12 +185,12 @@ module _ (vs : List Variable) (rs : List numbered_rule.Rule) (levels : List ℕ)
   -- a bound comes to the level of what it comes to in numbers
   bound_is : (l : numbered_least.Least) → LeastIsWithin (length vs) l → bound_in (level_in vs levels) (least_named vs l) ≡ level_of (reached levels l)
   bound_is (numbered.Known level) w = refl
-  bound_is (numbered.Behind offset k) w =
+  bound_is (numbered.AtOffset offset k) w =
       let there : level_in vs levels (variable_at vs k) ≡ level_of (at levels k) = level_there vs levels k t.distinct long w in
       let ranked : rank (level_of (at levels k)) ≡ at levels k = rank_of_level (at levels k) (below.small k) in
       ap (λ a. behind_offset a offset) there
-      ∙ sym (level_of_rank (behind_offset (level_of (at levels k)) offset) (bound_is_level (λ v. level_of (at levels k)) (λ v. level_is_level (at levels k)) (Behind offset (Result 0)) tt))
-      ∙ ap level_of (rank_behind (level_of (at levels k)) offset (level_is_level (at levels k)) ∙ ap (λ n. behind_rank n offset) ranked)
+      ∙ sym (level_of_rank (behind_offset (level_of (at levels k)) offset) (bound_is_level (λ v. level_of (at levels k)) (λ v. level_is_level (at levels k)) (AtOffset offset (Result 0)) tt))
+      ∙ ap level_of (rank_behind (level_of (at levels k)) offset (level_is_level (at levels k)) ∙ ap (λ n. offset_rank n offset) ranked)
 
   table_met : (r : Rule) → In r (map (named vs) rs) → IsMet (level_in vs levels) r
   table_met r i =
@@ -206,11 +206,11 @@ module _ (vs : List Variable) (rs : List numbered_rule.Rule) (levels : List ℕ)
 
     rank_is : (l : numbered_least.Least) → LeastIsWithin (length vs) l → reached_by ranks l ≡ rank (bound_in B (least_named vs l))
     rank_is (numbered.Known level) w = sym (rank_of_level level w)
-    rank_is (numbered.Behind offset k) w = sym (rank_behind (B (variable_at vs k)) offset (closed.levels (variable_at vs k)))
+    rank_is (numbered.AtOffset offset k) w = sym (rank_behind (B (variable_at vs k)) offset (closed.levels (variable_at vs k)))
 
     known : (l : numbered_least.Least) → knows_level (least_named vs l)
     known (numbered.Known level) = level_is_level level
-    known (numbered.Behind offset k) = tt
+    known (numbered.AtOffset offset k) = tt
 
     in_mapped : (xs : List numbered_rule.Rule) (r : numbered_rule.Rule) → In r xs → In (named vs r) (map (named vs) xs)
     in_mapped [] r i = absurd i

@@ -18,7 +18,7 @@ same_variable _ _ = false
 -- The least level that a rule allows: a known level, or the one at an offset from a variable's.
 pub data Bound : Type 0 where
   Known : PointerLevel → Bound
-  Behind : ℕ → Variable → Bound
+  AtOffset : ℕ → Variable → Bound
 
 -- A variable has at least the level of its rule.
 pub record Rule : Type 0 where
@@ -35,7 +35,7 @@ free = Known None
 
 -- the level of a variable itself
 abbrev pub same_as : Variable → Bound
-same_as v = Behind 0 v
+same_as v = AtOffset 0 v
 
 -- a level for each variable
 abbrev pub Assignment : Type 0
@@ -44,4 +44,4 @@ Assignment = Variable → PointerLevel
 -- what a bound comes to
 abbrev pub bound_in : Assignment → Bound → PointerLevel
 bound_in A (Known a) = a
-bound_in A (Behind offset v) = behind_offset (A v) offset
+bound_in A (AtOffset offset v) = behind_offset (A v) offset

@@ -49,7 +49,6 @@ unfoldable pub rounds : ℕ → List Rule → Assignment → Assignment
 rounds zero rs A = A
 rounds (suc n) rs A = round rs (rounds n rs A)
 
--- The levels are raised until no rule raises any, which comes after 33 rounds for each rule at most, since a variable
--- rises at most 33 times.
+-- The levels after 33 rounds for each rule. No rule raises any further, since a variable rises at most 33 times.
 unfoldable pub least_of : List Rule → Assignment
 least_of rs = rounds (suc (33 * length rs)) rs lowest

@@ -1,4 +1,4 @@
--- What the rules are gathered with: the levels of constants by a table of the globals, and the numbers of functions.
+-- What rules are gathered from: the levels of constants by a table of the globals, and the types in instructions.
 use Rattle.std.specs.Prelude.{ℕ, Bool, true, List, All, Option, Some, None}
 use Rattle.hip_types.specs.Layout.{Fits}
 use Rattle.hip_tree.specs.declared.block.Block.{Block}
@@ -34,7 +34,7 @@ level_beside table name = persistence_level (value_beside table.names table.valu
 abbrev pub level_with : (List ℕ → PointerLevel) → Const → PointerLevel
 level_with names = fold-Const PointerLevel PointerLevel PointerLevel (level_step names) gep_level_step item_level_step
 
--- the level of an element's address: its base's behind the element's offset, which is 0 where the indices lead
+-- the level of an element's address: its base's at the element's offset, which is 0 where the indices lead
 -- nowhere
 abbrev pub element_with : (List ℕ → PointerLevel) → ConstGep → PointerLevel
 element_with names =

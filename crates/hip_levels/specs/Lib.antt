@@ -6,4 +6,3 @@ pub mod Numbered
 pub mod Tables
 pub mod Gathered
 pub mod Describing
-pub mod Picked

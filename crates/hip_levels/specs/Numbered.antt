@@ -6,14 +6,14 @@ use Rattle.hip_levels.specs.declared.numbered.Least.TheVariants as least
 use Rattle.hip_levels.specs.declared.numbered.Rule.{Rule}
 
 -- the number of the level at an offset
-abbrev pub behind_rank : ℕ → ℕ → ℕ
-behind_rank level offset =
+abbrev pub offset_rank : ℕ → ℕ → ℕ
+offset_rank level offset =
     cond (nat_eq offset 0) level (cond (nat_lt offset 67108864) (cond (nat_lt level 32) (suc level) 33) 33)
 
 -- what the least level of a rule comes to, where variables have these levels
 abbrev pub reached_by : (ℕ → ℕ) → Least → ℕ
 reached_by levels (least.Known level) = level
-reached_by levels (least.Behind offset variable) = behind_rank (levels variable) offset
+reached_by levels (least.AtOffset offset variable) = offset_rank (levels variable) offset
 
 -- the levels of a table
 abbrev pub at : List ℕ → ℕ → ℕ
@@ -34,7 +34,7 @@ risen levels r = cond (rises levels r) (slice_set levels r.variable (reached lev
 -- the variables of a rule have numbers below a count, and its level is one
 abbrev pub LeastIsWithin : ℕ → Least → Type 0
 LeastIsWithin count (least.Known level) = level ≤ 33
-LeastIsWithin count (least.Behind offset variable) = variable < count
+LeastIsWithin count (least.AtOffset offset variable) = variable < count
 
 -- the variable that a rule raises has a number below a count, and so has that of its least level; a known level is at
 -- most 33
@@ -50,7 +50,7 @@ pub record AreWithin (count : ℕ) (rules : List Rule) : Type 0 where
 pub record AreMetBy (levels : ℕ → ℕ) (rules : List Rule) : Type 0 where
   pub each : (r : Rule) → In r rules → reached_by levels r.least ≤ levels r.variable
 
--- levels that are none above those of any assignment that meets the rules
+-- levels at most those of every assignment that meets the rules
 pub record IsBelowAll (rules : List Rule) (levels : List ℕ) : Type 0 where
   pub small : (k : ℕ) → at levels k ≤ 33
   pub least : (other : ℕ → ℕ) → AreMetBy other rules → (k : ℕ) → at levels k ≤ other k

@@ -1,4 +1,4 @@
--- The rules of pointer levels, row by row: how far behind the stack's end each pointer of a program may point.
+-- The rules of pointer levels, row by row: how far past the stack's end each pointer of a program may point.
 use Rattle.std.specs.Prelude.{ℕ, suc, List, [], ◌∷◌, ◌++◌, map, Option, Some, None, unwrap_or, slice_get}
 use Rattle.std.specs.List.{flat_map}
 use Rattle.hip_types.specs.Layout.{gep_of}
@@ -19,7 +19,7 @@ use Rattle.hip_externs.specs.Externs.{call_of}
 use Rattle.hip_externs.specs.declared.call.ExternCall.{ExternCall}
 use Rattle.hip_sound.specs.Numbering.{function_number}
 use Rattle.hip_invariants.specs.PointerLevels.{behind_offset, const_level, known_path}
-use Rattle.hip_levels.specs.Bounds.{Bound, Rule, Register, Result, Known, Behind, low, free, same_as}
+use Rattle.hip_levels.specs.Bounds.{Bound, Rule, Register, Result, Known, AtOffset, low, free, same_as}
 
 module _ (P : Program) (g : ℕ) where
   -- an operand: `null`, `zeroinitializer` and a volatile global have level 0, a persistent global is free
@@ -29,7 +29,7 @@ module _ (P : Program) (g : ℕ) where
 
   -- the bound at an offset from an operand
   abbrev pub offset_bound : Operand → ℕ → Bound
-  offset_bound (Reg name) offset = Behind offset (Register g name)
+  offset_bound (Reg name) offset = AtOffset offset (Register g name)
   offset_bound (Fixed c) offset = Known (behind_offset (const_level P.globals c) offset)
 
   -- the bound of an element of an operand, by the values of the indices; free if one of them is a register
@@ -68,7 +68,7 @@ module _ (P : Program) (g : ℕ) where
   call_rules dest callee args (Some call) = rule_for_result dest free
   call_rules dest callee args None = entry_rules dest args (function_number P callee)
 
-  -- The rules of an instruction. What is no pointer is free, which no pointer's level depends on.
+  -- The rules of an instruction. A register that is no pointer is free, and no pointer's level depends on it.
   abbrev pub instr_rules : Instr → List Rule
   instr_rules (Alloca dest ty align) = rule dest low ∷ []
   instr_rules (Load dest ty addr align) = rule dest free ∷ []
@@ -102,6 +102,6 @@ abbrev pub rules_from : Program → ℕ → List Function → List Rule
 rules_from P g [] = []
 rules_from P g (fn ∷ fns) = function_rules P g fn ++ rules_from P (suc g) fns
 
--- All rules of a program, those of blocks that no path reaches too. A variable that no rule is for has level 0.
+-- All rules of a program, also those of unreachable blocks. A variable without a rule has level 0.
 abbrev pub level_rules : Program → List Rule
 level_rules P = rules_from P 0 P.functions

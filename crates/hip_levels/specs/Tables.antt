@@ -2,7 +2,7 @@
 use Rattle.std.specs.Prelude.{ℕ, ◌≡◌, ◌<◌, ◌≤◌, cond, nat_lt, List, [], ◌∷◌, length, Some, None, unwrap_or, slice_get}
 use Rattle.std.specs.List.{IsDistinct}
 use Rattle.hip_invariants.specs.PointerLevels.{PointerLevel}
-use Rattle.hip_levels.specs.Bounds.{Variable, Bound, Rule, Assignment, Register, Result, Known, Behind, same_variable}
+use Rattle.hip_levels.specs.Bounds.{Variable, Bound, Rule, Assignment, Register, Result, Known, AtOffset, same_variable}
 use Rattle.hip_levels.specs.Numbered.{AreWithin}
 use Rattle.hip_levels.specs.declared.numbered.Least as numbered_least
 use Rattle.hip_levels.specs.declared.numbered.Least.TheVariants as numbered
@@ -24,12 +24,12 @@ variable_of (variables.Result g) = Result g
 -- the bound that the code's is, with a known level by its number: from 33 on it is Free
 abbrev pub bound_of : held_bound.Bound → Bound
 bound_of (bounds.Known level) = Known (level_of level)
-bound_of (bounds.Behind offset variable) = Behind offset (variable_of variable)
+bound_of (bounds.AtOffset offset variable) = AtOffset offset (variable_of variable)
 
--- a level that is known is one
+-- a known level is a level's number
 abbrev pub IsSmall : held_bound.Bound → Type 0
 IsSmall (bounds.Known level) = level ≤ 33
-IsSmall (bounds.Behind offset variable) = Unit {0}
+IsSmall (bounds.AtOffset offset variable) = Unit {0}
 
 -- the variable of a number
 abbrev pub variable_at : List Variable → ℕ → Variable
@@ -38,7 +38,7 @@ variable_at vs k = unwrap_or (slice_get vs k) (Result 0)
 -- the bound that one over numbers stands for, where the variables have these numbers
 abbrev pub least_named : List Variable → numbered_least.Least → Bound
 least_named vs (numbered.Known level) = Known (level_of level)
-least_named vs (numbered.Behind offset k) = Behind offset (variable_at vs k)
+least_named vs (numbered.AtOffset offset k) = AtOffset offset (variable_at vs k)
 
 -- the rule that one over numbers stands for
 abbrev pub named : List Variable → numbered_rule.Rule → Rule

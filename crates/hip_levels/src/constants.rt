@@ -6,7 +6,7 @@ ghost use Rattle.hip_invariants.specs.PointerLevels.{global_level, known_index, 
 ghost use Rattle.hip_levels.specs.Gathered.{element_with, level_beside, level_with, persistence_level};
 ghost use Rattle.hip_levels.specs.Tables.{level_of};
 
-use crate::numbered::{FREE, behind};
+use crate::numbered::{FREE, at_offset};
 use hip_globals::index;
 use hip_names::NameTable;
 use hip_tree::{Arg, Const, ConstGep, GlobalVar, Operand};
@@ -93,7 +93,7 @@ fn element_level(alloc: Global, table: &NameTable<'_, bool>, gep: &ConstGep) -> 
 {
     let base = constant_level(alloc, table, &gep.base)?;
     let path = indices_of(alloc, gep.indices.as_slice())?;
-    Ok(behind(base, offset_of(&gep.ty, path.as_slice())))
+    Ok(at_offset(base, offset_of(&gep.ty, path.as_slice())))
 }
 
 /// The value of an index that is a constant.

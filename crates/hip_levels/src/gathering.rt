@@ -11,7 +11,7 @@ ghost use Rattle.hip_levels.specs.Rules as spec;
 ghost use Rattle.hip_levels.specs.Tables.{IsSmall, bound_of};
 
 use crate::constants::{constant_level, known_path, offset_of, persistence_table};
-use crate::numbered::{FREE, behind};
+use crate::numbered::{FREE, at_offset};
 use crate::table::RuleTable;
 use crate::variables::{Bound, Variable};
 use hip_calls::FunctionTable;
@@ -21,8 +21,7 @@ use hip_tree::{Arg, Block, Edge, End, Function, Instr, Operand, Param, Phi, Prog
 use hip_types::{Name, NoMemory, Ty};
 use std::alloc::Global;
 
-/// A program with what its rules are gathered with: by their names, which globals are persistent, and the numbers of
-/// functions.
+/// A program, with tables by names for gathering its rules: which globals are persistent, and the numbers of functions.
 #[derive(Drop)]
 pub struct Scope<'p> {
     pub alloc: Global,
@@ -49,7 +48,7 @@ impl<'p> Scope<'p> {
 }
 
 /// The least level of the address at an offset from an operand.
-fn behind_operand<'p>(
+fn operand_at_offset<'p>(
     scope: &Scope<'p>,
     function: usize,
     operand: &'p Operand,
@@ -62,13 +61,13 @@ fn behind_operand<'p>(
     ensures small { IfOk result IsSmall }
 {
     match operand {
-        Operand::Reg(name) => Ok(Bound::Behind(
+        Operand::Reg(name) => Ok(Bound::AtOffset(
             offset,
             Variable::Register(function, name.as_slice()),
         )),
         Operand::Fixed(value) => {
             let level = constant_level(scope.alloc, &scope.persistence, value)?;
-            Ok(Bound::Known(behind(level, offset)))
+            Ok(Bound::Known(at_offset(level, offset)))
         }
     }
 }
@@ -85,7 +84,7 @@ pub fn operand_bound<'p>(
         ≡ spec.operand_bound scope.now.program.now function operand.now) }
     ensures small { IfOk result IsSmall }
 {
-    behind_operand(scope, function, operand, 0)
+    operand_at_offset(scope, function, operand, 0)
 }
 
 /// The least level of an element.
@@ -104,7 +103,7 @@ fn element_bound<'p>(
     ensures small { IfOk result IsSmall }
 {
     match known_path(scope.alloc, indices)? {
-        Some(path) => behind_operand(scope, function, base, offset_of(ty, path.as_slice())),
+        Some(path) => operand_at_offset(scope, function, base, offset_of(ty, path.as_slice())),
         None => Ok(Bound::Known(FREE)),
     }
 }
@@ -198,7 +197,7 @@ fn add_entry<'p>(
 {
     match scope.program.functions.get(callee) {
         Some(entered) => {
-            let least = Bound::Behind(0, Variable::Result(callee));
+            let least = Bound::AtOffset(0, Variable::Result(callee));
             add_result(scope.program, rules, function, dest, least)?;
             add_arguments(
                 scope,

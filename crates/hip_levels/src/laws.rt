@@ -11,14 +11,14 @@ ghost use Rattle.hip_levels.specs.Closed.{IsLeast};
 ghost use Rattle.hip_levels.specs.LowStores.{least_levels, low_stores};
 ghost use Rattle.hip_levels.specs.Rules.{level_rules};
 
-/// There is a least closed assignment of levels, `least_levels`, and there is one only.
+/// `least_levels` is a least closed assignment of levels, and the only one.
 pub fn least_levels_are_least()
     ensures least { (P : Program) → IsLeast (level_rules P) (least_levels P) }
     ensures one { (P : Program) → (A : Assignment) → IsLeast (level_rules P) A → (v : Variable) →
         A v ≡ least_levels P v }
 {}
 
-/// In the run of every valid input no store lies in the region whose address has another level than Free.
+/// A store whose address has another level than Free never lies in the region, in the run of any valid input.
 pub fn low_stores_are_quiet()
     ensures { (P : Program) → IsSound P → IsQuiet P (low_stores P) }
 {}

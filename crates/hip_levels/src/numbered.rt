@@ -1,17 +1,17 @@
 ghost use Rattle.std.specs.Prelude.{◌≡◌, ◌≤◌, length};
-ghost use Rattle.hip_levels.specs.Numbered.{IsWithin, LeastIsWithin, behind_rank, reached, rises, risen};
+ghost use Rattle.hip_levels.specs.Numbered.{IsWithin, LeastIsWithin, offset_rank, reached, rises, risen};
 
 /// The number of the level Free; the others are 0 to 32.
 pub const FREE: u8 = 33;
 
-/// An offset that is less leads at most one level higher.
+/// A smaller offset leads at most one level higher.
 const LEVEL_SIZE: u64 = 67_108_864;
 
 /// The least level that a rule allows: a known one, or the one at an offset from a variable's.
 #[derive(Clone, Copy)]
 pub enum Least {
     Known(u8),
-    Behind { offset: u64, variable: usize },
+    AtOffset { offset: u64, variable: usize },
 }
 
 /// A variable, by its number, and the least level that it may have.
@@ -22,8 +22,8 @@ pub struct Rule {
 }
 
 /// The level at an offset from a level.
-pub fn behind(level: u8, offset: u64) -> u8
-    ensures { result ≡ behind_rank level offset }
+pub fn at_offset(level: u8, offset: u64) -> u8
+    ensures { result ≡ offset_rank level offset }
 {
     if offset == 0 {
         level
@@ -41,7 +41,7 @@ fn least_level(levels: &[u8], least: Least) -> u8
 {
     match least {
         Least::Known(level) => level,
-        Least::Behind { offset, variable } => behind(levels[variable], offset),
+        Least::AtOffset { offset, variable } => at_offset(levels[variable], offset),
     }
 }
 

@@ -2,12 +2,12 @@ ghost use Rattle.std.specs.Prelude.{◌≡◌, ◌++◌, All, is_some, IfOk, OnO
 ghost use Rattle.std.specs.List.{filter};
 ghost use Rattle.hip_tree.specs.Sites.{has_site, sites_of};
 ghost use Rattle.hip_repairs.specs.Quiet.{IsQuiet};
+ghost use Rattle.hip_sites.specs.Passing.{passing_in_functions};
 ghost use Rattle.hip_levels.specs.Bounds.{bound_in};
 ghost use Rattle.hip_levels.specs.Closed.{IsLeast};
 ghost use Rattle.hip_levels.specs.Describing.{Describes};
-ghost use Rattle.hip_levels.specs.Gathered.{BlockFits, FunctionFits, InstrFits, OperandFits};
+ghost use Rattle.hip_levels.specs.Gathered.{FunctionFits, InstrFits, OperandFits};
 ghost use Rattle.hip_levels.specs.LowStores.{low_stores, stores_low};
-ghost use Rattle.hip_levels.specs.Picked.{picked_in_blocks, picked_in_body, picked_in_functions};
 ghost use Rattle.hip_levels.specs.Rules as spec;
 ghost use Rattle.hip_levels.specs.Tables.{level_among};
 
@@ -16,8 +16,9 @@ use crate::gathering::{Scope, rules_of};
 use crate::numbered::FREE;
 use crate::table::LevelTable;
 use crate::variables::Variable;
+use hip_sites::{InstrTest, add_passing};
 use hip_sound::Checked;
-use hip_tree::{Block, Function, Instr, Operand, Program, Site};
+use hip_tree::{Function, Instr, Operand, Program, Site};
 use hip_types::{NoMemory, Row};
 use std::alloc::Global;
 
@@ -60,53 +61,25 @@ fn stores_low(
     }
 }
 
-/// Adds the sites of such stores of a body.
-fn add_body(
-    scope: &Scope<'_>,
-    levels: &LevelTable<'_>,
-    sites: &mut Row<Site>,
+/// The test for such stores of a function.
+#[derive(Clone, Copy)]
+struct LowTest<'a, 'b, 'p, 'q> {
+    scope: &'a Scope<'p>,
+    levels: &'b LevelTable<'q>,
     function: usize,
-    block: usize,
-    body: &[Instr],
-) -> Result<(), NoMemory>
-    requires scope { Describes scope.now }
-    requires fits { All InstrFits body.now }
-    ensures { OnOk result (sites.new ≡ sites.old ++ picked_in_body
-        (λ f i. stores_low scope.now.program.now (level_among levels.now) f (Some i)) function block 0 body.now) }
-{
-    'each: for index in 0..body.len() {
-        if stores_low(scope, levels, function, &body[index])? {
-            sites.push(Site {
-                function,
-                block,
-                index,
-            })?;
-        }
-    }
-    Ok(())
 }
 
-/// Adds those of blocks.
-fn add_blocks(
-    scope: &Scope<'_>,
-    levels: &LevelTable<'_>,
-    sites: &mut Row<Site>,
-    function: usize,
-    blocks: &[Block],
-) -> Result<(), NoMemory>
-    requires scope { Describes scope.now }
-    requires fits { All BlockFits blocks.now }
-    ensures { OnOk result (sites.new ≡ sites.old ++ picked_in_blocks
-        (λ f i. stores_low scope.now.program.now (level_among levels.now) f (Some i)) function 0 blocks.now) }
-{
-    'each: for block in 0..blocks.len() {
-        let body = blocks[block].body.as_slice();
-        add_body(scope, levels, sites, function, block, body)?;
+impl InstrTest for LowTest<'_, '_, '_, '_> {
+    ghost test = { λ t i. stores_low t.scope.now.program.now (level_among t.levels.now) t.function (Some i) };
+
+    ghost takes = { λ t i. Describes t.scope.now × InstrFits i };
+
+    fn passes(&self, instr: &Instr) -> Result<bool, NoMemory> {
+        stores_low(self.scope, self.levels, self.function, instr)
     }
-    Ok(())
 }
 
-/// Adds those of all functions.
+/// Adds the sites of the low stores of functions.
 fn add_functions(
     scope: &Scope<'_>,
     levels: &LevelTable<'_>,
@@ -115,12 +88,21 @@ fn add_functions(
 ) -> Result<(), NoMemory>
     requires scope { Describes scope.now }
     requires fits { All FunctionFits functions.now }
-    ensures { OnOk result (sites.new ≡ sites.old ++ picked_in_functions
+    ensures { OnOk result (sites.new ≡ sites.old ++ passing_in_functions
         (λ f i. stores_low scope.now.program.now (level_among levels.now) f (Some i)) 0 functions.now) }
 {
-    'each: for number in 0..functions.len() {
-        let blocks = functions[number].blocks.as_slice();
-        add_blocks(scope, levels, sites, number, blocks)?;
+    'each: for function in 0..functions.len() {
+        let test = LowTest {
+            scope,
+            levels,
+            function,
+        };
+        add_passing(
+            sites,
+            &test,
+            function,
+            functions[function].blocks.as_slice(),
+        )?;
     }
     Ok(())
 }
@@ -165,7 +147,7 @@ fn sites_in<'p>(scope: &Scope<'p>, program: &'p Program) -> Result<Row<Site>, No
 }
 
 /// The sites of the stores whose address has another level than Free in the least assignment of levels, in the
-/// program's order: in no run do they lie in the region.
+/// program's order. They never lie in the region, in any run.
 ///
 /// The time is linear in operands and calls, times the 33 levels at most; the memory is linear in them.
 pub fn quiet_stores(alloc: Global, checked: &Checked) -> Result<Row<Site>, NoMemory>

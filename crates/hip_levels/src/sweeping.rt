@@ -27,7 +27,7 @@ impl Chains {
     fn add(&mut self, rule: Rule) -> Result<(), NoMemory> {
         let number = self.before.len();
         let mut earlier = number;
-        if let Least::Behind { variable, .. } = rule.least {
+        if let Least::AtOffset { variable, .. } = rule.least {
             if let Some(last) = self.last.get_mut(variable) {
                 earlier = number.min(*last);
                 *last = number;

@@ -47,7 +47,7 @@ fn numbered_least<'p>(variables: &mut VariableSet<'p>, least: Bound<'p>) -> Resu
 {
     match least {
         Bound::Known(level) => Ok(Least::Known(level)),
-        Bound::Behind(offset, other) => Ok(Least::Behind {
+        Bound::AtOffset(offset, other) => Ok(Least::AtOffset {
             offset,
             variable: number(variables, other)?,
         }),

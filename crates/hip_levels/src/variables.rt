@@ -19,7 +19,7 @@ pub enum Variable<'p> {
 #[derive(Clone, Copy)]
 pub enum Bound<'p> {
     Known(u8),
-    Behind(u64, Variable<'p>),
+    AtOffset(u64, Variable<'p>),
 }
 
 /// Variables that differ, numbered from 0 in the order in which they were inserted.

@@ -61,8 +61,8 @@ placed_next {P} {place} {first} {i} {j} {g} {b} {k} p next =
 module _ {old : Core} {m : Moment} where
   -- the run ends in a turn
   pub stops : (new : Core) (e : Ending) → new ≡ record old { ending = Some e; taken = old.taken + 1; turns = old.turns + 1 } → Before old m →
-      Stands m.program m.input new (record (with_turn m.world) { ending = Some e }) m.top m.rest m.lines m.after.steps
-  stops new e is b = let s = b.stands in subst (λ (c : Core). Stands m.program m.input c (record (with_turn m.world) { ending = Some e }) m.top m.rest m.lines m.after.steps) (sym is) (record {
+      Stands m.program m.input new (record (with_turn m.world) { ending = Some e }) m.top m.rest m.after.steps
+  stops new e is b = let s = b.stands in subst (λ (c : Core). Stands m.program m.input c (record (with_turn m.world) { ending = Some e }) m.top m.rest m.after.steps) (sym is) (record {
     limit = s.limit;
     turns = turn_next _ _ s.turns;
     taken = counted_next _ _ _ s.taken b.counted;
@@ -87,7 +87,7 @@ module _ {old : Core} {m : Moment} where
       let name = name_at (names_at m.program m.top.function) slot in
       let after : Frame = record m.top { place = suc m.top.place; registers = (name, v) ∷ m.top.registers } in
       record {
-        stands = subst (λ (c : Core). Stands m.program m.input c (with_turn m.world) after m.rest m.lines m.after.steps) (sym is) (record {
+        stands = subst (λ (c : Core). Stands m.program m.input c (with_turn m.world) after m.rest m.after.steps) (sym is) (record {
           limit = s.limit;
           turns = turn_next _ _ s.turns;
           taken = counted_next _ _ _ s.taken b.counted;
@@ -140,7 +140,7 @@ finishes_bottom {old} {new} mid v e none still is stop = record {
       let end = Stop (signed W32 (bits W32 v).value) in
       let bottom : m.rest ≡ [] = no_frames s.saved none in
       let saved = subst (λ xs. AreSaved m.program old.slots.items old.top.base old.top.dest m.top.dest m.top.level xs m.rest) (none ∙ sym still) s.saved in
-      let stands = subst (λ (c : Core). Stands m.program m.input c (record (with_turn m.world) { ending = Some end }) m.top m.rest m.lines m.after.steps) (sym stop) (record {
+      let stands = subst (λ (c : Core). Stands m.program m.input c (record (with_turn m.world) { ending = Some end }) m.top m.rest m.after.steps) (sym stop) (record {
         limit = s.limit;
         turns = turn_next _ _ s.turns;
         taken = counted_next _ _ _ s.taken b.counted;
@@ -154,7 +154,7 @@ finishes_bottom {old} {new} mid v e none still is stop = record {
         storage = s.storage;
       }) in
       subst (λ gs. Stepped m.program m.input new e (leave v (with_turn m.world) m.top gs m.lines m.after) (cond (is_bottom gs) (events.End end) events.Quiet)) (sym bottom)
-      (record { stands = subst (λ gs. Stands m.program m.input new (record (with_turn m.world) { ending = Some end }) m.top gs m.lines m.after.steps) bottom stands; event = is });
+      (record { stands = subst (λ gs. Stands m.program m.input new (record (with_turn m.world) { ending = Some end }) m.top gs m.after.steps) bottom stands; event = is });
 }
 
 -- the blocks of the frames below are left
@@ -198,7 +198,7 @@ finishes_call {old} {new} mid v caller popped is put cleared pop = record { does
         let high : old.top.mark ≤ m.world.mark = (let h = mark_is_high b.shaped in omega (arith, mark, h)) in
         let after : Frame = record g { registers = assigned f.dest v g.registers } in
         let lower_kept : x.base ≤ x.base = omega arith in
-        let stands = subst (λ (c : Core). Stands P m.input c (record (with_turn m.world) { mark = f.mark }) after gs m.lines m.after.steps) (sym is_it) (record {
+        let stands = subst (λ (c : Core). Stands P m.input c (record (with_turn m.world) { mark = f.mark }) after gs m.after.steps) (sym is_it) (record {
           limit = s.limit;
           turns = turn_next _ _ s.turns;
           taken = counted_next _ _ _ s.taken b.counted;
@@ -211,7 +211,7 @@ finishes_call {old} {new} mid v caller popped is put cleared pop = record { does
           saved = subst (λ xs. AreSaved P xs x.base x.dest g.dest g.level mid.saved.items gs) (sym put_it)
               (saved_kept lower_kept (kept_result x.base x.base v old.top.dest old.slots.items lower_kept) (record { are = subst (λ ys. are_saved P old.slots.items x.base x.dest g.dest g.level ys gs) same.0 a.4 }));
           blocks = record { are = blocks_left old.blocks new.blocks old.top.blocks g gs (reverse f.slots) blocks.are blocks.below cleared; below = kept.blocks };
-          storage = subst (λ y. HoldsRun P m.input y m.world.writes f.mark m.lines) (sym pop) (subst (λ k. HoldsRun P m.input (after_pop old.top.mark old.storage) m.world.writes k m.lines) mark (pop_holds s.storage old.top.mark low high));
+          storage = subst (λ y. HoldsRun P m.input y m.world.writes f.mark) (sym pop) (subst (λ k. HoldsRun P m.input (after_pop old.top.mark old.storage) m.world.writes k) mark (pop_holds s.storage old.top.mark low high));
         }) in
         subst (λ hs. Stepped P m.input new events.Quiet (leave v (with_turn m.world) f hs m.lines m.after) (cond (is_bottom hs) (events.End (Stop (signed W32 (bits W32 v).value))) events.Quiet)) (sym below)
         (record { stands = stands; event = refl })

@@ -53,7 +53,7 @@ follows {code} {old} {new} {number} mid edge here made is = record {
       let after : Frame = record m.top { block = edge.block; place = 0; registers = moved names n ms m.top.registers } in
       let begins = e.begins in
       subst (λ o. Stepped m.program m.input new events.Quiet (acted m true (edge_action names n m.top.registers o)) (seen_of m (edge_action names n m.top.registers o))) (sym here) (record {
-        stands = subst (λ (c : Core). Stands m.program m.input c (with_turn m.world) after m.rest m.lines m.after.steps) (sym is) (record {
+        stands = subst (λ (c : Core). Stands m.program m.input c (with_turn m.world) after m.rest m.after.steps) (sym is) (record {
           limit = s.limit;
           turns = turn_next _ _ s.turns;
           taken = counted_next _ _ _ s.taken b.counted;

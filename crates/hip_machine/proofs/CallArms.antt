@@ -36,7 +36,7 @@ keeps_longer {old} read mid same l kept =
   where
     here : IsLonger old.slots.items mid.slots.items → mid.saved.items ≡ old.saved.items → Keeps old (record old { values = read.values; slots = mid.slots; saved = mid.saved })
     here l kept = record {
-      keeps = λ P I w f fs ls n s.
+      keeps = λ P I w f fs n s.
           let low : old.top.base ≤ old.top.base = omega arith in
           let room = old.top.base + length (names_at P f.function) in
           let high : old.top.base + length (names_at P f.function) ≤ room = omega arith in
@@ -103,7 +103,7 @@ acts_call {code} {old} {new} {call} longer mid few l room pushed made is = recor
       let changed_low = kept_then old.top.base old.slots.items longer (put n base ms longer) (kept_longer old.top.base old.slots.items longer l) (kept_put n old.top.base base ms longer low) in
       let long : base + length called ≤ length longer = omega (arith, room, size) in
       subst (λ t. Stepped P m.input new events.Quiet (acted m true (cond t (Calls call.function registers name) (Traps trap_kinds.Depth))) (seen_of m (cond t (Calls call.function registers name) (Traps trap_kinds.Depth)))) (sym shallow) (record {
-        stands = subst (λ (c : Core). Stands P m.input c (with_turn m.world) callee (next m.top ∷ m.rest) m.lines m.after.steps) (sym is) (record {
+        stands = subst (λ (c : Core). Stands P m.input c (with_turn m.world) callee (next m.top ∷ m.rest) m.after.steps) (sym is) (record {
           limit = s.limit;
           turns = turn_next _ _ s.turns;
           taken = counted_next _ _ _ s.taken b.counted;

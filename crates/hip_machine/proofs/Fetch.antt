@@ -75,7 +75,7 @@ carries_cut {I} {code} {old} {new} {e} {o} t above is stops = record {
       let passed : nat_lt m.world.turns m.input.limit ≡ false = le-ltb _ _ (omega (arith, above, turns, limit)) in
       let x = action_here code old o m in
       let cut : is_cut m.input m.world (record { turn = op_turn o; action = x }) ≡ true = ap₂ (λ t n. t && not n) t passed in
-      let stands = subst (λ (c : Core). Stands m.program m.input c (record m.world { ending = Some Cut }) m.top m.rest m.lines m.after.steps) (sym stops) (record {
+      let stands = subst (λ (c : Core). Stands m.program m.input c (record m.world { ending = Some Cut }) m.top m.rest m.after.steps) (sym stops) (record {
         limit = s.limit;
         turns = s.turns;
         taken = counted_next _ _ _ s.taken b.counted;
@@ -116,7 +116,7 @@ pub record Fetched (code : Code) (c : Core) (m : Moment) : Type 0 where
 abbrev deed : Bool → Action → Deed
 deed t x = record { turn = t; action = x }
 
-module _ (code : Code) (c : Core) (m : Moment) (whole : IsCodeOf m.program m.input code.ops.items (tables_of code)) (s : Stands m.program m.input c m.world m.top m.rest m.lines m.before.steps) where
+module _ (code : Code) (c : Core) (m : Moment) (whole : IsCodeOf m.program m.input code.ops.items (tables_of code)) (s : Stands m.program m.input c m.world m.top m.rest m.before.steps) where
   pub fetched : ReadsAssigned m.program m.top → Fetched code c m
   fetched reads = go (code_at m.program m.top) refl
     where
@@ -208,7 +208,7 @@ module _ (P : Program) (I : Input) (code : Code) (whole : IsCodeOf P I code.ops.
   unfolding moment
   ready c s steady stands going = go s.frames refl stands
     where
-      go : (fs : List Frame) → s.frames ≡ fs → StandsOn P I c s.world fs s.lines s.counts.steps → IsReady code c
+      go : (fs : List Frame) → s.frames ≡ fs → StandsOn P I c s.world fs s.counts.steps → IsReady code c
       go [] q x = absurd x
       go (f ∷ fs) q x =
           let m = moment s f fs in
@@ -221,7 +221,7 @@ module _ (P : Program) (I : Input) (code : Code) (whole : IsCodeOf P I code.ops.
   unfolding step event on_ending on_frames moment
   stepped old new e s steady stands going c = subst (λ o. Stepped P I new e (on_ending P I s o) (event_on_ending P I s o)) (sym going) (go s.frames refl stands)
     where
-      go : (fs : List Frame) → s.frames ≡ fs → StandsOn P I old s.world fs s.lines s.counts.steps → Stepped P I new e (on_frames P I s.world s.lines s.counts fs) (event_on_frames P I s.world fs)
+      go : (fs : List Frame) → s.frames ≡ fs → StandsOn P I old s.world fs s.counts.steps → Stepped P I new e (on_frames P I s.world s.lines s.counts fs) (event_on_frames P I s.world fs)
       go [] q x = absurd x
       go (f ∷ fs) q x =
           let m = moment s f fs in
@@ -235,10 +235,10 @@ module _ (P : Program) (I : Input) (code : Code) (whole : IsCodeOf P I code.ops.
 
 module _ (P : Program) (I : Input) (c : Core) (s : State) where
   -- a frame stands
-  pub stands_on : {Q : Type 0} → ((f : Frame) (fs : List Frame) → s.frames ≡ f ∷ fs → Stands P I c s.world f fs s.lines s.counts.steps → Q) → StandsFor P I c s → Q
+  pub stands_on : {Q : Type 0} → ((f : Frame) (fs : List Frame) → s.frames ≡ f ∷ fs → Stands P I c s.world f fs s.counts.steps → Q) → StandsFor P I c s → Q
   stands_on {Q} k stands = go s.frames refl stands
     where
-      go : (fs : List Frame) → s.frames ≡ fs → StandsOn P I c s.world fs s.lines s.counts.steps → Q
+      go : (fs : List Frame) → s.frames ≡ fs → StandsOn P I c s.world fs s.counts.steps → Q
       go [] q x = absurd x
       go (f ∷ fs) q x = k f fs q x
 
@@ -254,6 +254,6 @@ module _ (P : Program) (I : Input) (c : Core) (s : State) where
   pub kept : (new : Core) → Keeps c new → StandsFor P I c s → StandsFor P I new s
   kept new k stands = go s.frames stands
     where
-      go : (fs : List Frame) → StandsOn P I c s.world fs s.lines s.counts.steps → StandsOn P I new s.world fs s.lines s.counts.steps
+      go : (fs : List Frame) → StandsOn P I c s.world fs s.counts.steps → StandsOn P I new s.world fs s.counts.steps
       go [] x = absurd x
-      go (f ∷ fs) x = k.keeps P I s.world f fs s.lines s.counts.steps x
+      go (f ∷ fs) x = k.keeps P I s.world f fs s.counts.steps x

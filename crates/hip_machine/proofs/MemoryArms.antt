@@ -7,7 +7,6 @@ use Rattle.hip_types.specs.Numbers.{modulus}
 use Rattle.hip_types.specs.Widths.{bytes_of}
 use Rattle.hip_types.specs.declared.number.Width.{Width}
 use Rattle.hip_types.specs.declared.number.Width.TheVariants.{W1, W8, W16, W32, W64}
-use Rattle.hip_lines.specs.Line.{Line}
 use Rattle.hip_mem.specs.Areas.{block_address, mark_of}
 use Rattle.hip_types.specs.Bytes.{little_endian}
 use Rattle.hip_types.specs.Bytes as bytes
@@ -15,9 +14,8 @@ use Rattle.hip_mem.specs.Laws.AreasLaws.{mark-le-block, mark_of-after_push}
 use Rattle.hip_mem.specs.Memory.{bytes_at}
 use Rattle.hip_types.specs.Areas.{stack_start}
 use Rattle.hip_runs.specs.Actions.{Action, Traps, Assigns, Allocates, Stores, Flushes, Persists, Fences, Asserts, Prints, Reads, Calls, Jumps, Returns, accessed, memory_of}
-use Rattle.hip_runs.specs.State.{Frame, Slot, StorePart, World, levels_of, site_of}
+use Rattle.hip_runs.specs.State.{Frame, Slot, World, site_of}
 use Rattle.hip_runs.specs.Step.{next, perform, with_block, with_bytes, with_turn}
-use Rattle.hip_runs.specs.StoredParts.Persistence.{fenced_lines, flushed_lines, stored_lines}
 use Rattle.hip_runs.specs.declared.event.Ending.{Ending}
 use Rattle.hip_runs.specs.declared.event.Ending.TheVariants.{Trap}
 use Rattle.hip_runs.specs.declared.event.Event.{Event}
@@ -93,11 +91,11 @@ left_turned true zs w e = e
 left_turned false zs w e = e
 
 -- the frame after its instruction, in a world with other memory
-pub stands_next : {old new : Core} {m : Moment} (turn : Bool) (st : Contents) (w : World) (ls : List (Line StorePart)) →
+pub stands_next : {old new : Core} {m : Moment} (turn : Bool) (st : Contents) (w : World) →
     new ≡ record old { storage = st; top = record old.top { place = old.top.place + 1 }; taken = old.taken + 1; turns = turns_after turn old.turns } → Before old m → HasNext old m →
-    turns_after turn old.turns ≡ w.turns → old.ending ≡ w.ending → drop old.read m.input.numbers ≡ w.left → HoldsRun m.program m.input st w.writes w.mark ls →
-    Stands m.program m.input new w (next m.top) m.rest ls m.after.steps
-stands_next {old} {new} {m} turn st w ls is b behind t e l h = let s = b.stands in subst (λ (c : Core). Stands m.program m.input c w (next m.top) m.rest ls m.after.steps) (sym is) (record {
+    turns_after turn old.turns ≡ w.turns → old.ending ≡ w.ending → drop old.read m.input.numbers ≡ w.left → HoldsRun m.program m.input st w.writes w.mark →
+    Stands m.program m.input new w (next m.top) m.rest m.after.steps
+stands_next {old} {new} {m} turn st w is b behind t e l h = let s = b.stands in subst (λ (c : Core). Stands m.program m.input c w (next m.top) m.rest m.after.steps) (sym is) (record {
   limit = s.limit;
   turns = t;
   taken = counted_next _ _ _ s.taken b.counted;
@@ -126,18 +124,18 @@ pub passes : {old new : Core} {turn : Bool} {e : Event} {m : Moment} {action : A
 unfolding perform
 passes {old} {new} {turn} {e} {m} {action} done st ok d is b behind = subst (λ x. Stepped m.program m.input new e (acted m turn x) (seen_of m x)) (sym d.is) (go done ok d)
   where
-    at : (w : World) (ls : List (Line StorePart)) → w.turns ≡ (cond turn (with_turn m.world) m.world).turns → w.ending ≡ (cond turn (with_turn m.world) m.world).ending → w.left ≡ (cond turn (with_turn m.world) m.world).left → HoldsRun m.program m.input st w.writes w.mark ls →
-        Stands m.program m.input new w (next m.top) m.rest ls m.after.steps
-    at w ls t g l h =
+    at : (w : World) → w.turns ≡ (cond turn (with_turn m.world) m.world).turns → w.ending ≡ (cond turn (with_turn m.world) m.world).ending → w.left ≡ (cond turn (with_turn m.world) m.world).left → HoldsRun m.program m.input st w.writes w.mark →
+        Stands m.program m.input new w (next m.top) m.rest m.after.steps
+    at w t g l h =
         let s = b.stands in
-        stands_next turn st w ls is b behind (turns_turned turn old.turns m.world s.turns ∙ sym t) (ending_turned turn old.ending m.world s.ending ∙ sym g) (left_turned turn (drop old.read m.input.numbers) m.world s.left ∙ sym l) h
+        stands_next turn st w is b behind (turns_turned turn old.turns m.world s.turns ∙ sym t) (ending_turned turn old.ending m.world s.ending ∙ sym g) (left_turned turn (drop old.read m.input.numbers) m.world s.left ∙ sym l) h
 
     go : (x : Action) → leaves x → HasDone m.program m.input (point_of m turn) st e action x → Stepped m.program m.input new e (acted m turn x) (seen_of m x)
-    go (Stores a bs) ok d = record { stands = at (with_bytes a bs (cond turn (with_turn m.world) m.world)) (stored_lines m.input m.before (site_of m.top) (levels_of (m.top ∷ m.rest)) a bs m.lines) refl refl refl d.holds; event = d.seen }
-    go (Flushes a n) ok d = record { stands = at (cond turn (with_turn m.world) m.world) (flushed_lines m.input (record { step = m.before.steps; site = site_of m.top }) a n m.lines) refl refl refl d.holds; event = d.seen }
-    go (Persists a n) ok d = record { stands = at (cond turn (with_turn m.world) m.world) (fenced_lines (flushed_lines m.input (record { step = m.before.steps; site = site_of m.top }) a n m.lines)) refl refl refl d.holds; event = d.seen }
-    go Fences ok d = record { stands = at (cond turn (with_turn m.world) m.world) (fenced_lines m.lines) refl refl refl d.holds; event = d.seen }
-    go (Asserts a n) ok d = record { stands = at (cond turn (with_turn m.world) m.world) m.lines refl refl refl d.holds; event = d.seen }
+    go (Stores a bs) ok d = record { stands = at (with_bytes a bs (cond turn (with_turn m.world) m.world)) refl refl refl d.holds; event = d.seen }
+    go (Flushes a n) ok d = record { stands = at (cond turn (with_turn m.world) m.world) refl refl refl d.holds; event = d.seen }
+    go (Persists a n) ok d = record { stands = at (cond turn (with_turn m.world) m.world) refl refl refl d.holds; event = d.seen }
+    go Fences ok d = record { stands = at (cond turn (with_turn m.world) m.world) refl refl refl d.holds; event = d.seen }
+    go (Asserts a n) ok d = record { stands = at (cond turn (with_turn m.world) m.world) refl refl refl d.holds; event = d.seen }
     go (Traps kind) ok d = absurd ok
     go (Assigns dest v) ok d = absurd ok
     go (Allocates dest a n) ok d = absurd ok
@@ -164,7 +162,7 @@ halts {old} {new} {e} {x} st kind same is event stops = record {
   does = λ m b behind.
       let s = b.stands in
       subst (λ y. Stepped m.program m.input new e (acted m false y) (seen_of m y)) (sym (is m b)) (record {
-        stands = subst (λ (c : Core). Stands m.program m.input c (record m.world { ending = Some (Trap kind) }) m.top m.rest m.lines m.after.steps) (sym (stops ∙ ap (λ (y : Contents). record old { storage = y; ending = Some (Trap kind); taken = old.taken + 1 }) same)) (record {
+        stands = subst (λ (c : Core). Stands m.program m.input c (record m.world { ending = Some (Trap kind) }) m.top m.rest m.after.steps) (sym (stops ∙ ap (λ (y : Contents). record old { storage = y; ending = Some (Trap kind); taken = old.taken + 1 }) same)) (record {
           limit = s.limit;
           turns = s.turns;
           taken = counted_next _ _ _ s.taken b.counted;
@@ -182,7 +180,7 @@ halts {old} {new} {e} {x} st kind same is event stops = record {
 }
 
 pub keeps_storage : {old : Core} (st : Contents) → st ≡ old.storage → Keeps old (record old { storage = st })
-keeps_storage {old} st same = subst (λ (x : Contents). Keeps old (record old { storage = x })) (sym same) (record { keeps = λ P I w f fs ls n s. s; taken = refl })
+keeps_storage {old} st same = subst (λ (x : Contents). Keeps old (record old { storage = x })) (sym same) (record { keeps = λ P I w f fs n s. s; taken = refl })
 
 -- ---- loads and stores
 
@@ -214,12 +212,12 @@ acts_load_trap {code} {old} {new} {e} {dest} {align} {width} {addr} a n kind at_
 }
 
 pub acts_store : {code : Code} {old new : Core} {e : Event} {size align : ℕ} {value addr : Operand} (st : Contents) (a v : ℕ) → a ≡ operand_value (numbers_of code old) addr → v ≡ operand_value (numbers_of code old) value → IsSize size →
-    HasStored old.storage st e a size align v old.taken →
+    HasStored old.storage st e a size align v →
     new ≡ record old { storage = st; top = record old.top { place = old.top.place + 1 }; taken = old.taken + 1; turns = old.turns + 1 } →
     Acts code old new e (ops.Memory (memories.Store size align value addr))
 acts_store {code} {old} {new} {e} {size} {align} {value} {addr} st a v at_a is_v sizes stored is = record {
   acts = λ m b placed behind.
-      let done = store_done (point_of m true) b.stands.storage (size_some size sizes) b.stands.taken stored in
+      let done = store_done (point_of m true) b.stands.storage (size_some size sizes) stored in
       let step = λ (k u : ℕ). let x = accessed m.program m.input m.world k size align (Stores k (bytes.bytes_of size u)) in Stepped m.program m.input new e (acted m true x) (seen_of m x) in
       subst (λ k. step k (operand_value (numbers_of code old) value)) at_a (subst (λ u. step a u) is_v (passes {turn = true} (Stores a (bytes.bytes_of size v)) st tt done is b (behind refl)));
 }
@@ -280,7 +278,7 @@ acts_alloca {old} {new} {dest} {size} {align} st a pushed is slots code = record
       let same : old.top.base ≤ old.top.base = omega arith in
       let high : old.top.base ≤ old.top.base + dest = omega arith in
       subst (λ x. Stepped P m.input new events.Quiet (acted m true x) (seen_of m x)) (sym done.is) (record {
-        stands = subst (λ (c : Core). Stands P m.input c world after m.rest m.lines m.after.steps) (sym is) (record {
+        stands = subst (λ (c : Core). Stands P m.input c world after m.rest m.after.steps) (sym is) (record {
           limit = s.limit;
           turns = turn_next _ _ s.turns;
           taken = counted_next _ _ _ s.taken b.counted;

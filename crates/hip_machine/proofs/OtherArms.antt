@@ -22,8 +22,8 @@ use Rattle.hip_code.specs.declared.op.Persistence.TheVariants as persistences
 use Rattle.hip_code.specs.Frames.{names_at, HoldsFrame}
 use Rattle.hip_code.specs.Numbers.{operand_value}
 use Rattle.hip_code.specs.Ops.{result_name}
-use Rattle.hip_storage.specs.Calls.{HasFlushed, HasPersisted}
-use Rattle.hip_storage.specs.Contents.{Contents, after_fence, lies_in_region, range_trap}
+use Rattle.hip_storage.specs.Calls.{ShowsFlush, ShowsPersist}
+use Rattle.hip_storage.specs.Contents.{lies_in_region, range_trap}
 use Rattle.hip_storage.specs.Laws.ActionLaws.{assert_done, assert_refused, fence_done, flush_done, persist_done, range_refused}
 use Rattle.hip_machine.specs.declared.core_parts.Core.{Core}
 use Rattle.hip_machine.specs.Acts.{Acts, ActsOn, Does, DoesNext, acted, numbers_of, seen_of}
@@ -37,21 +37,21 @@ use Rattle.hip_machine.proofs.Slots.{holds_result, kept_result, saved_kept}
 
 -- ---- flushes and fences
 
-pub flushes : {old new : Core} {e : Event} (st : Contents) (a n : ℕ) → HasFlushed old.storage st e a n → new ≡ record old { storage = st; top = record old.top { place = old.top.place + 1 }; taken = old.taken + 1 } →
+pub flushes : {old new : Core} {e : Event} (a n : ℕ) → ShowsFlush old.storage e a n → new ≡ record old { top = record old.top { place = old.top.place + 1 }; taken = old.taken + 1 } →
     DoesNext old new e false (λ m. flushing m.program m.input m.world a n (Flushes a n))
-flushes {old} {new} {e} st a n x is = record { does = λ m b behind. passes {turn = false} (Flushes a n) st tt (flush_done (point_of m false) b.stands.storage x) is b behind }
+flushes {old} {new} {e} a n x is = record { does = λ m b behind. passes {turn = false} (Flushes a n) old.storage tt (flush_done (point_of m false) b.stands.storage x) is b behind }
 
-pub persists : {old new : Core} {e : Event} (st : Contents) (a n : ℕ) → HasPersisted old.storage st e a n → new ≡ record old { storage = st; top = record old.top { place = old.top.place + 1 }; taken = old.taken + 1 } →
+pub persists : {old new : Core} {e : Event} (a n : ℕ) → ShowsPersist old.storage e a n → new ≡ record old { top = record old.top { place = old.top.place + 1 }; taken = old.taken + 1 } →
     DoesNext old new e false (λ m. flushing m.program m.input m.world a n (Persists a n))
-persists {old} {new} {e} st a n x is = record { does = λ m b behind. passes {turn = false} (Persists a n) st tt (persist_done (point_of m false) b.stands.storage x) is b behind }
+persists {old} {new} {e} a n x is = record { does = λ m b behind. passes {turn = false} (Persists a n) old.storage tt (persist_done (point_of m false) b.stands.storage x) is b behind }
 
-pub fences : {old new : Core} (st : Contents) → st ≡ after_fence old.storage → new ≡ record old { storage = st; top = record old.top { place = old.top.place + 1 }; taken = old.taken + 1 } → DoesNext old new events.Fence false (λ m. Fences)
-fences {old} {new} st x is = record { does = λ m b behind. passes {turn = false} Fences st tt (fence_done (point_of m false) b.stands.storage x) is b behind }
+pub fences : {old new : Core} → new ≡ record old { top = record old.top { place = old.top.place + 1 }; taken = old.taken + 1 } → DoesNext old new events.Fence false (λ m. Fences)
+fences {old} {new} is = record { does = λ m b behind. passes {turn = false} Fences old.storage tt (fence_done (point_of m false) b.stands.storage) is b behind }
 
 -- a range with a byte that is not valid
-pub range_halts : {old new : Core} {e : Event} (st : Contents) (a n : ℕ) (kind : TrapKind) (go : Action) → range_trap old.storage a n ≡ Some kind → st ≡ old.storage → e ≡ events.End (Trap kind) →
-    new ≡ record old { storage = st; ending = Some (Trap kind); taken = old.taken + 1 } → DoesNext old new e false (λ m. flushing m.program m.input m.world a n go)
-range_halts {old} {new} {e} st a n kind go trapped same event stops = halts st kind same (λ m b. (range_refused (point_of m false) b.stands.storage {new = st} a n kind go trapped same).is) event stops
+pub range_halts : {old new : Core} {e : Event} (a n : ℕ) (kind : TrapKind) (go : Action) → range_trap old.storage a n ≡ Some kind → e ≡ events.End (Trap kind) →
+    new ≡ record old { ending = Some (Trap kind); taken = old.taken + 1 } → DoesNext old new e false (λ m. flushing m.program m.input m.world a n go)
+range_halts {old} {new} {e} a n kind go trapped event stops = halts old.storage kind refl (λ m b. (range_refused (point_of m false) b.stands.storage {new = old.storage} a n kind go trapped refl).is) event stops
 
 pub acts_flush : {code : Code} {old new : Core} {e : Event} {addr : Operand} (a : ℕ) → a ≡ operand_value (numbers_of code old) addr → DoesNext old new e false (λ m. flushing m.program m.input m.world a 1 (Flushes a 1)) →
     Acts code old new e (ops.Memory (memories.Effect (effects.Persistence (persistences.Flush addr))))
@@ -89,7 +89,7 @@ unfolding perform
 prints {old} {new} {e} z shown is = record {
   does = λ m b behind.
       let s = b.stands in
-      record { stands = stands_next true old.storage (with_output z (with_turn m.world)) m.lines is b behind (turn_next _ _ s.turns) s.ending s.left s.storage; event = shown };
+      record { stands = stands_next true old.storage (with_output z (with_turn m.world)) is b behind (turn_next _ _ s.turns) s.ending s.left s.storage; event = shown };
 }
 
 pub acts_assert : {I : Input} {code : Code} {old new : Core} {e : Event} {addr size : Operand} (a n : ℕ) → a ≡ operand_value (numbers_of code old) addr → n ≡ operand_value (numbers_of code old) size →
@@ -134,7 +134,7 @@ acts_read {I} {old} {new} {e} {dest} d z there number quiet is slots code = reco
       let world = with_left rest (with_turn m.world) in
       let after : Frame = record m.top { place = suc m.top.place; registers = assigned name v m.top.registers } in
       subst (λ zs. let x = read_next name zs in Stepped P m.input new e (acted m true x) (seen_of m x)) (sym left) (record {
-        stands = subst (λ (c : Core). Stands P m.input c world after m.rest m.lines m.after.steps) (sym is) (record {
+        stands = subst (λ (c : Core). Stands P m.input c world after m.rest m.after.steps) (sym is) (record {
           limit = s.limit;
           turns = turn_next _ _ s.turns;
           taken = counted_next _ _ _ s.taken b.counted;

@@ -1,4 +1,5 @@
 pub mod Puts
+pub mod Room
 pub mod Blocks
 pub mod Placed
 pub mod Below

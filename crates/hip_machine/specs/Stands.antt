@@ -1,10 +1,9 @@
--- What the machine's parts stand for: a state of the run.
+-- What the machine's parts stand for: a state of the run, but for its cache lines.
 use Rattle.std.specs.Prelude.{ℕ, ◌≡◌, List, [], ◌∷◌, drop}
 use Rattle.hip_tree.specs.declared.program.Program.{Program}
-use Rattle.hip_lines.specs.Line.{Line}
 use Rattle.hip_runs.specs.declared.event.Event.{Event}
 use Rattle.hip_runs.specs.declared.input.Input.{Input}
-use Rattle.hip_runs.specs.State.{StorePart, Frame, World, State}
+use Rattle.hip_runs.specs.State.{Frame, World, State}
 use Rattle.hip_code.specs.Frames.{names_at, HoldsFrame}
 use Rattle.hip_storage.specs.Standing.{HoldsRun}
 use Rattle.hip_machine.specs.Below.{AreSaved}
@@ -13,8 +12,7 @@ use Rattle.hip_machine.specs.Placed.{placed_at}
 use Rattle.hip_machine.specs.declared.core_parts.Core.{Core}
 
 -- The parts stand for a state with a frame on top, after n steps.
-pub record Stands (P : Program) (I : Input) (c : Core) (w : World) (f : Frame) (fs : List Frame)
-    (ls : List (Line StorePart)) (n : ℕ) : Type 0 where
+pub record Stands (P : Program) (I : Input) (c : Core) (w : World) (f : Frame) (fs : List Frame) (n : ℕ) : Type 0 where
   pub limit : c.limit ≡ I.limit
   pub turns : c.turns ≡ w.turns
   pub taken : c.taken ≡ n
@@ -25,16 +23,16 @@ pub record Stands (P : Program) (I : Input) (c : Core) (w : World) (f : Frame) (
   pub mark : c.top.mark ≡ f.mark
   pub saved : AreSaved P c.slots.items c.top.base c.top.dest f.dest f.level c.saved.items fs
   pub blocks : HoldsBlocks c.blocks c.top.blocks f.slots fs
-  pub storage : HoldsRun P I c.storage w.writes w.mark ls
+  pub storage : HoldsRun P I c.storage w.writes w.mark
 
 -- the parts stand for a state with these frames, the top one first, after n steps; never without a frame
-abbrev pub StandsOn : Program → Input → Core → World → List Frame → List (Line StorePart) → ℕ → Type 0
-StandsOn P I c w [] ls n = ⊥
-StandsOn P I c w (f ∷ fs) ls n = Stands P I c w f fs ls n
+abbrev pub StandsOn : Program → Input → Core → World → List Frame → ℕ → Type 0
+StandsOn P I c w [] n = ⊥
+StandsOn P I c w (f ∷ fs) n = Stands P I c w f fs n
 
 -- the parts stand for a state, after as many steps as it counts
 abbrev pub StandsFor : Program → Input → Core → State → Type 0
-StandsFor P I c s = StandsOn P I c s.world s.frames s.lines s.counts.steps
+StandsFor P I c s = StandsOn P I c s.world s.frames s.counts.steps
 
 -- After a step with an event, they stand for a state, and the event is the one that is seen.
 pub record Stepped (P : Program) (I : Input) (c : Core) (e : Event) (s : State) (seen : Event) : Type 0 where

@@ -2,6 +2,7 @@ ghost use Rattle.std.specs.Prelude.{◌≡◌, ◌+◌, ◌<◌, ◌^◌, IfOk, 
 ghost use Rattle.hip_code.specs.Ops.{ControlWithin, OpWithin};
 ghost use Rattle.hip_code.specs.declared.op.Op.TheVariants as ops;
 ghost use Rattle.hip_machine.specs.Acts.{Acts, Carries, CarriesHere, IsLaid, IsReady, Keeps, numbers_of};
+ghost use Rattle.hip_machine.specs.Room.{HasRoom, HasTurn};
 
 use crate::branches::branch;
 use crate::calls::{call, exit};
@@ -15,9 +16,7 @@ use hip_types::NoMemory;
 // The end of a block, or a call.
 #[inline(always)]
 fn step_control(core: &mut Core, code: &Code, control: &Control) -> Result<Event, NoMemory>
-    requires taken { core.old.taken + 1 < 2 ^ 128 }
-    requires turns { core.old.turns + 1 < 2 ^ 64 }
-    requires place { core.old.top.place + 1 < 2 ^ 64 }
+    requires room { HasTurn core.old }
     requires within { ControlWithin (numbers_of code.now core.old) control.now }
     requires laid { IsLaid core.old }
     ensures ok { IfOk result (λ e. Acts code.now core.old core.new e (ops.Control control.now)) }
@@ -50,8 +49,7 @@ pub fn cut(core: &mut Core) -> Event
 // The op does what it stands for.
 #[inline(always)]
 fn act(core: &mut Core, code: &Code, input: &Input, op: &Op) -> Result<Event, NoMemory>
-    requires taken { core.old.taken + 1 < 2 ^ 128 }
-    requires place { core.old.top.place + 1 < 2 ^ 64 }
+    requires room { HasRoom core.old }
     requires within { OpWithin (numbers_of code.now core.old) op.now }
     requires laid { IsLaid core.old }
     ensures ok { IfOk result (λ e. Carries input.now code.now core.old core.new e op.now) }

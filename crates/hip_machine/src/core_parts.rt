@@ -1,4 +1,5 @@
 ghost use Rattle.std.specs.Prelude.{◌≡◌, ◌+◌, ◌-◌, ◌<◌, ◌≤◌, ◌^◌, length, slice_set, Some};
+ghost use Rattle.hip_machine.specs.Room.{HasRoom, HasTurn};
 
 use hip_code::Edge;
 use hip_objects::Blocks;
@@ -22,8 +23,8 @@ pub struct Activation {
 }
 
 /// The state of a machine: the frame on top, and those below it from the bottom one up; the slots of all frames; the
-/// blocks of all frames, the oldest first; room for the values of moves; memory and cache lines; how many input numbers
-/// were read, and the counts.
+/// blocks of all frames, the oldest first; room for the values of moves; memory; how many input numbers were read, and
+/// the counts.
 #[derive(Drop)]
 pub struct Core {
     pub top: Activation,
@@ -91,9 +92,7 @@ impl Core {
     /// The next op, in a turn.
     #[inline(always)]
     pub fn pass(&mut self)
-        requires taken { self.old.taken + 1 < 2 ^ 128 }
-        requires turns { self.old.turns + 1 < 2 ^ 64 }
-        requires place { self.old.top.place + 1 < 2 ^ 64 }
+        requires room { HasTurn self.old }
         ensures { self.new ≡ record self.old {
           top = record self.old.top { place = self.old.top.place + 1 };
           taken = self.old.taken + 1;
@@ -108,8 +107,7 @@ impl Core {
     /// The next op, in no turn.
     #[inline(always)]
     pub fn move_on(&mut self)
-        requires taken { self.old.taken + 1 < 2 ^ 128 }
-        requires place { self.old.top.place + 1 < 2 ^ 64 }
+        requires room { HasRoom self.old }
         ensures { self.new ≡ record self.old {
           top = record self.old.top { place = self.old.top.place + 1 };
           taken = self.old.taken + 1;
@@ -139,9 +137,7 @@ impl Core {
     /// A slot takes a value, in a turn.
     #[inline(always)]
     pub fn assign(&mut self, slot: u32, value: u64)
-        requires taken { self.old.taken + 1 < 2 ^ 128 }
-        requires turns { self.old.turns + 1 < 2 ^ 64 }
-        requires place { self.old.top.place + 1 < 2 ^ 64 }
+        requires room { HasTurn self.old }
         requires slot { self.old.top.base + slot < length self.old.slots.items }
         ensures others { self.new ≡ record self.old {
           slots = self.new.slots;

@@ -16,6 +16,7 @@ ghost use Rattle.hip_objects.specs.Blocks.{IsBehind};
 ghost use Rattle.hip_storage.specs.Contents.{after_pop};
 ghost use Rattle.hip_machine.specs.Acts.{Acts, ActsOn, Carries, DoesNext, IsLaid, Keeps, numbers_of};
 ghost use Rattle.hip_machine.specs.Puts.{with_result};
+ghost use Rattle.hip_machine.specs.Room.{HasRoom, HasTurn};
 
 use crate::act::cut;
 use crate::calls::{put_result, trap};
@@ -31,9 +32,7 @@ use hip_types::{Bits, NoMemory, Width};
 // A load.
 #[inline(always)]
 fn load(core: &mut Core, code: &Code, dest: u32, width: Width, align: u32, addr: Operand) -> Event
-    requires taken { core.old.taken + 1 < 2 ^ 128 }
-    requires turns { core.old.turns + 1 < 2 ^ 64 }
-    requires place { core.old.top.place + 1 < 2 ^ 64 }
+    requires room { HasTurn core.old }
     requires within { MemoryWithin (numbers_of code.now core.old) (memories.Load dest width align addr) }
     ensures acts { Acts code.now core.old core.new result (ops.Memory (memories.Load dest width align addr)) }
     ensures taken { core.new.taken ≡ core.old.taken + 1 }
@@ -60,9 +59,7 @@ fn store(
     value: Operand,
     addr: Operand,
 ) -> Result<Event, NoMemory>
-    requires taken { core.old.taken + 1 < 2 ^ 128 }
-    requires turns { core.old.turns + 1 < 2 ^ 64 }
-    requires place { core.old.top.place + 1 < 2 ^ 64 }
+    requires room { HasTurn core.old }
     requires within { MemoryWithin (numbers_of code.now core.old) (memories.Store size align value addr) }
     ensures ok { IfOk result (λ e. Acts code.now core.old core.new e (ops.Memory
         (memories.Store size align value addr))) }
@@ -71,8 +68,7 @@ fn store(
 {
     let address = read_here(core, code, addr);
     let number = read_here(core, code, value);
-    let tag = core.taken;
-    match core.storage.store(address, size, align, number, tag) {
+    match core.storage.store(address, size, align, number) {
         Ok(event) => {
             core.pass();
             Ok(event)
@@ -118,9 +114,7 @@ fn keep_block(core: &mut Core, mark: u64, addr: u64, size: u32) -> Result<(), No
 
 // An `alloca`.
 fn alloca(core: &mut Core, dest: u32, size: u32, align: u32) -> Result<Event, NoMemory>
-    requires taken { core.old.taken + 1 < 2 ^ 128 }
-    requires turns { core.old.turns + 1 < 2 ^ 64 }
-    requires place { core.old.top.place + 1 < 2 ^ 64 }
+    requires room { HasTurn core.old }
     requires slot { core.old.top.base + dest < length core.old.slots.items }
     requires align { 0 < align }
     requires laid { IsLaid core.old }
@@ -160,9 +154,7 @@ fn as_unsigned(value: i64) -> u64
 
 // The next input number goes to a slot, or nowhere.
 fn take_number(core: &mut Core, dest: Option<u32>, number: i64) -> Event
-    requires taken { core.old.taken + 1 < 2 ^ 128 }
-    requires turns { core.old.turns + 1 < 2 ^ 64 }
-    requires place { core.old.top.place + 1 < 2 ^ 64 }
+    requires room { HasTurn core.old }
     requires read { core.old.read + 1 < 2 ^ 64 }
     requires slot { (slot : ℕ) → dest ≡ Some slot → core.old.top.base + slot < length core.old.slots.items }
     ensures event { result ≡ Event.Quiet }
@@ -194,9 +186,7 @@ fn number_at(numbers: &[i64], place: usize) -> i64
 
 // A read of an input number.
 fn read_number(core: &mut Core, input: &Input, dest: Option<u32>) -> Event
-    requires taken { core.old.taken + 1 < 2 ^ 128 }
-    requires turns { core.old.turns + 1 < 2 ^ 64 }
-    requires place { core.old.top.place + 1 < 2 ^ 64 }
+    requires room { HasTurn core.old }
     requires slot { (slot : ℕ) → dest ≡ Some slot → core.old.top.base + slot < length core.old.slots.items }
     ensures acts { (code : Code) → ActsOn input.now code core.old core.new result (ops.Memory (memories.Effect
         (effects.Outside (outsides.Read dest)))) }
@@ -213,9 +203,7 @@ fn read_number(core: &mut Core, input: &Input, dest: Option<u32>) -> Event
 
 // The check of a range of the region.
 fn assert_range(core: &mut Core, addr: u64, size: u64) -> Event
-    requires taken { core.old.taken + 1 < 2 ^ 128 }
-    requires turns { core.old.turns + 1 < 2 ^ 64 }
-    requires place { core.old.top.place + 1 < 2 ^ 64 }
+    requires room { HasTurn core.old }
     ensures does { DoesNext core.old core.new result true (λ m. cond (in_region m.input addr size)
         (Asserts addr size) (Traps traps.Address)) }
     ensures taken { core.new.taken ≡ core.old.taken + 1 }
@@ -230,9 +218,7 @@ fn assert_range(core: &mut Core, addr: u64, size: u64) -> Event
 
 // A number is printed.
 fn print(core: &mut Core, value: u64) -> Event
-    requires taken { core.old.taken + 1 < 2 ^ 128 }
-    requires turns { core.old.turns + 1 < 2 ^ 64 }
-    requires place { core.old.top.place + 1 < 2 ^ 64 }
+    requires room { HasTurn core.old }
     ensures does { DoesNext core.old core.new result true (λ m. Prints (signed W64 value)) }
     ensures taken { core.new.taken ≡ core.old.taken + 1 }
 {
@@ -242,9 +228,7 @@ fn print(core: &mut Core, value: u64) -> Event
 
 // An op on the outside.
 fn outside(core: &mut Core, code: &Code, input: &Input, outside: Outside) -> Event
-    requires taken { core.old.taken + 1 < 2 ^ 128 }
-    requires turns { core.old.turns + 1 < 2 ^ 64 }
-    requires place { core.old.top.place + 1 < 2 ^ 64 }
+    requires room { HasTurn core.old }
     requires within { OutsideWithin (numbers_of code.now core.old) outside }
     ensures acts { ActsOn input.now code.now core.old core.new result (ops.Memory (memories.Effect
         (effects.Outside outside))) }
@@ -264,15 +248,14 @@ fn outside(core: &mut Core, code: &Code, input: &Input, outside: Outside) -> Eve
     }
 }
 
-// An op that has an effect on the stack, on cache lines or on the outside.
+// An op that has an effect on the stack or on the outside, or shows a flush or a fence.
 fn step_effect(
     core: &mut Core,
     code: &Code,
     input: &Input,
     effect: &Effect,
 ) -> Result<Event, NoMemory>
-    requires taken { core.old.taken + 1 < 2 ^ 128 }
-    requires place { core.old.top.place + 1 < 2 ^ 64 }
+    requires room { HasRoom core.old }
     requires within { EffectWithin (numbers_of code.now core.old) effect.now }
     requires laid { IsLaid core.old }
     ensures ok { IfOk result (λ e. Carries input.now code.now core.old core.new e (ops.Memory
@@ -298,7 +281,7 @@ fn step_effect(
     }
 }
 
-/// An op on memory, on cache lines or on the outside.
+/// An op on memory or on the outside, or one that shows a flush or a fence.
 #[inline(always)]
 pub fn step_memory(
     core: &mut Core,
@@ -306,8 +289,7 @@ pub fn step_memory(
     input: &Input,
     memory: &Memory,
 ) -> Result<Event, NoMemory>
-    requires taken { core.old.taken + 1 < 2 ^ 128 }
-    requires place { core.old.top.place + 1 < 2 ^ 64 }
+    requires room { HasRoom core.old }
     requires within { MemoryWithin (numbers_of code.now core.old) memory.now }
     requires laid { IsLaid core.old }
     ensures ok { IfOk result (λ e. Carries input.now code.now core.old core.new e (ops.Memory memory.now)) }

@@ -5,6 +5,7 @@ ghost use Rattle.hip_code.specs.declared.op.Effect.TheVariants as effects;
 ghost use Rattle.hip_code.specs.declared.op.Memory.TheVariants as memories;
 ghost use Rattle.hip_code.specs.declared.op.Op.TheVariants as ops;
 ghost use Rattle.hip_machine.specs.Acts.{Acts, DoesNext, numbers_of};
+ghost use Rattle.hip_machine.specs.Room.{HasRoom};
 
 use crate::core_parts::Core;
 use crate::values::read_here;
@@ -24,8 +25,7 @@ fn halt(core: &mut Core, kind: TrapKind) -> Event
 
 // The flush of the line of an address.
 fn flush(core: &mut Core, addr: u64) -> Event
-    requires taken { core.old.taken + 1 < 2 ^ 128 }
-    requires place { core.old.top.place + 1 < 2 ^ 64 }
+    requires room { HasRoom core.old }
     ensures does { DoesNext core.old core.new result false (λ m. flushing m.program m.input m.world addr 1
         (Flushes addr 1)) }
     ensures taken { core.new.taken ≡ core.old.taken + 1 }
@@ -41,8 +41,7 @@ fn flush(core: &mut Core, addr: u64) -> Event
 
 // The flush of the lines of a range.
 fn flush_range(core: &mut Core, addr: u64, size: u64) -> Event
-    requires taken { core.old.taken + 1 < 2 ^ 128 }
-    requires place { core.old.top.place + 1 < 2 ^ 64 }
+    requires room { HasRoom core.old }
     ensures does { DoesNext core.old core.new result false (λ m. flushing m.program m.input m.world addr size
         (Flushes addr size)) }
     ensures taken { core.new.taken ≡ core.old.taken + 1 }
@@ -58,8 +57,7 @@ fn flush_range(core: &mut Core, addr: u64, size: u64) -> Event
 
 // The flush of the lines of a range, and a fence after it.
 fn persist(core: &mut Core, addr: u64, size: u64) -> Event
-    requires taken { core.old.taken + 1 < 2 ^ 128 }
-    requires place { core.old.top.place + 1 < 2 ^ 64 }
+    requires room { HasRoom core.old }
     ensures does { DoesNext core.old core.new result false (λ m. flushing m.program m.input m.world addr size
         (Persists addr size)) }
     ensures taken { core.new.taken ≡ core.old.taken + 1 }
@@ -75,20 +73,17 @@ fn persist(core: &mut Core, addr: u64, size: u64) -> Event
 
 // A fence.
 fn fence(core: &mut Core) -> Event
-    requires taken { core.old.taken + 1 < 2 ^ 128 }
-    requires place { core.old.top.place + 1 < 2 ^ 64 }
+    requires room { HasRoom core.old }
     ensures does { DoesNext core.old core.new result false (λ m. Fences) }
     ensures taken { core.new.taken ≡ core.old.taken + 1 }
 {
-    core.storage.fence();
     core.move_on();
     Event::Fence
 }
 
 // The flush of the lines of a range, which a fence may follow.
 fn range(core: &mut Core, addr: u64, size: u64, fence: bool) -> Event
-    requires taken { core.old.taken + 1 < 2 ^ 128 }
-    requires place { core.old.top.place + 1 < 2 ^ 64 }
+    requires room { HasRoom core.old }
     ensures does { DoesNext core.old core.new result false (λ m. flushing m.program m.input m.world addr size
         (cond fence (Persists addr size) (Flushes addr size))) }
     ensures taken { core.new.taken ≡ core.old.taken + 1 }
@@ -102,8 +97,7 @@ fn range(core: &mut Core, addr: u64, size: u64, fence: bool) -> Event
 
 /// A flush or a fence, in no turn.
 pub fn persistence(core: &mut Core, code: &Code, persistence: Persistence) -> Event
-    requires taken { core.old.taken + 1 < 2 ^ 128 }
-    requires place { core.old.top.place + 1 < 2 ^ 64 }
+    requires room { HasRoom core.old }
     requires within { PersistenceWithin (numbers_of code.now core.old) persistence }
     ensures acts { Acts code.now core.old core.new result (ops.Memory (memories.Effect
         (effects.Persistence persistence))) }

@@ -118,12 +118,12 @@ module _ (P : Program) (runs : List TracedRun) (traces reports : ℕ) (made : Ma
     plan = made.repair.plan;
     union = by.union;
     status_is = refl;
-    out_is = ap show by.repair.program_is;
+    out_is = ap show by.repair.applied.program_is;
     notes_is =
         ap (λ n. many_notes P n reports made.repair.plan (length made.repair.repaired.clones) made.reasons) many
         ∙ ap (λ n. many_notes P (length runs) n made.repair.plan (length made.repair.repaired.clones) made.reasons) total
         ∙ ap (λ (cs : List CloneOf). many_notes P (length runs) (reports_of runs) made.repair.plan (length cs)
-        made.reasons) by.repair.clones_are
+        made.reasons) by.repair.applied.clones_are
         ∙ ap (λ (rs : List Reason). many_notes P (length runs) (reports_of runs) made.repair.plan
         (length (clone_numbers P made.repair.plan)) rs) by.reasons_are;
     cured = cured;

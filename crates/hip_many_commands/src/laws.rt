@@ -6,7 +6,7 @@ use hip_many::unions_are_one;
 use hip_repair_answers::plans_cure;
 use hip_repairs::direct_stores_are_quiet;
 
-/// Where the files are known, `many` has one answer on them, but for read faults.
+/// Where the files are known, `many` has one answer on them, except for read faults.
 pub fn many_are_one()
     ensures { ManyAreOne }
 {
@@ -18,8 +18,8 @@ pub fn many_faults_hide_no_misfit()
     ensures { ManyFaultsHideNone }
 {}
 
-/// Where the one file has a program and the others are the traces of runs of it, `many` has an answer by which it is
-/// carried out.
+/// If one file has a program, the others are traces of its runs, and nothing fails, then `many` has an answer with the
+/// status `Done`.
 pub fn many_are_answered()
     ensures { ManyAreAnswered }
 {

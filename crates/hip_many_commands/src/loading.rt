@@ -44,7 +44,7 @@ fn ask<C: Cabinet>(
     match plan(alloc, checked, &replayed.findings) {
         Ok(plan) => Ok(Asked {
             plan,
-            reports: replayed.findings.reports.len(),
+            reports: replayed.findings.reports().len(),
         }),
         Err(_) => Err(Failure::NoMemory),
     }

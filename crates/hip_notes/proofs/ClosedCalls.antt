@@ -9,7 +9,8 @@ use Rattle.hip_runs.specs.Laws.PartLaws.{append-right}
 use Rattle.hip_runs.specs.State.{Level}
 use Rattle.hip_runs.specs.StoredParts.History.{IsParted}
 use Rattle.hip_runs.specs.StoredParts.Parts.{In}
-use Rattle.hip_notes.specs.CallPaths.{births_of, closed_by, is_birth}
+use Rattle.hip_findings.specs.CallPaths.{closed_by, is_birth}
+use Rattle.hip_notes.specs.CallPaths.{births_of}
 
 pub length_births : (ls : List Level) → length (births_of ls) ≡ length ls
 length_births [] = refl
@@ -61,9 +62,7 @@ not_standing standing v d h = go (slice_get (births_of standing) d) refl
 open_by : (above open_ones : List Level) → closed_by (births_of (above ++ open_ones)) open_ones ≡ 0
 open_by above [] = refl
 open_by above (l ∷ rest) =
-    let same : (above ++ l ∷ []) ++ rest ≡ above ++ (l ∷ rest) = append_assoc above (l ∷ []) rest in
-    ap (λ t. cond t (closed_by (births_of (above ++ l ∷ rest)) rest) (suc (closed_by (births_of (above ++ l ∷ rest)) rest))) (same_birth l.birth _ (at_depth above l rest))
-    ∙ ap (λ s. closed_by (births_of s) rest) (sym same) ∙ open_by (above ++ l ∷ []) rest
+    ap (λ t. cond t 0 (suc (closed_by (births_of (above ++ l ∷ rest)) rest))) (same_birth l.birth _ (at_depth above l rest))
 
 open_count : (above open_ones : List Level) → closed_count (above ++ open_ones) open_ones ≡ 0
 open_count above [] = refl
@@ -77,7 +76,7 @@ returned : (standing closed open_ones : List Level) → ((v : Level) → In v cl
     → closed_by (births_of standing) (closed ++ open_ones) ≡ closed_count standing (closed ++ open_ones)
 returned standing [] open_ones h p q = p ∙ sym q
 returned standing (v ∷ vs) open_ones h p q =
-    ap (λ t. cond t (closed_by (births_of standing) (vs ++ open_ones)) (suc (closed_by (births_of standing) (vs ++ open_ones)))) (not_standing standing v (length (vs ++ open_ones)) (h v (inl refl)))
+    ap (λ t. cond t 0 (suc (closed_by (births_of standing) (vs ++ open_ones)))) (not_standing standing v (length (vs ++ open_ones)) (h v (inl refl)))
     ∙ ap suc (returned standing vs open_ones (λ w i. h w (inr i)) p q)
     ∙ sym (ap (λ t. cond t (closed_count standing (vs ++ open_ones)) (suc (closed_count standing (vs ++ open_ones)))) (h v (inl refl)))
 

@@ -1,11 +1,15 @@
 -- Notes whose steps ascend, with one more.
-use Rattle.std.proofs.Common.{◌≡◌, ℕ, suc, ◌+◌, ◌<◌, ◌≤◌, Bool, true, false, cond, nat_eq, nat_lt, List, [], ◌∷◌, ◌++◌, Option, Some, None, refl, sym, ap, ap₂, ◌∙◌, filter, arith}
+use Rattle.std.proofs.Common.{◌≡◌, ℕ, suc, ◌+◌, ◌<◌, ◌≤◌, ◌^◌, Bool, true, false, cond, nat_eq, nat_lt, List, [], ◌∷◌, ◌++◌, Option, Some, None, refl, sym, ap, ap₂, ◌∙◌, filter, arith}
 use Rattle.std.proofs.lemmas.Bool.Decides.{nat_tests}
 use Rattle.std.specs.List.{flat_map}
+use Rattle.hip_tree.specs.declared.program.Program.{Program}
+use Rattle.hip_runs.specs.declared.input.Input.{Input}
+use Rattle.hip_notes.specs.Standing.{Tells}
+use Rattle.hip_notes.specs.declared.pending.Pending.{Pending}
 use Rattle.hip_notes.specs.declared.pending.FlushNote.{FlushNote}
 use Rattle.hip_notes.specs.declared.pending.StoreNote.{StoreNote}
 use Rattle.hip_notes.specs.Noted.{flush_among}
-use Rattle.hip_notes.specs.Pending.{first_after, FlushesAscend, note_of, StoresAscend}
+use Rattle.hip_notes.specs.Pending.{AreInOrder, first_after, FlushesAscend, lines_of, note_of, StoresAscend}
 
 -- ---- stores
 
@@ -132,3 +136,11 @@ module _ (steps : ℕ → Bool) where
       go rest true q false p = absurd (let z : steps x.step ≡ true = h x (ap (λ s. cond s (Some x) (first_after tag xs)) q) in let w : false ≡ true = sym p ∙ z in let v : ⊥ = cc in v)
       go rest false q true p = ap (λ s. cond s (Some x) (first_after tag (Flushes_of xs))) q ∙ rest (λ f e. h f (ap (λ s. cond s (Some x) (first_after tag xs)) q ∙ e))
       go rest false q false p = rest (λ f e. h f (ap (λ s. cond s (Some x) (first_after tag xs)) q ∙ e))
+
+-- ---- what is kept of a run
+
+pub in_order : (P : Program) (I : Input) (n header : ℕ) (p : Pending) → n ≤ 2 ^ 128 → Tells P I n header p.stores.items (lines_of p.lines) → AreInOrder p
+in_order P I n header p le t = record {
+  stores = more_stores 0 n (2 ^ 128) p.stores.items le t.stores;
+  flushes = λ j l e. more_flushes 0 n (2 ^ 128) l.flushes le (t.flushes j l e);
+}

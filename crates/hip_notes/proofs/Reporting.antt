@@ -2,6 +2,7 @@
 use Rattle.std.proofs.Common.{◌≡◌, inl, inr, ℕ, suc, ◌+◌, ◌<◌, ◌≤◌, Bool, true, false, ◌||◌, ◌/◌, nat_eq, nat_lt, List, [], ◌∷◌, ◌++◌, Option, Some, None, option_map, map, slice_get, refl, sym, ap, ap₂, ◌∙◌, subst, arith}
 use Rattle.std.proofs.lemmas.Bool.Decides.{nat_tests}
 use Rattle.std.proofs.lemmas.Cmp.{nat_cmp_total, ranked}
+use Rattle.std.proofs.lemmas.List.{map-append}
 use Rattle.std.proofs.lemmas.Map.Entries.{btree_map_get_place}
 use Rattle.std.proofs.lemmas.Map.Made.{is_some-lookup}
 use Rattle.std.specs.BTreeMap as tree
@@ -32,9 +33,12 @@ use Rattle.hip_runs.specs.StoredParts.Since.{IsFirstFlush, top_site}
 use Rattle.hip_runs.specs.declared.input.Input.{Input}
 use Rattle.hip_runs.specs.declared.report.Kind.{Kind}
 use Rattle.hip_runs.specs.declared.report.Report.{Report}
-use Rattle.hip_notes.specs.CallPaths.{births_of, closed_by}
+use Rattle.hip_findings.specs.CallPaths.{call_sites, closed_by}
+use Rattle.hip_findings.specs.Shared.{report_at}
+use Rattle.hip_findings.specs.declared.store_report.StoreReport.{StoreReport}
+use Rattle.hip_notes.specs.CallPaths.{births_of}
 use Rattle.hip_notes.specs.Checking as told
-use Rattle.hip_notes.specs.Checking.{group_from, report_in, report_told, reports_told, site_told}
+use Rattle.hip_notes.specs.Checking.{group_from, reports_told, site_told, store_in, store_told, stores_told}
 use Rattle.hip_notes.specs.Pending.{first_after, flushes_in, note_of}
 use Rattle.hip_notes.specs.Standing.{IsLooseAt, Tells, flush_of}
 use Rattle.hip_notes.specs.declared.checks.Group.{Group}
@@ -136,7 +140,7 @@ module _ (P : Program) (I : Input) (n header : ℕ) (notes : List StoreNote) (li
     Check = suc (run P I n).counts.entries
 
     report_same : (g : Group) → group_from lines tag None Bytes ≡ Some g → (p : LoosePart) (ps : List LoosePart) → Parts ≡ p ∷ ps
-        → (h : StoreNote) × (note_of notes tag ≡ Some h) × (report_told births Check fence h g ≡ report_by (levels_of (run P I n).frames) Check p.part (p ∷ ps))
+        → (h : StoreNote) × (note_of notes tag ≡ Some h) × (report_at Check (store_told births fence h g) ≡ report_by (levels_of (run P I n).frames) Check p.part (p ∷ ps))
     report_same g e p ps parts =
         let i : In p Parts = subst (λ (qs : List LoosePart). In p qs) (sym parts) (inl refl) in
         let loose = part_loose o len tag (run P I n).lines p i in
@@ -151,11 +155,11 @@ module _ (P : Program) (I : Input) (n header : ℕ) (notes : List StoreNote) (li
         ∙ ap (λ (qs : List LoosePart). option_map (λ f. f.site) (latest_flush qs)) parts in (
           h.note,
           ap (note_of notes) (sym a.5) ∙ h.there,
-          same_report Check h.note.entry p.part.entry (h.entry is_header) _ _ (ap₂ kind_of flushed fenced) _ _ (ap (λ s. site_told s g.latest) flushed ∙ site_by (all_flushed (p ∷ ps)) g.latest (p ∷ ps) sites) _ _ (ap₂ (λ (s : Site) (ls : List Level). s ∷ map (λ l. l.call) ls) h.site h.calls) _ _ (ap₂ closed_by is_births h.calls ∙ closed_alike (levels_of (run P I n).frames) p.part.levels ((has_history P I n).split p.part there)),
+          same_report Check h.note.entry p.part.entry (h.entry is_header) _ _ (ap₂ kind_of flushed fenced) _ _ (ap (λ s. site_told s g.latest) flushed ∙ site_by (all_flushed (p ∷ ps)) g.latest (p ∷ ps) sites) _ _ (ap₂ (λ (s : Site) (ls : List Level). s ∷ call_sites ls) h.site h.calls) _ _ (ap₂ closed_by is_births h.calls ∙ closed_alike (levels_of (run P I n).frames) p.part.levels ((has_history P I n).split p.part there)),
         )
 
     pub reports_same : (g : Group) → group_from lines tag None Bytes ≡ Some g
-        → report_in births Check fence (note_of notes tag) g ≡ reports_for (run P I n) (record { offset = o; size = len }) tag
+        → map (report_at Check) (store_in births fence (note_of notes tag) g) ≡ reports_for (run P I n) (record { offset = o; size = len }) tag
     reports_same g e = go Parts refl
       where
         not_none : Parts ≡ [] → ⊥
@@ -164,11 +168,11 @@ module _ (P : Program) (I : Input) (n header : ℕ) (notes : List StoreNote) (li
             let r = (loose_told P I n o len tag).alike.part_of b.0 b.1 b.2 in
             subst (λ (ps : List LoosePart). In r.0 ps) q r.1
 
-        go : (ps : List LoosePart) → Parts ≡ ps → report_in births Check fence (note_of notes tag) g ≡ reports_for (run P I n) (record { offset = o; size = len }) tag
+        go : (ps : List LoosePart) → Parts ≡ ps → map (report_at Check) (store_in births fence (note_of notes tag) g) ≡ reports_for (run P I n) (record { offset = o; size = len }) tag
         go [] q = absurd (not_none q)
         go (p ∷ ps) q =
             let r = report_same g e p ps q in
-            ap (λ (x : Option StoreNote). report_in births Check fence x g) r.1 ∙ ap (λ (x : Report). x ∷ []) r.2
+            ap (λ (x : Option StoreNote). map (report_at Check) (store_in births fence x g)) r.1 ∙ ap (λ (x : Report). x ∷ []) r.2
             ∙ sym (ap (report_of (levels_of (run P I n).frames) Check) q)
 
 -- ---- all reports of a check
@@ -203,7 +207,9 @@ module _ (P : Program) (I : Input) (n header : ℕ) (notes : List StoreNote) (li
   of_entries : (es : List (ℕ × Group)) → ((i : ℕ) (e : ℕ × Group) → slice_get es i ≡ Some e → group_from lines e.0 None (loose_bytes (run P I n) o len) ≡ Some e.1)
       → reports_told births (suc (run P I n).counts.entries) fence notes es ≡ flat_map (reports_for (run P I n) (record { offset = o; size = len })) (keys_of es)
   of_entries [] h = refl
-  of_entries (e ∷ es) h = ap₂ (λ x y. x ++ y) (reports_same P I n header notes lines t o len e.0 births fence is_births is_fence is_header e.1 (h 0 e refl)) (of_entries es (λ i. h (suc i)))
+  of_entries (e ∷ es) h =
+      map-append (report_at (suc (run P I n).counts.entries)) (store_in births fence (note_of notes e.0) e.1) (stores_told births fence notes es)
+      ∙ ap₂ (λ x y. x ++ y) (reports_same P I n header notes lines t o len e.0 births fence is_births is_fence is_header e.1 (h 0 e refl)) (of_entries es (λ i. h (suc i)))
 
   entry_told : (i : ℕ) (e : ℕ × Group) → slice_get groups.entries i ≡ Some e → group_from lines e.0 None (loose_bytes (run P I n) o len) ≡ Some e.1
   entry_told i e q = sym (are e.0) ∙ btree_map_get_place nat_cmp_total groups i e.0 e.1 ordered q

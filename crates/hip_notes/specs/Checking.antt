@@ -1,4 +1,4 @@
--- The loose bytes of a check, grouped by their stores, and the report of each store.
+-- The loose bytes of a check, grouped by their stores, and what the check finds of each store.
 use Rattle.std.specs.Prelude.{ℕ, Bool, cond, ◌&&◌, nat_eq, nat_lt, ◌/◌, List, [], ◌∷◌, ◌++◌, map, Option, Some, None, option_map}
 use Rattle.hip_tree.specs.declared.site.Site.{Site}
 use Rattle.hip_types.specs.declared.areas.TheConstants.{LINE_SIZE}
@@ -6,7 +6,9 @@ use Rattle.hip_lines.specs.declared.part.LooseByte.{LooseByte}
 use Rattle.hip_runs.specs.Found.Reports.{kind_of}
 use Rattle.hip_runs.specs.StoredParts.Order.{is_before}
 use Rattle.hip_runs.specs.declared.report.Report.{Report}
-use Rattle.hip_notes.specs.CallPaths.{closed_by}
+use Rattle.hip_findings.specs.CallPaths.{call_sites, closed_by}
+use Rattle.hip_findings.specs.Shared.{report_at}
+use Rattle.hip_findings.specs.declared.store_report.StoreReport.{StoreReport}
 use Rattle.hip_notes.specs.Pending.{first_after, flushes_in, note_of}
 use Rattle.hip_notes.specs.declared.checks.Group.{Group}
 use Rattle.hip_notes.specs.declared.pending.FlushNote.{FlushNote}
@@ -38,25 +40,28 @@ group_from lines tag g (b ∷ bs) =
 abbrev pub site_told : Bool → Option FlushNote → Option Site
 site_told flushed latest = cond flushed (option_map (λ f. f.site) latest) None
 
--- the report of a store, at a check with this entry, where calls of these births stand
-abbrev pub report_told : List ℕ → ℕ → Option ℕ → StoreNote → Group → Report
-report_told births check fence note g =
+-- what a check finds of a store, where calls of these births stand
+abbrev pub store_told : List ℕ → Option ℕ → StoreNote → Group → StoreReport
+store_told births fence note g =
     record {
       entry = note.entry;
-      check_entry = check;
       kind = kind_of g.flushed (is_before note.tag fence);
       flush_site = site_told g.flushed g.latest;
-      path = note.site ∷ map (λ l. l.call) note.calls.value;
+      path = note.site ∷ call_sites note.calls.value;
       closed = closed_by births note.calls.value;
     }
 
--- the report of a store that has a note; none where there is no note
-abbrev pub report_in : List ℕ → ℕ → Option ℕ → Option StoreNote → Group → List Report
-report_in births check fence None g = []
-report_in births check fence (Some note) g = report_told births check fence note g ∷ []
+-- what it finds of a store that has a note; nothing where there is no note
+abbrev pub store_in : List ℕ → Option ℕ → Option StoreNote → Group → List StoreReport
+store_in births fence None g = []
+store_in births fence (Some note) g = store_told births fence note g ∷ []
 
--- the reports of the stores of these steps
+-- what it finds of the stores of these steps
+abbrev pub stores_told : List ℕ → Option ℕ → List StoreNote → List (ℕ × Group) → List StoreReport
+stores_told births fence notes [] = []
+stores_told births fence notes (e ∷ es) =
+    store_in births fence (note_of notes e.0) e.1 ++ stores_told births fence notes es
+
+-- the reports of the stores of these steps, at a check with this entry
 abbrev pub reports_told : List ℕ → ℕ → Option ℕ → List StoreNote → List (ℕ × Group) → List Report
-reports_told births check fence notes [] = []
-reports_told births check fence notes (e ∷ es) =
-    report_in births check fence (note_of notes e.0) e.1 ++ reports_told births check fence notes es
+reports_told births check fence notes es = map (report_at check) (stores_told births fence notes es)

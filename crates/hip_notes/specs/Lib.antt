@@ -1,5 +1,6 @@
 pub mod CallPaths
 pub mod Pending
+pub mod Regions
 pub mod Checking
 pub mod Standing
 pub mod MarkKeys

@@ -1,10 +1,11 @@
 -- What is kept of a run for the checks to come: its stores that may still be reported, and the flushes of their lines.
-use Rattle.std.specs.Prelude.{ℕ, ◌+◌, ◌<◌, ◌≤◌, Bool, true, false, cond, ◌&&◌, nat_eq, nat_le, nat_lt, List, [], ◌∷◌, ◌++◌, Option, Some, None}
+use Rattle.std.specs.Prelude.{◌≡◌, ◌^◌, ℕ, ◌+◌, ◌<◌, ◌≤◌, Bool, true, false, cond, ◌&&◌, nat_eq, nat_le, nat_lt, List, [], ◌∷◌, ◌++◌, Option, Some, None}
 use Rattle.std.specs.Ordering.{nat_cmp}
 use Rattle.std.specs.BTreeMap as tree
 use Rattle.std.specs.BTreeMap.{BTreeMap}
 use Rattle.hip_notes.specs.declared.pending.FlushNote.{FlushNote}
 use Rattle.hip_notes.specs.declared.pending.LineNote.{LineNote}
+use Rattle.hip_notes.specs.declared.pending.Pending.{Pending}
 use Rattle.hip_notes.specs.declared.pending.StoreNote.{StoreNote}
 
 -- ---- stores
@@ -51,3 +52,10 @@ with_store l = record { stored = true; flushes = flushes_in l }
 -- A line after a flush of it, which is noted where a store came since the flush before.
 abbrev pub with_flush : FlushNote → LineNote → LineNote
 with_flush f l = cond l.stored (record { stored = false; flushes = l.flushes ++ f ∷ [] }) l
+
+-- ---- both
+
+-- The steps of the stores ascend, and so do those of the flushes of each line.
+pub record AreInOrder (p : Pending) : Type 0 where
+  pub stores : StoresAscend 0 (2 ^ 128) p.stores.items
+  pub flushes : (j : ℕ) (l : LineNote) → lines_of p.lines j ≡ Some l → FlushesAscend 0 (2 ^ 128) l.flushes

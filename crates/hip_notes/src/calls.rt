@@ -1,7 +1,7 @@
 ghost use Rattle.std.specs.Prelude.{◌≡◌, ◌+◌, [], ◌∷◌, drop, length, IfOk, OnOk};
 ghost use Rattle.hip_notes.specs.CallPaths.{calls_inside};
 
-use crate::call_path::CallPath;
+use hip_findings::CallPath;
 use hip_tree::Site;
 use hip_types::NoMemory;
 use std::alloc::Global;
@@ -95,11 +95,11 @@ fn share(
     requires { count ≡ length inner.now + length shared.old.value }
     ensures { OnOk result (shared.new.value ≡ calls_inside inner.now shared.old.value) }
 {
-    let mut depth = count - inner.len();
+    let mut standing = count - inner.len();
     'each: for call in inner {
+        standing += 1;
         let outer = CallPath::shared(shared)?;
-        *shared = CallPath::inside(alloc, call.site, call.birth, depth, outer)?;
-        depth += 1;
+        *shared = CallPath::inside(alloc, call.site, call.birth, standing, outer)?;
     }
     Ok(())
 }

@@ -7,12 +7,13 @@ ghost use Rattle.hip_runs.specs.StoredParts.Order.{is_before};
 ghost use Rattle.hip_runs.specs.Found.Reports.{kind_of};
 ghost use Rattle.hip_notes.specs.declared.checks.Group.{Group as Told};
 ghost use Rattle.hip_notes.specs.declared.pending.LineNote.{LineNote as Line};
-ghost use Rattle.hip_notes.specs.Checking.{flush_told, group_from, joined, later_note, report_in, report_told, reports_told, site_told};
+ghost use Rattle.hip_notes.specs.Checking.{flush_told, group_from, joined, later_note, reports_told, site_told, store_in, store_told, stores_told};
 ghost use Rattle.hip_notes.specs.Pending.{FlushesAscend, StoresAscend, lines_of, note_of};
 
 use crate::pending::{FlushNote, LineNote, Pending, StoreNote, first_after};
+use hip_findings::{SharedPath, SharedReports, StoreReport};
 use hip_lines::{Lines, LooseByte};
-use hip_runs::{Kind, Report};
+use hip_runs::Kind;
 use hip_tree::Site;
 use hip_types::{LINE_SIZE, NoMemory, Row};
 use std::alloc::Global;
@@ -42,7 +43,7 @@ pub fn check_range(
     lines: &Lines,
     offset: u64,
     size: u64,
-    reports: &mut Row<Report>,
+    reports: &mut SharedReports,
 ) -> Result<(), NoMemory>
     requires within { offset + size ≤ LINE_SIZE * length lines.now.lines }
     requires stores { StoresAscend 0 (2 ^ 128) pending.now.stores.items }
@@ -57,7 +58,8 @@ pub fn check_range(
         groups.entries)) }
 {
     let groups = groups_of(alloc, &pending.lines, lines, offset, size)?;
-    report_groups(alloc, pending, check, &groups, reports)
+    let stores = stores_of(alloc, pending, check, &groups)?;
+    reports.push(alloc, check.entry, stores)
 }
 
 // What the loose bytes of a range tell of each store.
@@ -137,63 +139,53 @@ fn later(a: Option<FlushNote>, b: Option<FlushNote>) -> Option<FlushNote>
     }
 }
 
-fn report_groups(
+// What a check finds of the stores of groups.
+fn stores_of(
     alloc: Global,
     pending: &Pending,
     check: &Check<'_>,
     groups: &BTreeMap<u128, Group>,
-    reports: &mut Row<Report>,
-) -> Result<(), NoMemory>
+) -> Result<Row<StoreReport>, NoMemory>
     requires { StoresAscend 0 (2 ^ 128) pending.now.stores.items }
-    ensures told { OnOk result (reports.new
-        ≡ reports.old ++ reports_told check.now.births.now check.now.entry check.now.fence pending.now.stores.items
-        groups.now.entries) }
+    ensures told { IfOk result (λ stores. stores
+        ≡ stores_told check.now.births.now check.now.fence pending.now.stores.items groups.now.entries) }
     ensures ordered { tree.IsOrdered nat_cmp groups.now }
 {
+    let mut stores = Row::new(alloc);
     'each: for (tag, group) in groups.iter() {
-        report_store(alloc, pending, check, *tag, *group, reports)?;
+        add_store(pending, check, *tag, *group, &mut stores)?;
     }
-    Ok(())
+    Ok(stores)
 }
 
-fn report_store(
-    alloc: Global,
+fn add_store(
     pending: &Pending,
     check: &Check<'_>,
     tag: u128,
     group: Group,
-    reports: &mut Row<Report>,
+    stores: &mut Row<StoreReport>,
 ) -> Result<(), NoMemory>
     requires { StoresAscend 0 (2 ^ 128) pending.now.stores.items }
-    ensures { OnOk result (reports.new ≡ reports.old ++ report_in check.now.births.now check.now.entry check.now.fence
+    ensures { OnOk result (stores.new ≡ stores.old ++ store_in check.now.births.now check.now.fence
         (note_of pending.now.stores.items tag) group) }
 {
     match pending.find(tag) {
-        Some(note) => reports.push(report_of(alloc, note, check, group)?),
+        Some(note) => stores.push(store_of(note, check, group)?),
         None => Ok(()),
     }
 }
 
-// The report of a store.
-fn report_of(
-    alloc: Global,
-    note: &StoreNote,
-    check: &Check<'_>,
-    group: Group,
-) -> Result<Report, NoMemory>
-    ensures { IfOk result (λ report. report
-        ≡ report_told check.now.births.now check.now.entry check.now.fence note.now group) }
+// What a check finds of a store.
+fn store_of(note: &StoreNote, check: &Check<'_>, group: Group) -> Result<StoreReport, NoMemory>
+    ensures { IfOk result (λ store. store
+        ≡ store_told check.now.births.now check.now.fence note.now group) }
 {
-    let mut path = Row::new(alloc);
-    path.push(note.site)?;
-    let closed = note.calls.copy_out(check.births, &mut path)?;
-    Ok(Report {
+    Ok(StoreReport {
         entry: note.entry,
-        check_entry: check.entry,
         kind: kind_of(group.flushed, is_before(note.tag, check.fence)),
         flush_site: site_told(group.flushed, group.latest),
-        path,
-        closed,
+        path: SharedPath::new(note.site, &note.calls)?,
+        closed: note.calls.closed(check.births),
     })
 }
 

@@ -127,6 +127,22 @@ fn meet_key(marks: &mut IndexSet<MarkKey>, key: MarkKey) -> Result<(), NoMemory>
     Ok(())
 }
 
+/// Notes the marks of a step that was taken.
+pub fn note_marks(
+    marks: &mut IndexSet<MarkKey>,
+    recent: &mut Vec<Option<MarkKey>>,
+    ahead: &[Mark],
+) -> Result<(), NoMemory>
+    requires { AreMet (map mark_of marks.old.keys) recent.old.items }
+    ensures marks { OnOk result (map mark_of marks.new.keys ≡ met same_mark (map mark_of marks.old.keys) ahead.now) }
+    ensures known { OnOk result (AreMet (map mark_of marks.new.keys) recent.new.items) }
+{
+    'each: for mark in ahead {
+        meet_mark(marks, recent, *mark)?;
+    }
+    Ok(())
+}
+
 /// Appends the number of a global to those that were met, unless it is one of them.
 pub fn meet_global(
     hit: &mut IndexSet<usize>,

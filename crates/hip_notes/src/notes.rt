@@ -1,19 +1,39 @@
 ghost use Rattle.std.specs.Prelude.{◌≡◌, ◌⊎◌, ℕ, ◌+◌, ◌-◌, ◌*◌, ◌/◌, ◌≤◌, ◌<◌, ◌^◌, [], ◌∷◌, ◌++◌, Some, None, cond, true, length, map, take, drop, option_map, IfOk, OnOk};
+ghost use Rattle.hip_lines.specs.Line.{has_bytes};
+ghost use Rattle.hip_lines.specs.Parts.{loose_from};
+ghost use Rattle.hip_types.specs.Distinct.{met};
+ghost use Rattle.hip_runs.specs.Found.Marks.{same_mark, unless_ended};
+ghost use Rattle.hip_runs.specs.Found.Reports.{checked_range};
 ghost use Rattle.hip_runs.specs.StoredParts.Since.{fences};
 ghost use Rattle.hip_runs.specs.Step.{has_entry};
-ghost use Rattle.hip_notes.specs.MarkKeys.{AreMet, WereHit};
-ghost use Rattle.hip_notes.specs.Pending.{lines_of};
+ghost use Rattle.hip_notes.specs.MarkKeys.{AreMet, mark_of, WereHit};
+ghost use Rattle.hip_notes.specs.Noted.{EndsBelow, FlushedAt, Follows, IsForgotten, Reported, births_after, calls_after};
+ghost use Rattle.hip_notes.specs.Pending.{AreInOrder, lines_of};
+ghost use Rattle.hip_notes.specs.Regions.{IsWhole};
 
 use crate::calls::Calls;
-use crate::marks::{MarkKey, none_recent};
-use crate::pending::Pending;
-use hip_runs::{Event, Report};
-use hip_types::{NoMemory, Row};
+use crate::checks::{Check, check_range};
+use crate::forget::forget_in;
+use crate::marks::{MarkKey, none_recent, note_marks};
+use crate::pending::{FlushNote, Pending, StoreNote};
+use crate::region::Region;
+use hip_findings::SharedReports;
+use hip_runs::{Ending, Event, Mark};
+use hip_tree::Site;
+use hip_types::NoMemory;
 use indexmap::IndexSet;
 use std::alloc::Global;
 
-/// The tracker looks for notes to drop when it has at least this many stores.
-pub const ENOUGH_STORES: usize = 1024;
+/// Where a run stands before a step: the site, the number of steps, and that of the entry that the step may have.
+#[derive(Clone, Copy)]
+pub struct Moment {
+    pub site: Option<Site>,
+    pub step: u128,
+    pub entry: u128,
+}
+
+// The tracker looks for notes to drop when it has at least this many stores.
+const ENOUGH_STORES: usize = 1024;
 
 /// What a tracker notes of a run.
 #[derive(Drop)]
@@ -37,7 +57,7 @@ pub struct Notes {
     pub recent: Vec<Option<MarkKey>>,
     pub hit: IndexSet<usize>,
     pub flags: Vec<bool>,
-    pub reports: Row<Report>,
+    pub reports: SharedReports,
 }
 
 impl Notes {
@@ -74,21 +94,212 @@ impl Notes {
             recent,
             hit: IndexSet::new(alloc),
             flags: Vec::new(alloc),
-            reports: Row::new(alloc),
+            reports: SharedReports::new(alloc),
         })
+    }
+
+    /// Appends the reports of what a step with this event checks, whose entry has this number.
+    pub fn note_check(
+        &mut self,
+        alloc: Global,
+        event: Event,
+        entry: u128,
+        region: &Region<'_>,
+    ) -> Result<(), NoMemory>
+        requires region { IsWhole region.now }
+        requires order { AreInOrder self.old.pending }
+        ensures told { OnOk result (Reported
+            (checked_range region.now.base region.now.size event) self.old.births.items entry self.old.fence self.old.pending
+            region.now.lines.now.lines self.old.reports self.new.reports) }
+        ensures rest { OnOk result (self.new ≡ record self.old { reports = self.new.reports }) }
+    {
+        match event {
+            Event::Assert { addr, size } => {
+                let offset = addr.saturating_sub(region.base);
+                self.check_within(alloc, entry, region, offset, size)
+            }
+            Event::End(Ending::Stop(_)) => self.check_within(alloc, entry, region, 0, region.size),
+            _ => Ok(()),
+        }
+    }
+
+    // The reports of a check of a range, of which what lies in the region counts.
+    fn check_within(
+        &mut self,
+        alloc: Global,
+        entry: u128,
+        region: &Region<'_>,
+        offset: u64,
+        size: u64,
+    ) -> Result<(), NoMemory>
+        requires region { IsWhole region.now }
+        requires order { AreInOrder self.old.pending }
+        ensures told { OnOk result (Reported (Some
+            (record { offset = offset; size = size })) self.old.births.items entry self.old.fence self.old.pending
+            region.now.lines.now.lines self.old.reports self.new.reports) }
+        ensures rest { OnOk result (self.new ≡ record self.old { reports = self.new.reports }) }
+    {
+        let from = offset.min(region.size);
+        let count = size.min(region.size - from);
+        let check = Check {
+            births: self.births.as_slice(),
+            entry,
+            fence: self.fence,
+        };
+        check_range(
+            alloc,
+            &self.pending,
+            &check,
+            region.lines,
+            from,
+            count,
+            &mut self.reports,
+        )
+    }
+
+    /// Notes what a step with this event does to pending stores.
+    pub fn note_memory(
+        &mut self,
+        alloc: Global,
+        event: Event,
+        moment: Moment,
+        region: &Region<'_>,
+    ) -> Result<(), NoMemory>
+        requires ends { EndsBelow region.now.base event }
+        requires births { length self.old.births.items ≡ length self.old.calls }
+        ensures follows { OnOk result
+            (Follows event moment.site region.now.base moment.step moment.entry self.old.calls self.old.pending
+            self.new.pending) }
+        ensures rest { OnOk result (self.new ≡ record self.old { pending = self.new.pending }) }
+    {
+        match (event, moment.site) {
+            (Event::Store { addr, size, .. }, Some(site)) => {
+                let note = StoreNote {
+                    tag: moment.step,
+                    entry: moment.entry,
+                    site,
+                    calls: self.calls.path(alloc, self.births.len())?,
+                };
+                self.pending
+                    .note_store(alloc, note, addr.saturating_sub(region.base), size as u64)
+            }
+            (Event::Flush { line, size }, Some(site)) => {
+                let flush = FlushNote {
+                    step: moment.step,
+                    site,
+                };
+                self.pending
+                    .note_flush(flush, line.saturating_sub(region.base), size)
+            }
+            _ => Ok(()),
+        }
+    }
+
+    /// Notes the calls after a step, by how many frames stood before it and stand after it.
+    #[inline(always)]
+    pub fn note_calls(
+        &mut self,
+        moment: Moment,
+        before: usize,
+        after: usize,
+    ) -> Result<(), NoMemory>
+        ensures calls { OnOk result (self.new.calls
+            ≡ calls_after before after moment.step moment.site self.old.calls) }
+        ensures births { OnOk result (self.new.births.items
+            ≡ births_after before after moment.step moment.site self.old.births.items) }
+        ensures rest { OnOk result (self.new ≡ record self.old { calls = self.new.calls; births = self.new.births }) }
+    {
+        if before < after {
+            return match moment.site {
+                Some(site) => self.enter_call(site, moment.step),
+                None => Ok(()),
+            };
+        }
+        if after < before {
+            self.calls.leave()?;
+            forget_birth(&mut self.births);
+        }
+        Ok(())
+    }
+
+    fn enter_call(&mut self, site: Site, step: u128) -> Result<(), NoMemory>
+        ensures calls { OnOk result (self.new.calls ≡ record { call = site; birth = step } ∷ self.old.calls) }
+        ensures births { OnOk result (self.new.births.items ≡ self.old.births.items ++ step ∷ []) }
+        ensures rest { OnOk result (self.new ≡ record self.old { calls = self.new.calls; births = self.new.births }) }
+    {
+        self.calls.enter(site, step)?;
+        match self.births.push(step) {
+            Ok(()) => Ok(()),
+            Err(_) => Err(NoMemory),
+        }
+    }
+
+    /// Notes the marks of a step with this event.
+    #[inline(always)]
+    pub fn note_marks(&mut self, event: Event, ahead: &[Mark]) -> Result<(), NoMemory>
+        requires { AreMet (map mark_of self.old.marks.keys) self.old.recent.items }
+        ensures marks { OnOk result (map mark_of self.new.marks.keys ≡ met same_mark (map mark_of self.old.marks.keys)
+            (unless_ended event ahead.now)) }
+        ensures known { OnOk result (AreMet (map mark_of self.new.marks.keys) self.new.recent.items) }
+        ensures rest { OnOk result (self.new ≡ record self.old { marks = self.new.marks; recent = self.new.recent }) }
+    {
+        match event {
+            Event::End(_) => Ok(()),
+            _ => note_marks(&mut self.marks, &mut self.recent, ahead),
+        }
+    }
+
+    /// The counts and the last fence after a step with this event.
+    #[inline(always)]
+    pub fn count(&mut self, event: Event)
+        requires steps { self.old.steps + 1 < 2 ^ 128 }
+        requires entries { self.old.entries + 1 < 2 ^ 128 }
+        ensures { self.new ≡ record self.old {
+          steps = self.old.steps + 1;
+          entries = cond (has_entry event) (self.old.entries + 1) self.old.entries;
+          fence = cond (fences event) (Some self.old.steps) self.old.fence;
+        } }
+    {
+        if fences(event) {
+            self.fence = Some(self.steps);
+        }
+        if has_entry(event) {
+            self.entries += 1;
+        }
+        self.steps += 1;
+    }
+
+    /// Drops the notes that no loose byte needs, when there are twice as many stores as were kept last. So the cost of a
+    /// look is spread over as many stores, and memory does not grow with the steps.
+    #[inline(always)]
+    pub fn forget(&mut self, alloc: Global, region: &Region<'_>)
+        requires region { IsWhole region.now }
+        requires order { AreInOrder self.old.pending }
+        ensures kept { IsForgotten region.now.lines.now.lines region.now.size self.old.pending self.new.pending }
+        ensures rest { self.new ≡ record self.old { pending = self.new.pending; enough = self.new.enough } }
+    {
+        if self.pending.stores.len() >= self.enough {
+            forget_in(alloc, &mut self.pending, region.lines, region.size);
+            self.enough = enough_for(self.pending.stores.len());
+        }
     }
 }
 
-/// The births of the calls that stand, without the innermost one.
-pub fn forget_birth(births: &mut Vec<u128>)
+// The number of stores at which to look again, after this many were kept.
+fn enough_for(kept: usize) -> usize {
+    kept.saturating_mul(2).max(ENOUGH_STORES)
+}
+
+// The births of the calls that stand, without the innermost one.
+fn forget_birth(births: &mut Vec<u128>)
     ensures { births.new.items ≡ take (length births.old.items - 1) births.old.items }
 {
     let count = births.len().saturating_sub(1);
     births.truncate(count);
 }
 
-/// Whether a step with this event is a fence.
-pub fn fences(event: Event) -> bool
+// Whether a step with this event is a fence.
+fn fences(event: Event) -> bool
     ensures { result ≡ fences event }
 {
     match event {
@@ -98,8 +309,8 @@ pub fn fences(event: Event) -> bool
     }
 }
 
-/// Whether a step with this event has an entry in the trace.
-pub fn has_entry(event: Event) -> bool
+// Whether a step with this event has an entry in the trace.
+fn has_entry(event: Event) -> bool
     ensures { result ≡ has_entry event }
 {
     match event {

@@ -3,7 +3,7 @@ ghost use Rattle.hip_lines.specs.Line.{has_bytes};
 ghost use Rattle.hip_notes.specs.declared.pending.StoreNote.{StoreNote as Note};
 ghost use Rattle.hip_notes.specs.Pending.{first_after, flushes_in, FlushesAscend, is_between, lines_of, note_of, StoresAscend, with_flush, with_store};
 
-use crate::call_path::CallPath;
+use hip_findings::CallPath;
 use hip_tree::Site;
 use hip_types::{LINE_SIZE, NoMemory, Row};
 use std::alloc::Global;
@@ -68,12 +68,15 @@ impl Pending {
         ensures lines { OnOk result ((j : ℕ) → lines_of self.new.lines j ≡ cond (has_bytes j offset size)
             (Some (with_store (lines_of self.old.lines j))) (lines_of self.old.lines j)) }
     {
-        let range = lines_between(offset, size);
-        store_lines(alloc, &mut self.lines, range.first, range.end)?;
         match self.stores.push(note) {
-            Ok(()) => Ok(()),
-            Err(_) => Err(NoMemory),
+            Ok(()) => {}
+            Err(_) => return Err(NoMemory),
         }
+        let range = lines_between(offset, size);
+        'each: for line in range.first..range.end {
+            store_line(alloc, &mut self.lines, line)?;
+        }
+        Ok(())
     }
 
     /// Notes a flush of the lines that contain one of `size` bytes at an offset of the region, in time of those that
@@ -120,24 +123,8 @@ fn lines_between(offset: u64, size: u64) -> LineRange
     }
 }
 
-// Notes a store into the lines from the first one up to the end.
-fn store_lines(
-    alloc: Global,
-    lines: &mut BTreeMap<u64, LineNote>,
-    first: u64,
-    end: u64,
-) -> Result<(), NoMemory>
-    requires { first ≤ end }
-    ensures { OnOk result ((j : ℕ) → lines_of lines.new j ≡ cond (is_between first end j)
-        (Some (with_store (lines_of lines.old j))) (lines_of lines.old j)) }
-{
-    'each: for line in first..end {
-        store_line(alloc, lines, line)?;
-    }
-    Ok(())
-}
-
 // Notes a store into a line.
+#[inline(always)]
 fn store_line(alloc: Global, lines: &mut BTreeMap<u64, LineNote>, line: u64) -> Result<(), NoMemory>
     ensures here { OnOk result (lines_of lines.new line ≡ Some (with_store (lines_of lines.old line))) }
     ensures others { OnOk result ((j : ℕ) → (j ≡ line → ⊥)

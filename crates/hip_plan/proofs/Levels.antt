@@ -1,6 +1,5 @@
 -- The best level, from the innermost on.
-use Rattle.std.proofs.Common.{◌≡◌, ◌⊎◌, inl, inr, ℕ, zero, suc, ◌+◌, ◌-◌, ◌<◌, ◌≤◌, min, Bool, true, false, cond, List, [], ◌∷◌, length, drop, get_or, refl, sym, ap, ap₂, ◌∙◌, arith, add-one, drop-cons, Option, ℤ}
-use Rattle.std.proofs.lemmas.List.{drop_all}
+use Rattle.std.proofs.Common.{◌≡◌, ◌⊎◌, inl, inr, ℕ, zero, suc, ◌+◌, ◌-◌, ◌<◌, ◌≤◌, Bool, true, false, cond, List, [], ◌∷◌, refl, sym, ap, ap₂, ◌∙◌, arith, add-one, Option, ℤ}
 use Rattle.hip_tree.specs.declared.program.Program.{Program}
 use Rattle.hip_tree.specs.declared.site.Site.{Site}
 use Rattle.hip_runs.specs.Found.Scores.{score}
@@ -12,32 +11,33 @@ use Rattle.hip_repairs.specs.Choice.{Candidate, best_of, best_on, better, choice
 
 module _ (P : Program) (found : Findings) where
   -- one level more
-  pub best_more : (best : Candidate) (closed i : ℕ) (calls : List Site) (d : Site) → i < closed → i < length calls →
-      best_of P found best (i + 1) (closed - i) (drop i calls)
-      ≡ best_of P found (better best (record { level = i + 1; score = score P found (get_or calls i d) })) (i + 1 + 1) (closed - (i + 1)) (drop (i + 1) calls)
-  best_more best closed i calls d h within =
+  best_more : (best : Candidate) (closed i : ℕ) (call : Site) (calls : List Site) → i < closed →
+      best_of P found best (i + 1) (closed - i) (call ∷ calls)
+      ≡ best_of P found (better best (record { level = i + 1; score = score P found call })) (i + 1 + 1) (closed - (i + 1)) calls
+  best_more best closed i call calls h =
       let more : closed - i ≡ suc (closed - (i + 1)) = omega arith in
-      ap₂ (λ n xs. best_of P found best (i + 1) n xs) more (drop-cons calls i d within)
-      ∙ ap₂ (λ n k. best_of P found (better best (record { level = i + 1; score = score P found (get_or calls i d) })) n (closed - (i + 1)) (drop k calls)) (sym (add-one (i + 1))) (sym (add-one i))
+      ap (λ n. best_of P found best (i + 1) n (call ∷ calls)) more
+      ∙ ap (λ n. best_of P found (better best (record { level = i + 1; score = score P found call })) n (closed - (i + 1)) calls) (sym (add-one (i + 1)))
 
   -- whether the next level is better or not
-  module _ (best : Candidate) (closed i : ℕ) (calls : List Site) (d : Site) (h : i < closed) (within : i < length calls) where
-    went : (b : Bool) → is_better best.score (score P found (get_or calls i d)) ≡ b →
-        best_of P found best (i + 1) (closed - i) (drop i calls)
-        ≡ best_of P found (cond b (record { level = i + 1; score = score P found (get_or calls i d) }) best) (i + 1 + 1) (closed - (i + 1)) (drop (i + 1) calls)
+  module _ (best : Candidate) (closed i : ℕ) (call : Site) (calls rest : List Site) (are : calls ≡ call ∷ rest) (h : i < closed) where
+    went : (b : Bool) → is_better best.score (score P found call) ≡ b →
+        best_of P found best (i + 1) (closed - i) calls
+        ≡ best_of P found (cond b (record { level = i + 1; score = score P found call }) best) (i + 1 + 1) (closed - (i + 1)) rest
     went b e =
-        best_more best closed i calls d h within
-        ∙ ap (λ t. best_of P found (cond t (record { level = i + 1; score = score P found (get_or calls i d) }) best) (i + 1 + 1) (closed - (i + 1)) (drop (i + 1) calls)) e
+        ap (best_of P found best (i + 1) (closed - i)) are
+        ∙ best_more best closed i call rest h
+        ∙ ap (λ t. best_of P found (cond t (record { level = i + 1; score = score P found call }) best) (i + 1 + 1) (closed - (i + 1)) rest) e
 
-    pub taken : (level : ℕ) (new : Option ℤ) → level ≡ i + 1 → new ≡ score P found (get_or calls i d) → is_better best.score new ≡ true →
-        (best_of P found (record { level = level; score = new }) (i + 1 + 1) (closed - (i + 1)) (drop (i + 1) calls)).level
-        ≡ (best_of P found best (i + 1) (closed - i) (drop i calls)).level
+    pub taken : (level : ℕ) (new : Option ℤ) → level ≡ i + 1 → new ≡ score P found call → is_better best.score new ≡ true →
+        (best_of P found (record { level = level; score = new }) (i + 1 + 1) (closed - (i + 1)) rest).level
+        ≡ (best_of P found best (i + 1) (closed - i) calls).level
     taken level new at e better =
-        ap₂ (λ (n : ℕ) (s : Option ℤ). (best_of P found (record { level = n; score = s }) (i + 1 + 1) (closed - (i + 1)) (drop (i + 1) calls)).level) at e
+        ap₂ (λ (n : ℕ) (s : Option ℤ). (best_of P found (record { level = n; score = s }) (i + 1 + 1) (closed - (i + 1)) rest).level) at e
         ∙ ap (λ (x : Candidate). x.level) (sym (went true (ap (is_better best.score) (sym e) ∙ better)))
 
-    pub left : (new : Option ℤ) → new ≡ score P found (get_or calls i d) → is_better best.score new ≡ false →
-        (best_of P found best (i + 1 + 1) (closed - (i + 1)) (drop (i + 1) calls)).level ≡ (best_of P found best (i + 1) (closed - i) (drop i calls)).level
+    pub left : (new : Option ℤ) → new ≡ score P found call → is_better best.score new ≡ false →
+        (best_of P found best (i + 1 + 1) (closed - (i + 1)) rest).level ≡ (best_of P found best (i + 1) (closed - i) calls).level
     left new e worse = ap (λ (x : Candidate). x.level) (sym (went false (ap (is_better best.score) (sym e) ∙ worse)))
 
   none_left : (best : Candidate) (level more : ℕ) (calls : List Site) → (more ≡ 0) ⊎ (calls ≡ []) → best_of P found best level more calls ≡ best
@@ -46,15 +46,10 @@ module _ (P : Program) (found : Findings) where
   none_left best level (suc more) (x ∷ calls) (inl e) = absurd (omega arith)
   none_left best level (suc more) (x ∷ calls) (inr e) = absurd (let z : ⊥ = cc in z)
 
-  either_end : (closed i : ℕ) (calls : List Site) → min closed (length calls) ≤ i → (closed - i ≡ 0) ⊎ (length calls ≤ i)
-  either_end closed i calls h = grind arith
-
-  pub best_end : (best : Candidate) (closed i : ℕ) (calls : List Site) → min closed (length calls) ≤ i → best_of P found best (i + 1) (closed - i) (drop i calls) ≡ best
-  best_end best closed i calls h = go (either_end closed i calls h)
-    where
-      go : (closed - i ≡ 0) ⊎ (length calls ≤ i) → best_of P found best (i + 1) (closed - i) (drop i calls) ≡ best
-      go (inl e) = none_left best (i + 1) (closed - i) (drop i calls) (inl e)
-      go (inr l) = none_left best (i + 1) (closed - i) (drop i calls) (inr (drop_all i calls l))
+  -- no call is left, or none that had returned
+  pub best_end : (best : Candidate) (closed i : ℕ) (calls : List Site) → (closed ≤ i) ⊎ (calls ≡ []) → best_of P found best (i + 1) (closed - i) calls ≡ best
+  best_end best closed i calls (inl h) = none_left best (i + 1) (closed - i) calls (inl (let none : closed - i ≡ 0 = omega arith in none))
+  best_end best closed i calls (inr e) = none_left best (i + 1) (closed - i) calls (inr e)
 
   -- ---- no level past the calls that had returned
 

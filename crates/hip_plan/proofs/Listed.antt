@@ -1,11 +1,9 @@
 -- The lists of a plan have the sites that the reports ask for.
-use Rattle.std.proofs.Common.{◌≡◌, ℕ, zero, suc, ◌+◌, ◌<◌, ◌≤◌, Bool, true, false, cond, ◌&&◌, ◌||◌, nat_eq, List, [], ◌∷◌, length, take, get_or, Option, None, refl, sym, ap, ap₂, ◌∙◌, subst, arith}
+use Rattle.std.proofs.Common.{◌≡◌, ℕ, zero, suc, Bool, true, false, cond, ◌&&◌, ◌||◌, nat_eq, List, [], ◌∷◌, Option, None, refl, sym, ap, ◌∙◌, arith}
 use Rattle.std.specs.Cmp.{both_ways}
 use Rattle.std.specs.List.{filter, list_any}
 use Rattle.std.specs.Prelude.{slice_get}
 use Rattle.std.proofs.lemmas.Bool.Decides.{nat_tests}
-use Rattle.std.proofs.lemmas.List.{take_all, take_more}
-use Rattle.std.proofs.lemmas.List.Folds.{list_any-append}
 use Rattle.hip_tree.specs.Sites.{has_site, sites_of}
 use Rattle.hip_tree.specs.declared.program.Program.{Program}
 use Rattle.hip_tree.specs.declared.site.Site.{Site}
@@ -59,33 +57,43 @@ pub record HasAsked (P : Program) (test : Site → Bool) (list : List Site) : Ty
 abbrev pub asked_by : (Report → Site → Bool) → List Report → Site → Bool
 asked_by asks reports s = list_any (λ r. asks r s) reports
 
-pub none_asked : (P : Program) (asks : Report → Site → Bool) (reports : List Report) → HasAsked P (asked_by asks (take 0 reports)) []
-none_asked P asks reports = record { has = λ s. refl }
+-- The list has the program's sites that all these reports ask for, but for those that the reports left ask for.
+pub record HasAllBut (P : Program) (asks : Report → Site → Bool) (all left : List Report) (list : List Site) : Type 0 where
+  pub has : (s : Site) → (asked_by asks left s && is_there P s) || has_site list s ≡ asked_by asks all s && is_there P s
+
+either_none : (b : Bool) → b || false ≡ b
+either_none true = refl
+either_none false = refl
+
+pub all_left : (P : Program) (asks : Report → Site → Bool) (all left : List Report) (list : List Site) → left ≡ all → list ≡ [] → HasAllBut P asks all left list
+all_left P asks all left list e none =
+    record {
+      has = λ s. ap (λ sites. (asked_by asks left s && is_there P s) || has_site sites s) none
+          ∙ either_none (asked_by asks left s && is_there P s)
+          ∙ ap (λ rs. asked_by asks rs s && is_there P s) e;
+    }
 
 -- one report more
-pub asked_more : (P : Program) (asks : Report → Site → Bool) (reports : List Report) (i : ℕ) (d : Report) (o : Option Site) (old new : List Site) → i < length reports →
-    ((s : Site) → is_site o s ≡ asks (get_or reports i d) s) → ((s : Site) → has_site new s ≡ (is_site o s && is_there P s) || has_site old s) →
-    HasAsked P (asked_by asks (take i reports)) old → HasAsked P (asked_by asks (take (i + 1) reports)) new
-asked_more P asks reports i d o old new h asked put before = record { has = by_site }
+pub asked_more : (P : Program) (asks : Report → Site → Bool) (all left rest : List Report) (r : Report) (o : Option Site) (old new : List Site) → left ≡ r ∷ rest →
+    ((s : Site) → is_site o s ≡ asks r s) → ((s : Site) → has_site new s ≡ (is_site o s && is_there P s) || has_site old s) →
+    HasAllBut P asks all left old → HasAllBut P asks all rest new
+asked_more P asks all left rest r o old new are asked put before = record { has = by_site }
   where
-    regroup : (a b t : Bool) → (a && t) || (b && t) ≡ (b || (a || false)) && t
-    regroup true true t = either t
-      where
-        either : (t : Bool) → t || t ≡ t
-        either true = refl
-        either false = refl
-    regroup true false true = refl
-    regroup true false false = refl
-    regroup false true t = refl
-    regroup false false t = refl
+    regroup : (a b t h : Bool) → (b && t) || ((a && t) || h) ≡ ((a || b) && t) || h
+    regroup true true true h = refl
+    regroup true false true h = refl
+    regroup false true true h = refl
+    regroup true true false h = refl
+    regroup true false false h = refl
+    regroup false true false h = refl
+    regroup false false t h = refl
 
-    by_site : (s : Site) → has_site new s ≡ asked_by asks (take (i + 1) reports) s && is_there P s
+    by_site : (s : Site) → (asked_by asks rest s && is_there P s) || has_site new s ≡ asked_by asks all s && is_there P s
     by_site s =
-        put s
-        ∙ ap₂ (λ a b. (a && is_there P s) || b) (asked s) (before.has s)
-        ∙ regroup (asks (get_or reports i d) s) (asked_by asks (take i reports) s) (is_there P s)
-        ∙ ap (λ b. b && is_there P s) (sym (list_any-append (λ r. asks r s) (take i reports) (get_or reports i d ∷ [])))
-        ∙ ap (λ rs. asked_by asks rs s && is_there P s) (sym (take_more reports i d h))
+        ap (λ h. (asked_by asks rest s && is_there P s) || h) (put s ∙ ap (λ a. (a && is_there P s) || has_site old s) (asked s))
+        ∙ regroup (asks r s) (asked_by asks rest s) (is_there P s) (has_site old s)
+        ∙ ap (λ rs. (asked_by asks rs s && is_there P s) || has_site old s) (sym are)
+        ∙ before.has s
 
 -- ---- the list in the program's order
 
@@ -99,10 +107,10 @@ filter_has P test s =
 pub listed : (P : Program) (test : Site → Bool) (list : List Site) → HasAsked P test list → is_ascending list ≡ true → list ≡ filter test (sites_of P)
 listed P test list asked up = same_members list (filter test (sites_of P)) up (filter_ascends P test) (λ s. asked.has s ∙ sym (filter_has P test s))
 
-pub whole : (P : Program) (asks : Report → Site → Bool) (items reports : List Report) (i : ℕ) (list : List Site) → length items ≤ i → items ≡ reports →
-    HasAsked P (asked_by asks (take i items)) list → is_ascending list ≡ true → list ≡ filter (asked_by asks reports) (sites_of P)
-whole P asks items reports i list h same asked up =
-    listed P (asked_by asks reports) list (subst (λ rs. HasAsked P (asked_by asks rs) list) (take_all i items h ∙ same) asked) up
+pub whole : (P : Program) (asks : Report → Site → Bool) (all left : List Report) (list : List Site) → left ≡ [] →
+    HasAllBut P asks all left list → is_ascending list ≡ true → list ≡ filter (asked_by asks all) (sites_of P)
+whole P asks all left list none asked up =
+    listed P (asked_by asks all) list (record { has = λ s. ap (λ rs. (asked_by asks rs s && is_there P s) || has_site list s) (sym none) ∙ asked.has s }) up
 
 -- a plan whose lists are the defined ones
 pub plan_is : (P : Program) (found : Findings) (flushes fences hoists : List Site) → flushes ≡ (plan_for P found).flush_after → fences ≡ (plan_for P found).fence_after → hoists ≡ (plan_for P found).hoist →

@@ -17,7 +17,7 @@ use Rattle.hip_runs.specs.Laws.Members.{both_true, equal_true}
 use Rattle.hip_runs.specs.declared.event.Object.{Object}
 use Rattle.hip_runs.specs.declared.event.Object.TheVariants as objects
 use Rattle.hip_plan.specs.Worths.{HasWorths, OperandKey, same_operand, worth_among}
-use Rattle.hip_plan.proofs.Sites.{cmp-is_eq, number-is_eq, site_cmp, then-is_eq}
+use Rattle.hip_sites.proofs.SiteOrder.{cmp-is_eq, number-is_eq, site_cmp, then-is_eq}
 use Rattle.hip_plan.proofs.Sums.{IsWithin, add-none, worth-append, worth_within}
 
 -- the key of a mark

@@ -4,9 +4,9 @@ ghost use Rattle.hip_repairs.specs.Choice.{best_of, choice};
 
 use crate::scores::score_by;
 use crate::worths::Worths;
-use hip_runs::{Findings, Kind, Report};
+use hip_findings::{PathSites, SharedFindings, SharedReport};
+use hip_runs::Kind;
 use hip_sound::Checked;
-use hip_tree::Site;
 
 /// Whether a score is above the best one so far; a site without a score is below each that has one.
 fn is_better(best: Option<i128>, score: Option<i128>) -> bool
@@ -25,15 +25,20 @@ fn best_level<W: Worths>(
     worths: &W,
     store: Option<i128>,
     closed: usize,
-    calls: &[Site],
+    calls: PathSites<'_>,
 ) -> usize
     ensures { result ≡
-        (best_of checked.now (W.found worths.now) (record { level = 0; score = store }) 1 closed calls.now).level }
+        (best_of checked.now (W.found worths.now) (record { level = 0; score = store }) 1 closed calls.entry).level }
 {
     let mut level = 0;
     let mut best = store;
-    'each: for index in 0..closed.min(calls.len()) {
-        let score = score_by(checked, worths, calls[index]);
+    let mut left = calls;
+    'each: for index in 0..closed {
+        let call = match left.next() {
+            Some(call) => call,
+            None => return level,
+        };
+        let score = score_by(checked, worths, call);
         if is_better(best, score) {
             level = index + 1;
             best = score;
@@ -42,27 +47,26 @@ fn best_level<W: Worths>(
     level
 }
 
-fn best_on<W: Worths>(checked: &Checked, worths: &W, closed: usize, path: &[Site]) -> usize
-    ensures { result ≡ spec.best_on checked.now (W.found worths.now) closed path.now }
+fn best_on<W: Worths>(checked: &Checked, worths: &W, report: &SharedReport<'_>) -> usize
+    ensures { result ≡ spec.best_on checked.now (W.found worths.now) report.now.closed report.now.path }
 {
-    match path {
-        [] => 0,
-        [store, calls @ ..] => {
-            let score = score_by(checked, worths, *store);
-            best_level(checked, worths, score, closed, calls)
+    let mut path = report.path();
+    match path.next() {
+        None => 0,
+        Some(store) => {
+            let score = score_by(checked, worths, store);
+            best_level(checked, worths, score, report.closed(), path)
         }
     }
 }
 
 /// The level at which a report is repaired, by the worths of operands.
-pub fn choose_by<W: Worths>(checked: &Checked, worths: &W, report: &Report) -> usize
+pub fn choose_by<W: Worths>(checked: &Checked, worths: &W, report: &SharedReport<'_>) -> usize
     ensures { result ≡ choice checked.now (W.found worths.now) report.now }
 {
-    match report.kind {
+    match report.kind() {
         Kind::MissingFence => 0,
-        Kind::MissingFlush | Kind::MissingBoth => {
-            best_on(checked, worths, report.closed, report.path.as_slice())
-        }
+        Kind::MissingFlush | Kind::MissingBoth => { best_on(checked, worths, report) }
     }
 }
 
@@ -70,7 +74,7 @@ pub fn choose_by<W: Worths>(checked: &Checked, worths: &W, report: &Report) -> u
 /// with the greatest score, and the innermost one where scores are equal. It is 0 where a fence alone is missing.
 ///
 /// It takes no memory, and goes through all marks once for each pointer operand of the sites that it looks at.
-pub fn choose(checked: &Checked, findings: &Findings, report: &Report) -> usize
+pub fn choose(checked: &Checked, findings: &SharedFindings, report: &SharedReport<'_>) -> usize
     ensures is { result ≡ choice checked.now findings.now report.now }
     ensures closed { result ≤ report.now.closed }
 {

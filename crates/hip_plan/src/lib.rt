@@ -5,7 +5,6 @@ mod choice;
 mod making;
 mod plan_sites;
 mod scores;
-mod site_set;
 mod worth_table;
 mod worths;
 
@@ -13,4 +12,3 @@ pub use choice::choose;
 pub use making::plan;
 pub use plan_sites::PlanSites;
 pub use scores::score;
-pub use site_set::SiteSet;

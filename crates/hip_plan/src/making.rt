@@ -10,43 +10,44 @@ ghost use Rattle.hip_plan.specs.Asked.{HasPut, is_there};
 
 use crate::choice::choose_by;
 use crate::plan_sites::PlanSites;
-use crate::site_set::SiteSet;
 use crate::worth_table::WorthTable;
+use hip_findings::{SharedFindings, SharedReport};
 use hip_repairs::Plan;
-use hip_runs::{Findings, Kind, Report};
+use hip_runs::Kind;
+use hip_sites::SiteSet;
 use hip_sound::Checked;
 use hip_tree::{Program, Site, instr_at};
 use hip_types::NoMemory;
 use std::alloc::Global;
 
 /// The store that needs a flush after it, for a report.
-fn flush_asked(report: &Report, level: usize) -> Option<Site>
+fn flush_asked(report: &SharedReport<'_>, level: usize) -> Option<Site>
     ensures { result ≡ spec.flush_asked report.now.kind level report.now.path }
 {
-    match report.kind {
-        Kind::MissingFlush | Kind::MissingBoth if level == 0 => report.path.get(0).copied(),
+    match report.kind() {
+        Kind::MissingFlush | Kind::MissingBoth if level == 0 => report.site_at(0),
         _ => None,
     }
 }
 
 /// The instruction that needs a fence after it, for a report: a flush of the program, or the store whose flush is
 /// inserted.
-fn fence_asked(report: &Report, level: usize) -> Option<Site>
+fn fence_asked(report: &SharedReport<'_>, level: usize) -> Option<Site>
     ensures { result ≡ spec.fence_asked report.now.kind level report.now.flush_site report.now.path }
 {
-    match report.kind {
-        Kind::MissingFence => report.flush_site,
-        Kind::MissingBoth if level == 0 => report.path.get(0).copied(),
+    match report.kind() {
+        Kind::MissingFence => report.flush_site(),
+        Kind::MissingBoth if level == 0 => report.site_at(0),
         _ => None,
     }
 }
 
 /// The call to hoist, for a report.
-fn hoist_asked(report: &Report, level: usize) -> Option<Site>
+fn hoist_asked(report: &SharedReport<'_>, level: usize) -> Option<Site>
     ensures { result ≡ spec.hoist_asked report.now.kind level report.now.path }
 {
-    match report.kind {
-        Kind::MissingFlush | Kind::MissingBoth if level != 0 => report.path.get(level).copied(),
+    match report.kind() {
+        Kind::MissingFlush | Kind::MissingBoth if level != 0 => report.site_at(level),
         _ => None,
     }
 }
@@ -72,7 +73,7 @@ fn add(sites: &mut SiteSet, program: &Program, site: Option<Site>) -> Result<(),
 fn add_asked(
     sites: &mut PlanSites,
     program: &Program,
-    report: &Report,
+    report: &SharedReport<'_>,
     level: usize,
 ) -> Result<(), NoMemory>
     ensures { OnOk result (HasPut program.now report.now level sites.old sites.new) }
@@ -87,7 +88,7 @@ fn add_asked(
 /// suits the program if a run of the program found this.
 ///
 /// Time and memory are linear in the marks and the reports, but that sites are sorted.
-pub fn plan(alloc: Global, checked: &Checked, findings: &Findings) -> Result<Plan, NoMemory>
+pub fn plan(alloc: Global, checked: &Checked, findings: &SharedFindings) -> Result<Plan, NoMemory>
     ensures is { IfOk result (λ plan. plan ≡ plan_for checked.now findings.now) }
     ensures suits { IfOk result (λ plan. (I : Input) → IsFound checked.now I findings.now →
         IsSuiting checked.now plan) }
@@ -95,9 +96,9 @@ pub fn plan(alloc: Global, checked: &Checked, findings: &Findings) -> Result<Pla
     let program = checked.program();
     let worths = WorthTable::new(alloc, findings)?;
     let mut sites = PlanSites::new(alloc);
-    'each: for report in findings.reports.as_slice() {
-        let level = choose_by(checked, &worths, report);
-        add_asked(&mut sites, program, report, level)?;
+    'each: for report in findings.reports().iter() {
+        let level = choose_by(checked, &worths, &report);
+        add_asked(&mut sites, program, &report, level)?;
     }
     sites.to_plan(alloc)
 }

@@ -1,8 +1,8 @@
 ghost use Rattle.std.specs.Prelude.{◌≡◌, [], IfOk};
 ghost use Rattle.hip_plan.specs.Collected.{IsCollected};
 
-use crate::site_set::SiteSet;
 use hip_repairs::Plan;
+use hip_sites::SiteSet;
 use hip_types::NoMemory;
 use std::alloc::Global;
 

@@ -7,7 +7,7 @@ ghost use Rattle.hip_plan.specs.Worths.{greatest, is_pointer};
 
 use crate::worths::Worths;
 use hip_externs::ExternCall;
-use hip_runs::Findings;
+use hip_findings::SharedFindings;
 use hip_sound::Checked;
 use hip_tree::{Arg, Instr, Site, instr_at};
 use hip_types::Scalar;
@@ -74,7 +74,7 @@ pub fn score_by<W: Worths>(checked: &Checked, worths: &W, site: Site) -> Option<
 /// The score of a site: the greatest worth of its pointer operands. None exactly where it has no pointer operand.
 ///
 /// It takes no memory, and goes through all marks once for each pointer operand of the site.
-pub fn score(checked: &Checked, findings: &Findings, site: Site) -> Option<i128>
+pub fn score(checked: &Checked, findings: &SharedFindings, site: Site) -> Option<i128>
     ensures is { result ≡ spec.score checked.now findings.now site }
     ensures none { IsNone result ↔ (operands_at checked.now (instr_of checked.now site) ≡ []) }
 {

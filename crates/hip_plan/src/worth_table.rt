@@ -4,7 +4,8 @@ ghost use Rattle.hip_runs.specs.Found.Scores.{is_marked};
 ghost use Rattle.hip_plan.specs.Worths.{HasWorths, worth_among};
 
 use crate::worths::{Worths, worth_of};
-use hip_runs::{Findings, Mark, Object};
+use hip_findings::SharedFindings;
+use hip_runs::{Mark, Object};
 use hip_tree::Site;
 use hip_types::NoMemory;
 use std::alloc::Global;
@@ -16,7 +17,7 @@ type OperandKey = (Site, usize);
 
 /// What a run found, with the worth of each operand in a table. Contracts see the findings.
 pub struct WorthTable<'a> {
-    found: &'a Findings,
+    found: &'a SharedFindings,
     worths: BTreeMap<OperandKey, i128>,
 }
 
@@ -93,14 +94,11 @@ fn worths_of(
 
 impl<'a> WorthTable<'a> {
     /// The table of a run's marks. It takes memory linear in the marks, and time linear but that operands are sorted.
-    pub fn new(alloc: Global, found: &'a Findings) -> Result<WorthTable<'a>, NoMemory>
+    pub fn new(alloc: Global, found: &'a SharedFindings) -> Result<WorthTable<'a>, NoMemory>
         ensures { IfOk result (λ table. table ≡ found.now) }
     {
-        let worths = worths_of(
-            alloc,
-            found.marks.hit.as_slice(),
-            found.marks.pointed.as_slice(),
-        )?;
+        let marks = found.marks();
+        let worths = worths_of(alloc, marks.hit.as_slice(), marks.pointed.as_slice())?;
         Ok(WorthTable { found, worths })
     }
 }

@@ -5,7 +5,8 @@ ghost use Rattle.hip_runs.specs.Found.Scores.{worth, worth_in};
 ghost use Rattle.hip_plan.specs.Worths.{added_by};
 ghost use Rattle.hip_runs.specs.declared.report.Findings.{Findings};
 
-use hip_runs::{Findings, Mark, Object};
+use hip_findings::SharedFindings;
+use hip_runs::{Mark, Object};
 use hip_tree::Site;
 
 /// What a run found, as a source of the worths of operands.
@@ -18,13 +19,13 @@ pub trait Worths {
 }
 
 /// Findings go through all their marks for each operand, and take no memory.
-impl Worths for Findings {
+impl Worths for SharedFindings {
     ghost found = { λ f. f };
 
     fn worth(&self, site: Site, operand: usize) -> i128 {
         worth_by(
-            self.marks.hit.as_slice(),
-            self.marks.pointed.as_slice(),
+            self.marks().hit.as_slice(),
+            self.marks().pointed.as_slice(),
             site,
             operand,
         )

@@ -1,4 +1,5 @@
 pub mod Deliveries
 pub mod Quietly
+pub mod Silently
 pub mod Outputs
 pub mod TraceTexts

@@ -11,10 +11,10 @@ use Rattle.hip_runs.specs.declared.event.Ending.{Ending}
 use Rattle.hip_runs.specs.declared.event.Event.{Event}
 use Rattle.hip_runs.specs.declared.event.Event.TheVariants as events
 use Rattle.hip_runs.specs.declared.input.Input.{Input}
-use Rattle.hip_engine.specs.Quiet.{ComesTo}
+use Rattle.hip_engine.specs.Silent.{ComesToPrint}
 use Rattle.hip_lockstep.proofs.Going.{IsGoing, IsTold, ended_stays, ending_next, goes_on, none_ends, starts, taken_next}
 use Rattle.hip_recording.proofs.Deliveries.{all_of_both, delivers, fails_to_deliver, part_of_both}
-use Rattle.hip_recording.proofs.Quietly.{event_there, goes_quietly, same_output}
+use Rattle.hip_recording.proofs.Silently.{goes_silently, print_there, same_output}
 use Rattle.hip_recording.specs.Delivery.{EndsOutOfMemory}
 use Rattle.hip_recording.specs.Printing.{IsPrinted, HasPrinted, HasFailed, HasStopped, Prints}
 use Rattle.hip_recording.specs.declared.refusal.RecordRefusal.{RecordRefusal}
@@ -108,25 +108,25 @@ module _ {P : Program} {I : Input} {m : Seen} {old mid : SinkState} (told : IsTo
         written = subst (λ n. AppendsAll old new (run P I n).world.output) (sym (taken_next told is.on)) (subst (λ text. AppendsAll old new text) (sym (printed_next e at)) (all_of_both is.written put));
       }
 
--- ---- the next event
+-- ---- the next print
 
-module _ {P : Program} {I : Input} {m : Seen} {old mid : SinkState} (told : IsTold P I) (is : IsPrinting P I m old mid) {next : Seen} {e : Event} (c : ComesTo m next e) where
+module _ {P : Program} {I : Input} {m : Seen} {old mid : SinkState} (told : IsTold P I) (is : IsPrinting P I m old mid) {next : Seen} {e : Event} (c : ComesToPrint m next e) where
   -- before the step that has the event
   before_event : IsPrinting P I c.before old mid
   before_event = record {
-    on = goes_quietly is.on c.quiet;
-    written = subst (λ text. AppendsAll old mid text) (sym (same_output is.on c.quiet)) is.written;
+    on = goes_silently is.on c.silent;
+    written = subst (λ text. AppendsAll old mid text) (sym (same_output is.on c.silent)) is.written;
   }
 
   pub prints_last : (ending : Ending) → ending_by e ≡ Some ending → HasPrinted P I old mid ending
-  prints_last ending ends = printed told before_event e ending (event_there told is.on c) ends
+  prints_last ending ends = printed told before_event e ending (print_there told is.on c) ends
 
   pub fails_next : (new : SinkState) → AppendsPrefix mid new (printed_by e) → HasFailed P I old new
-  fails_next new put = failed told before_event e new (event_there told is.on c) put
+  fails_next new put = failed told before_event e new (print_there told is.on c) put
 
   pub prints_next : (new : SinkState) → ending_by e ≡ None → AppendsAll mid new (printed_by e) → IsPrinting P I next old new
   prints_next new goes put =
-      subst (λ (n : Seen). IsPrinting P I n old new) (sym c.step) (more told before_event e new (event_there told is.on c) goes put)
+      subst (λ (n : Seen). IsPrinting P I n old new) (sym c.step) (more told before_event e new (print_there told is.on c) goes put)
 
 starts_silent : (P : Program) (I : Input) → (run P I 0).world.output ≡ []
 unfolding run

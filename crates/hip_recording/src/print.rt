@@ -8,7 +8,7 @@ ghost use Rattle.hip_recording.specs.Printing.{Prints};
 
 use crate::delivery::out_of_memory;
 use crate::refusal::RecordRefusal;
-use hip_engine::Machine;
+use hip_engine::Runner;
 use hip_invariants::runs_are_bounded;
 use hip_io::{Put, Sink};
 use hip_lockstep::ending_of;
@@ -20,7 +20,7 @@ use std::alloc::Global;
 
 /// Runs a program on an input, and writes what it prints: each number in signed decimal with a line feed. The numbers
 /// are put as they are printed, and delivered at the end and before a refusal, so that after a refusal out has a front
-/// of the run's text. The machine alone takes memory.
+/// of the run's text. The runner alone takes memory.
 pub fn print_run<S: Sink>(
     alloc: Global,
     checked: &Checked,
@@ -34,20 +34,20 @@ pub fn print_run<S: Sink>(
     runs_end();
     runs_are_bounded();
     events_tell_output_and_ending();
-    let mut machine = match Machine::new(alloc, checked, input) {
-        Ok(machine) => machine,
+    let mut runner = match Runner::new(alloc, checked, input) {
+        Ok(runner) => runner,
         Err(_) => return Err(out_of_memory(out)),
     };
-    print_whole(&mut machine, out)
+    print_whole(&mut runner, out)
 }
 
 // Puts what a run prints, and delivers it.
-fn print_whole<'a, S: Sink>(machine: &mut Machine<'a>, out: &mut S) -> Result<Ending, RecordRefusal>
-    requires { machine.old.taken ≡ 0 }
-    ensures prints { Prints machine.old.program machine.old.input (S.state out.old) (S.state out.new) result }
+fn print_whole<'a, S: Sink>(runner: &mut Runner<'a>, out: &mut S) -> Result<Ending, RecordRefusal>
+    requires { runner.old.taken ≡ 0 }
+    ensures prints { Prints runner.old.program runner.old.input (S.state out.old) (S.state out.new) result }
     ensures delivered { HoldsNothing result (S.held out.new) }
 {
-    match print_steps(machine, out) {
+    match print_steps(runner, out) {
         Ok(ending) => match out.deliver() {
             Put::Done => Ok(ending),
             Put::Failed => Err(RecordRefusal::WriteFault),
@@ -57,16 +57,16 @@ fn print_whole<'a, S: Sink>(machine: &mut Machine<'a>, out: &mut S) -> Result<En
     }
 }
 
-// Goes from event to event of a run, and puts what is printed in them.
-fn print_steps<'a, S: Sink>(machine: &mut Machine<'a>, out: &mut S) -> Result<Ending, RecordRefusal>
-    requires { machine.old.taken ≡ 0 }
-    ensures { Prints machine.old.program machine.old.input (S.state out.old) (S.state out.new) result }
+// Goes from print to print of a run, and puts what is printed.
+fn print_steps<'a, S: Sink>(runner: &mut Runner<'a>, out: &mut S) -> Result<Ending, RecordRefusal>
+    requires { runner.old.taken ≡ 0 }
+    ensures { Prints runner.old.program runner.old.input (S.state out.old) (S.state out.new) result }
 {
     runs_end();
     runs_are_bounded();
     events_tell_output_and_ending();
     'steps: loop {
-        let event = match machine.next_event() {
+        let event = match runner.next_print() {
             Ok(event) => event,
             Err(_) => return Err(RecordRefusal::NoMemory),
         };

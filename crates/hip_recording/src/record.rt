@@ -10,11 +10,11 @@ ghost use Rattle.hip_recording.specs.Steps.{HasEnded};
 
 use crate::delivery::out_of_memory;
 use crate::refusal::RecordRefusal;
-use hip_engine::Machine;
+use hip_cache::Machine;
 use hip_invariants::runs_are_bounded;
 use hip_io::{Put, Sink};
 use hip_lockstep::{Ended, ending_of, put_entry, put_header};
-use hip_report::{Findings, Tracker};
+use hip_report::{SharedFindings, Tracker};
 use hip_runs::{Ending, Input, events_tell_output_and_ending, longest, runs_end};
 use hip_sound::Checked;
 use hip_step::Begin;
@@ -25,7 +25,7 @@ use std::alloc::Global;
 pub struct Recorded {
     pub ending: Ending,
     pub entries: u128,
-    pub findings: Findings,
+    pub findings: SharedFindings,
 }
 
 /// Runs a program on an input, writes the trace of the run as `write_trace` does, and answers what the run found. Memory

@@ -8,7 +8,7 @@ ghost use Rattle.hip_recording.specs.Recording.{PutsTrace};
 
 use crate::delivery::out_of_memory;
 use crate::refusal::RecordRefusal;
-use hip_engine::Machine;
+use hip_engine::Runner;
 use hip_invariants::runs_are_bounded;
 use hip_io::{Put, Sink};
 use hip_lockstep::{Ended, ending_of, put_entry, put_header};
@@ -19,7 +19,7 @@ use std::alloc::Global;
 
 /// Runs a program on an input, and writes the trace of the run, a line for each entry. The entries are put as the steps
 /// are taken, and delivered at the end and before a refusal, so that after a refusal out has a front of the trace. The
-/// machine alone takes memory.
+/// runner alone takes memory.
 pub fn write_trace<S: Sink>(
     alloc: Global,
     checked: &Checked,
@@ -30,40 +30,40 @@ pub fn write_trace<S: Sink>(
     ensures trace { PutsTrace checked.now input.now (S.state out.old) (S.state out.new) result }
     ensures delivered { HoldsNothing result (S.held out.new) }
 {
-    let mut machine = match Machine::new(alloc, checked, input) {
-        Ok(machine) => machine,
+    let mut runner = match Runner::new(alloc, checked, input) {
+        Ok(runner) => runner,
         Err(_) => return Err(out_of_memory(out)),
     };
-    put_trace(&mut machine, out)
+    put_trace(&mut runner, out)
 }
 
 // Puts the trace of a run, and delivers it.
-fn put_trace<'a, S: Sink>(machine: &mut Machine<'a>, out: &mut S) -> Result<Ended, RecordRefusal>
-    requires { machine.old.taken ≡ 0 }
-    ensures trace { PutsTrace machine.old.program machine.old.input (S.state out.old) (S.state out.new) result }
+fn put_trace<'a, S: Sink>(runner: &mut Runner<'a>, out: &mut S) -> Result<Ended, RecordRefusal>
+    requires { runner.old.taken ≡ 0 }
+    ensures trace { PutsTrace runner.old.program runner.old.input (S.state out.old) (S.state out.new) result }
     ensures delivered { HoldsNothing result (S.held out.new) }
 {
-    let _program = machine.checked().program();
-    match put_header(machine.input(), out) {
-        Ok(header) => put_steps(machine, header, out),
+    let _program = runner.checked().program();
+    match put_header(runner.input(), out) {
+        Ok(header) => put_steps(runner, header, out),
         Err(_) => Err(RecordRefusal::WriteFault),
     }
 }
 
 // Takes the steps of a run after its header, writes their entries and delivers them.
 fn put_steps<'a, S: Sink>(
-    machine: &mut Machine<'a>,
+    runner: &mut Runner<'a>,
     header: u128,
     out: &mut S,
 ) -> Result<Ended, RecordRefusal>
-    requires valid { IsValid machine.old.program machine.old.input }
-    requires fresh { machine.old.taken ≡ 0 }
-    requires counted { header ≡ length (header_of machine.old.input) }
-    ensures trace { (start : SinkState) → AppendsAll start (S.state out.old) (lines_of (header_of machine.old.input)) →
-        PutsTrace machine.old.program machine.old.input start (S.state out.new) result }
+    requires valid { IsValid runner.old.program runner.old.input }
+    requires fresh { runner.old.taken ≡ 0 }
+    requires counted { header ≡ length (header_of runner.old.input) }
+    ensures trace { (start : SinkState) → AppendsAll start (S.state out.old) (lines_of (header_of runner.old.input)) →
+        PutsTrace runner.old.program runner.old.input start (S.state out.new) result }
     ensures delivered { HoldsNothing result (S.held out.new) }
 {
-    match put_entries(machine, header, out) {
+    match put_entries(runner, header, out) {
         Ok(ended) => match out.deliver() {
             Put::Done => Ok(ended),
             Put::Failed => Err(RecordRefusal::WriteFault),
@@ -75,24 +75,24 @@ fn put_steps<'a, S: Sink>(
 
 // Goes from event to event of a run after its header, and writes their entries. No other step has one.
 fn put_entries<'a, S: Sink>(
-    machine: &mut Machine<'a>,
+    runner: &mut Runner<'a>,
     mut entries: u128,
     out: &mut S,
 ) -> Result<Ended, RecordRefusal>
-    requires valid { IsValid machine.old.program machine.old.input }
-    requires fresh { machine.old.taken ≡ 0 }
-    requires counted { entries ≡ length (header_of machine.old.input) }
-    ensures { (start : SinkState) → AppendsAll start (S.state out.old) (lines_of (header_of machine.old.input)) →
-        PutsTrace machine.old.program machine.old.input start (S.state out.new) result }
+    requires valid { IsValid runner.old.program runner.old.input }
+    requires fresh { runner.old.taken ≡ 0 }
+    requires counted { entries ≡ length (header_of runner.old.input) }
+    ensures { (start : SinkState) → AppendsAll start (S.state out.old) (lines_of (header_of runner.old.input)) →
+        PutsTrace runner.old.program runner.old.input start (S.state out.new) result }
 {
     runs_end();
     runs_are_bounded();
     events_tell_output_and_ending();
     // No body has 2^64 instructions, so that the entries can be counted.
-    let program = machine.checked().program();
+    let program = runner.checked().program();
     let _most = longest(program);
     'steps: loop {
-        let event = match machine.next_event() {
+        let event = match runner.next_event() {
             Ok(event) => event,
             Err(_) => return Err(RecordRefusal::NoMemory),
         };

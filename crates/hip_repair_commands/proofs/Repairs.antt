@@ -35,9 +35,9 @@ module _ (P : Program) (I : Input) (found : Findings) (repair : Repair) (is : Is
   row : HasRepaired P I found answer
   row = record {
     status_is = refl;
-    out_is = ap show is.program_is;
+    out_is = ap show is.applied.program_is;
     notes_is =
-        ap (λ (cs : List CloneOf). repair_counts (length found.reports) repair.plan (length cs)) is.clones_are
+        ap (λ (cs : List CloneOf). repair_counts (length found.reports) repair.plan (length cs)) is.applied.clones_are
         ∙ ap (λ (plan : Plan). repair_counts (length found.reports) plan (length (clone_numbers P (plan_for P found))))
         is.plan_is;
     cured = cured;

@@ -23,7 +23,7 @@ fn report_findings<S: Sink, N: Sink>(
         (sinks (S.state out.old) (S.state out.new) (N.state notes.old) (N.state notes.new)) result }
     ensures delivered { S.held out.old ≡ 0 → IsDelivered result (S.held out.new) }
 {
-    let reports = replayed.findings.reports.as_slice();
+    let reports = replayed.findings.reports();
     match put_reports(out, checked.program(), reports) {
         Put::Done => {
             let tried = put_check_counts(notes, reports.len());

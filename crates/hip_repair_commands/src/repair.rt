@@ -38,7 +38,7 @@ fn put_repair<S: Sink, N: Sink>(
     let _program = checked.program();
     match write(repair.repaired.checked.program(), out) {
         Ok(()) => {
-            let reports = replayed.findings.reports.len();
+            let reports = replayed.findings.reports().len();
             let clones = repair.repaired.clones.len();
             let tried = put_repair_counts(notes, reports, &repair.plan, clones);
             finish(notes, tried, Status::Done)

@@ -40,8 +40,8 @@ fn run_repair<S: Sink, N: Sink>(
     let _program = checked.program();
     match record_run(alloc, &repair.repaired.checked, &replayed.input, out) {
         Ok(recorded) => {
-            let before = replayed.findings.reports.len();
-            let after = recorded.findings.reports.len();
+            let before = replayed.findings.reports().len();
+            let after = recorded.findings.reports().len();
             let tried = put_rerun_counts(notes, before, after);
             finish(notes, tried, Status::Done)
         }

@@ -1,13 +1,14 @@
 //! The lines of reports and of counts, byte by byte, and cut by a sink that is full.
 
-use crate::programs::{Place, checked, site, sites};
+use crate::programs::{Place, checked, path, site, sites};
 use hip_examples::{AMPLE, EVEN_AND_ODD, KEY_VALUE_LOG, ONE_STORE};
+use hip_findings::{SharedReport, SharedReports, StoreReport};
 use hip_io::{MemSink, Put};
 use hip_repairs::Plan;
 use hip_report_lines::{
     put_check_counts, put_repair_counts, put_reports, put_rerun_counts, write_report,
 };
-use hip_runs::{Kind, Report};
+use hip_runs::Kind;
 use hip_sound::Checked;
 use hip_types::Row;
 use std::alloc::Global;
@@ -19,24 +20,30 @@ struct Case {
     entries: (u128, u128),
     kind: Kind,
     flush: Option<Place>,
-    path: &'static [Place],
+    store: Place,
+    calls: &'static [Place],
     closed: usize,
     line: &'static str,
 }
 
-fn report(rt: &impl Abort, alloc: Global, case: &Case) -> Report {
-    Report {
+fn found(rt: &impl Abort, alloc: Global, case: &Case) -> StoreReport {
+    StoreReport {
         entry: case.entries.0,
-        check_entry: case.entries.1,
         kind: case.kind,
         flush_site: case.flush.map(site),
-        path: sites(rt, alloc, case.path),
+        path: path(rt, alloc, case.store, case.calls),
         closed: case.closed,
     }
 }
 
 /// Each sink that is shorter than a line takes a front of it.
-fn assert_cut(rt: &impl Abort, alloc: Global, program: &Checked, report: &Report, line: &[u8]) {
+fn assert_cut(
+    rt: &impl Abort,
+    alloc: Global,
+    program: &Checked,
+    report: &SharedReport<'_>,
+    line: &[u8],
+) {
     for room in 0..line.len() as u64 {
         let mut short = MemSink::new(alloc, room).expect(rt, AMPLE);
         assert!(rt;
@@ -48,7 +55,8 @@ fn assert_cut(rt: &impl Abort, alloc: Global, program: &Checked, report: &Report
 }
 
 fn assert_line(rt: &impl Abort, alloc: Global, program: &Checked, case: &Case) {
-    let report = report(rt, alloc, case);
+    let found = found(rt, alloc, case);
+    let report = SharedReport::new(case.entries.1, &found);
     let line = case.line.as_bytes();
     assert_cut(rt, alloc, program, &report, line);
     let mut sink = MemSink::new(alloc, line.len() as u64).expect(rt, AMPLE);
@@ -67,7 +75,8 @@ const OF_ONE_STORE: [Case; 1] = [Case {
     entries: (3, 4),
     kind: Kind::MissingBoth,
     flush: None,
-    path: &[(0, 0, 0)],
+    store: (0, 0, 0),
+    calls: &[],
     closed: 0,
     line: "report both entry 3 check 4 closed 0 path @main:entry:0\n",
 }];
@@ -77,7 +86,8 @@ const OF_EVEN_AND_ODD: [Case; 2] = [
         entries: (4, 5),
         kind: Kind::MissingBoth,
         flush: None,
-        path: &[(1, 1, 0), (0, 1, 2), (2, 0, 2)],
+        store: (1, 1, 0),
+        calls: &[(0, 1, 2), (2, 0, 2)],
         closed: 2,
         line: "report both entry 4 check 5 closed 2 path @odd:more:0 @even:more:2 @main:entry:2\n",
     },
@@ -85,9 +95,10 @@ const OF_EVEN_AND_ODD: [Case; 2] = [
         entries: (340_282_366_920_938_463_463_374_607_431_768_211_455, 1),
         kind: Kind::MissingFlush,
         flush: None,
-        path: &[],
+        store: (1, 1, 0),
+        calls: &[],
         closed: 0,
-        line: "report flush entry 340282366920938463463374607431768211455 check 1 closed 0 path\n",
+        line: "report flush entry 340282366920938463463374607431768211455 check 1 closed 0 path @odd:more:0\n",
     },
 ];
 
@@ -96,7 +107,8 @@ const OF_KEY_VALUE_LOG: [Case; 4] = [
         entries: (7, 243),
         kind: Kind::MissingFlush,
         flush: None,
-        path: &[(1, 0, 1), (2, 1, 6)],
+        store: (1, 0, 1),
+        calls: &[(2, 1, 6)],
         closed: 1,
         line: "report flush entry 7 check 243 closed 1 path @fill:entry:1 @main:loop:6\n",
     },
@@ -104,7 +116,8 @@ const OF_KEY_VALUE_LOG: [Case; 4] = [
         entries: (237, 243),
         kind: Kind::MissingFlush,
         flush: None,
-        path: &[(2, 1, 3)],
+        store: (2, 1, 3),
+        calls: &[],
         closed: 0,
         line: "report flush entry 237 check 243 closed 0 path @main:loop:3\n",
     },
@@ -112,7 +125,8 @@ const OF_KEY_VALUE_LOG: [Case; 4] = [
         entries: (239, 243),
         kind: Kind::MissingFence,
         flush: Some((0, 0, 3)),
-        path: &[(0, 0, 2), (2, 1, 5)],
+        store: (0, 0, 2),
+        calls: &[(2, 1, 5)],
         closed: 1,
         line: "report fence entry 239 check 243 closed 1 flush @take_slot:entry:3 path @take_slot:entry:2 @main:loop:5\n",
     },
@@ -120,7 +134,8 @@ const OF_KEY_VALUE_LOG: [Case; 4] = [
         entries: (242, 243),
         kind: Kind::MissingBoth,
         flush: None,
-        path: &[(1, 0, 3), (2, 1, 6)],
+        store: (1, 0, 3),
+        calls: &[(2, 1, 6)],
         closed: 1,
         line: "report both entry 242 check 243 closed 1 path @fill:entry:3 @main:loop:6\n",
     },
@@ -137,18 +152,26 @@ const LINES_OF_TWO: &str = "report flush entry 237 check 243 closed 0 path @main
 report both entry 242 check 243 closed 1 path @fill:entry:3 @main:loop:6
 ";
 
-/// These two reports of the log.
-fn two_reports(rt: &impl Abort, alloc: Global) -> Row<Report> {
-    let mut reports = Row::new(alloc);
-    let flush = report(rt, alloc, &OF_KEY_VALUE_LOG[1]);
-    reports.push(flush).expect(rt, AMPLE);
-    let both = report(rt, alloc, &OF_KEY_VALUE_LOG[3]);
-    reports.push(both).expect(rt, AMPLE);
+/// These two reports of the log, of one check.
+fn two_reports(rt: &impl Abort, alloc: Global) -> SharedReports {
+    let mut stores = Row::new(alloc);
+    let flush = found(rt, alloc, &OF_KEY_VALUE_LOG[1]);
+    stores.push(flush).expect(rt, AMPLE);
+    let both = found(rt, alloc, &OF_KEY_VALUE_LOG[3]);
+    stores.push(both).expect(rt, AMPLE);
+    let mut reports = SharedReports::new(alloc);
+    reports.push(alloc, 243, stores).expect(rt, AMPLE);
     reports
 }
 
 /// These reports have these lines.
-fn assert_put(rt: &impl Abort, alloc: Global, program: &Checked, reports: &[Report], lines: &str) {
+fn assert_put(
+    rt: &impl Abort,
+    alloc: Global,
+    program: &Checked,
+    reports: &SharedReports,
+    lines: &str,
+) {
     let mut sink = MemSink::new(alloc, 1_000).expect(rt, AMPLE);
     let put = put_reports(&mut sink, program.program(), reports);
     assert!(rt; put == Put::Done);
@@ -160,7 +183,7 @@ fn assert_put(rt: &impl Abort, alloc: Global, program: &Checked, reports: &[Repo
 fn lines_of_two_reports(rt: HostRuntime) {
     let program = checked(&rt, rt.alloc(), KEY_VALUE_LOG);
     let reports = two_reports(&rt, rt.alloc());
-    assert_put(&rt, rt.alloc(), &program, reports.as_slice(), LINES_OF_TWO);
+    assert_put(&rt, rt.alloc(), &program, &reports, LINES_OF_TWO);
 }
 
 const COUNTS: &str = "reports 82

@@ -1,20 +1,22 @@
 //! Scores, levels and plans for given findings.
 
-use crate::programs::{Place, checked, site, sites};
+use crate::programs::{Place, checked, path, site, sites};
 use hip_examples::{AMPLE, ASSERT_INSIDE_CALLEE, COPY, EVEN_AND_ODD, KEY_VALUE_LOG};
+use hip_findings::{SharedFindings, SharedReport, SharedReports, StoreReport};
 use hip_fix::suits;
 use hip_plan::{choose, plan, score};
-use hip_runs::{Findings, Kind, Mark, Marks, Object, Report};
+use hip_runs::{Kind, Mark, Marks, Object};
 use hip_sound::Checked;
 use hip_types::Row;
 use std::alloc::Global;
 use std::process::Abort;
 
-/// A report of a store at the first place, made by the calls at the others, of which so many had returned.
+/// A report of a store, made in these calls, and how many of them had returned.
 struct Found {
     kind: Kind,
     entries: (u128, u128),
-    path: &'static [Place],
+    store: Place,
+    calls: &'static [Place],
     closed: usize,
     // The level that is chosen for it.
     level: usize,
@@ -170,7 +172,8 @@ const CASES: &[Case] = &[
         found: &[Found {
             kind: Kind::MissingBoth,
             entries: (3, 4),
-            path: &[(0, 0, 1), (1, 0, 4)],
+            store: (0, 0, 1),
+            calls: &[(1, 0, 4)],
             closed: 1,
             level: 1,
         }],
@@ -188,20 +191,22 @@ const CASES: &[Case] = &[
         hoists: &[(1, 0, 4)],
     },
     Case {
-        name: "a check inside of the function, and one behind its call",
+        name: "a check inside of the function, and one after its call",
         program: ASSERT_INSIDE_CALLEE,
         found: &[
             Found {
                 kind: Kind::MissingBoth,
                 entries: (3, 4),
-                path: &[(0, 0, 1), (1, 0, 0)],
+                store: (0, 0, 1),
+                calls: &[(1, 0, 0)],
                 closed: 0,
                 level: 0,
             },
             Found {
                 kind: Kind::MissingBoth,
                 entries: (3, 5),
-                path: &[(0, 0, 1), (1, 0, 0)],
+                store: (0, 0, 1),
+                calls: &[(1, 0, 0)],
                 closed: 1,
                 level: 0,
             },
@@ -223,7 +228,8 @@ const CASES: &[Case] = &[
         found: &[Found {
             kind: Kind::MissingFlush,
             entries: (3, 5),
-            path: &[(0, 0, 1), (1, 0, 0)],
+            store: (0, 0, 1),
+            calls: &[(1, 0, 0)],
             closed: 1,
             level: 0,
         }],
@@ -240,7 +246,8 @@ const CASES: &[Case] = &[
         found: &[Found {
             kind: Kind::MissingBoth,
             entries: (4, 5),
-            path: &[(1, 1, 0), (0, 1, 2), (2, 0, 2)],
+            store: (1, 1, 0),
+            calls: &[(0, 1, 2), (2, 0, 2)],
             closed: 2,
             level: 2,
         }],
@@ -257,21 +264,22 @@ const CASES: &[Case] = &[
     },
 ];
 
-fn report(rt: &impl Abort, alloc: Global, found: &Found) -> Report {
-    Report {
+fn store(rt: &impl Abort, alloc: Global, found: &Found) -> StoreReport {
+    StoreReport {
         entry: found.entries.0,
-        check_entry: found.entries.1,
         kind: found.kind,
         flush_site: None,
-        path: sites(rt, alloc, found.path),
+        path: path(rt, alloc, found.store, found.calls),
         closed: found.closed,
     }
 }
 
-fn reports(rt: &impl Abort, alloc: Global, found: &[Found]) -> Row<Report> {
-    let mut reports = Row::new(alloc);
+fn reports(rt: &impl Abort, alloc: Global, found: &[Found]) -> SharedReports {
+    let mut reports = SharedReports::new(alloc);
     for one in found {
-        reports.push(report(rt, alloc, one)).expect(rt, AMPLE);
+        let mut stores = Row::new(alloc);
+        stores.push(store(rt, alloc, one)).expect(rt, AMPLE);
+        reports.push(alloc, one.entries.1, stores).expect(rt, AMPLE);
     }
     reports
 }
@@ -304,7 +312,7 @@ fn assert_planned(
     rt: &impl Abort,
     alloc: Global,
     checked: &Checked,
-    findings: &Findings,
+    findings: &SharedFindings,
     case: &Case,
 ) {
     let plan = plan(alloc, checked, findings).expect(rt, AMPLE);
@@ -330,11 +338,12 @@ fn assert_levels(
     rt: &impl Abort,
     alloc: Global,
     checked: &Checked,
-    findings: &Findings,
+    findings: &SharedFindings,
     case: &Case,
 ) {
     for found in case.found {
-        let report = report(rt, alloc, found);
+        let store = store(rt, alloc, found);
+        let report = SharedReport::new(found.entries.1, &store);
         assert!(rt;
             choose(checked, findings, &report) == found.level,
             "{}",
@@ -343,7 +352,7 @@ fn assert_levels(
     }
 }
 
-fn assert_scores(rt: &impl Abort, checked: &Checked, findings: &Findings, case: &Case) {
+fn assert_scores(rt: &impl Abort, checked: &Checked, findings: &SharedFindings, case: &Case) {
     for (place, expected) in case.scores {
         assert!(rt;
             score(checked, findings, site(*place)) == *expected,
@@ -355,10 +364,10 @@ fn assert_scores(rt: &impl Abort, checked: &Checked, findings: &Findings, case: 
 
 fn assert_case(rt: &impl Abort, alloc: Global, case: &Case) {
     let checked = checked(rt, alloc, case.program);
-    let findings = Findings {
-        reports: reports(rt, alloc, case.found),
-        marks: marks(rt, alloc, case.pointed, case.hit),
-    };
+    let findings = SharedFindings::new(
+        reports(rt, alloc, case.found),
+        marks(rt, alloc, case.pointed, case.hit),
+    );
     assert_scores(rt, &checked, &findings, case);
     assert_levels(rt, alloc, &checked, &findings, case);
     assert_planned(rt, alloc, &checked, &findings, case);
@@ -431,25 +440,23 @@ const LOG: &Case = &Case {
 };
 
 /// A report of a store that the call at place 6 of the loop makes, at that place of the function between.
-fn filled(rt: &impl Abort, alloc: Global, entry: u128, kind: Kind, index: usize) -> Report {
-    Report {
+fn filled(rt: &impl Abort, alloc: Global, entry: u128, kind: Kind, index: usize) -> StoreReport {
+    StoreReport {
         entry,
-        check_entry: 243,
         kind,
         flush_site: None,
-        path: sites(rt, alloc, &[(1, 0, index), (2, 1, 6)]),
+        path: path(rt, alloc, (1, 0, index), &[(2, 1, 6)]),
         closed: 1,
     }
 }
 
 /// The report of the store of `@head`, whose flush lacks a fence.
-fn unfenced(rt: &impl Abort, alloc: Global) -> Report {
-    Report {
+fn unfenced(rt: &impl Abort, alloc: Global) -> StoreReport {
+    StoreReport {
         entry: 239,
-        check_entry: 243,
         kind: Kind::MissingFence,
         flush_site: Some(site((0, 0, 3))),
-        path: sites(rt, alloc, &[(0, 0, 2), (2, 1, 5)]),
+        path: path(rt, alloc, (0, 0, 2), &[(2, 1, 5)]),
         closed: 1,
     }
 }
@@ -458,43 +465,45 @@ fn unfenced(rt: &impl Abort, alloc: Global) -> Report {
 const COUNT: Found = Found {
     kind: Kind::MissingFlush,
     entries: (237, 243),
-    path: &[(2, 1, 3)],
+    store: (2, 1, 3),
+    calls: &[],
     closed: 0,
     level: 0,
 };
 
-/// The reports of the run of `KEY_VALUE_LOG`, in the order of their stores.
-fn logged(rt: &impl Abort, alloc: Global) -> Row<Report> {
-    let mut reports = Row::new(alloc);
+/// What the check at the end of the run of `KEY_VALUE_LOG` finds, in the order of the stores.
+fn logged(rt: &impl Abort, alloc: Global) -> Row<StoreReport> {
+    let mut stores = Row::new(alloc);
     for turn in 0..39u64 {
         let first = 7 + 6 * u128::from(turn);
         let key = filled(rt, alloc, first, Kind::MissingFlush, 1);
-        reports.push(key).expect(rt, AMPLE);
+        stores.push(key).expect(rt, AMPLE);
         let value = filled(rt, alloc, first + 1, Kind::MissingFlush, 3);
-        reports.push(value).expect(rt, AMPLE);
+        stores.push(value).expect(rt, AMPLE);
     }
-    reports.push(report(rt, alloc, &COUNT)).expect(rt, AMPLE);
-    reports.push(unfenced(rt, alloc)).expect(rt, AMPLE);
+    stores.push(store(rt, alloc, &COUNT)).expect(rt, AMPLE);
+    stores.push(unfenced(rt, alloc)).expect(rt, AMPLE);
     let key = filled(rt, alloc, 241, Kind::MissingBoth, 1);
-    reports.push(key).expect(rt, AMPLE);
+    stores.push(key).expect(rt, AMPLE);
     let value = filled(rt, alloc, 242, Kind::MissingBoth, 3);
-    reports.push(value).expect(rt, AMPLE);
-    reports
+    stores.push(value).expect(rt, AMPLE);
+    stores
 }
 
 /// What the tracker finds in the run of `KEY_VALUE_LOG`.
-fn log_findings(rt: &impl Abort, alloc: Global) -> Findings {
-    Findings {
-        reports: logged(rt, alloc),
-        marks: marks(rt, alloc, LOG.pointed, LOG.hit),
-    }
+fn log_findings(rt: &impl Abort, alloc: Global) -> SharedFindings {
+    let mut reports = SharedReports::new(alloc);
+    reports
+        .push(alloc, 243, logged(rt, alloc))
+        .expect(rt, AMPLE);
+    SharedFindings::new(reports, marks(rt, alloc, LOG.pointed, LOG.hit))
 }
 
 #[test]
 fn key_value_log(rt: HostRuntime) {
     let checked = checked(&rt, rt.alloc(), KEY_VALUE_LOG);
     let findings = log_findings(&rt, rt.alloc());
-    assert!(rt; findings.reports.len() == 82);
+    assert!(rt; findings.reports().len() == 82);
     assert_scores(&rt, &checked, &findings, LOG);
     assert_planned(&rt, rt.alloc(), &checked, &findings, LOG);
 }

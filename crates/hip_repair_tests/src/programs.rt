@@ -1,6 +1,7 @@
 //! Programs of texts, sites in them, and how they are written.
 
 use hip_examples::AMPLE;
+use hip_findings::{CallPath, SharedPath};
 use hip_io::MemSink;
 use hip_parse::parse;
 use hip_sound::Checked;
@@ -10,6 +11,7 @@ use hip_typing::check;
 use hip_write::write;
 use std::alloc::Global;
 use std::process::Abort;
+use std::rc::Rc;
 
 /// The program of a text that is sound.
 pub fn checked(rt: &impl Abort, alloc: Global, text: &str) -> Checked {
@@ -34,6 +36,25 @@ pub fn sites(rt: &impl Abort, alloc: Global, places: &[Place]) -> Row<Site> {
         sites.push(site(*place)).expect(rt, AMPLE);
     }
     sites
+}
+
+/// The calls at these places, at most two, the innermost one first.
+fn calls(rt: &impl Abort, alloc: Global, places: &[Place]) -> Rc<CallPath> {
+    let none = CallPath::none(alloc).expect(rt, AMPLE);
+    match places {
+        [] => none,
+        [call] => CallPath::inside(alloc, site(*call), 0, 1, none).expect(rt, AMPLE),
+        [inner, outer, ..] => {
+            let outer = CallPath::inside(alloc, site(*outer), 0, 1, none).expect(rt, AMPLE);
+            CallPath::inside(alloc, site(*inner), 1, 2, outer).expect(rt, AMPLE)
+        }
+    }
+}
+
+/// The path of a store, made in the calls at these places, at most two.
+pub fn path(rt: &impl Abort, alloc: Global, store: Place, places: &[Place]) -> SharedPath {
+    let calls = calls(rt, alloc, places);
+    SharedPath::new(site(store), &calls).expect(rt, AMPLE)
 }
 
 /// The program is written so.

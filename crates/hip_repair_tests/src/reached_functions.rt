@@ -85,7 +85,7 @@ fn many_functions_in_a_chain(rt: HostRuntime) {
     assert_eq!(rt; names.len(), MANY - 1);
 }
 
-/// A function that calls another so often, and that one.
+/// A function that calls another this many times, and the other one.
 fn two_functions(rt: &impl Abort, alloc: Global) -> Program {
     let mut functions = Row::new(alloc);
     functions

@@ -25,7 +25,7 @@ fn plan(
     }
 }
 
-/// The plan suits, and the program of the one text repaired by it is the other text, with so many clones.
+/// The plan suits, and the program of the one text repaired by it is the other text, with this many clones.
 fn assert_repaired(
     rt: &impl Abort,
     alloc: Global,

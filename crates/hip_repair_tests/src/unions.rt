@@ -84,11 +84,11 @@ fn assert_union(rt: &impl Abort, alloc: Global, union: &Plan, case: &Case) {
 }
 
 fn assert_reasons(rt: &impl Abort, alloc: Global, plans: &[Plan], union: &Plan, case: &Case) {
-    let told = reasons(alloc, plans, union).expect(rt, AMPLE);
+    let found = reasons(alloc, plans, union).expect(rt, AMPLE);
     let mut expected = Row::new(alloc);
     push_reasons(rt, Sort::Flush, case.united, &mut expected);
     push_reasons(rt, Sort::Fence, case.united, &mut expected);
-    assert!(rt; told.as_slice() == expected.as_slice(), "{}", case.name);
+    assert!(rt; found.as_slice() == expected.as_slice(), "{}", case.name);
 }
 
 fn assert_case(rt: &impl Abort, alloc: Global, case: &Case) {

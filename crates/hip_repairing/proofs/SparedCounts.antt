@@ -1,47 +1,28 @@
 -- The count of spared stores, by lists and by their definition.
 use Rattle.std.proofs.Common.{◌≡◌, ◌+◌, ◌<◌, ◌≤◌, ℕ, suc, Bool, true, false, cond, not, ◌&&◌, ◌||◌, nat_eq, List, [], ◌∷◌, ◌++◌, length, drop, get_or, Option, Some, None, refl, sym, ap, ◌∙◌, subst}
 use Rattle.std.specs.Prelude.{if◌then◌else◌}
-use Rattle.std.specs.Cmp.{both_ways}
 use Rattle.std.specs.List.{filter, list_any}
 use Rattle.std.proofs.Math.ListN.{drop_of_length-le}
 use Rattle.std.proofs.lemmas.List.{drop_more}
 use Rattle.std.proofs.lemmas.List.Folds.{list_any-append}
-use Rattle.hip_tree.specs.Sites.{has_site, instr_of, sites_of}
-use Rattle.hip_tree.specs.declared.instr.Instr.{Instr}
+use Rattle.hip_tree.specs.Sites.{has_site, sites_of}
 use Rattle.hip_tree.specs.declared.program.Program.{Program}
 use Rattle.hip_tree.specs.declared.site.Site.{Site}
 use Rattle.hip_repairs.specs.CloneNumbers.{clone_numbers, numbered_from}
 use Rattle.hip_repairs.specs.Direct.{direct, stores_outside}
-use Rattle.hip_repairs.specs.Laws.SiteOrder.{filtered_has, filtered_in, has_in, site_in}
+use Rattle.hip_sites.specs.Laws.PassingLaws.{listed}
 use Rattle.hip_repairs.specs.Repaired.{cloned}
 use Rattle.hip_repairs.specs.declared.plan.CloneOf.{CloneOf}
 use Rattle.hip_repairs.specs.declared.plan.Plan.{Plan}
 use Rattle.hip_runs.specs.Laws.Members.{equal_true}
 use Rattle.hip_runs.specs.Places.{blocks_of}
 use Rattle.hip_repairing.specs.Spared.{has_original, is_spared, is_spared_by, spared_count}
-use Rattle.hip_levels.specs.LowStores.{least_levels, low_stores, stores_low}
+use Rattle.hip_levels.specs.LowStores.{low_stores}
 
--- ---- sets of stores, by the lists of their sites
+-- ---- stores, by the lists of their sites
 
--- a test that no site without an instruction passes is that of the list of the sites that pass it
-pub listed : (P : Program) (test : Site → Bool) → ((s : Site) → instr_of P s ≡ None → test s ≡ false)
-    → (s : Site) → has_site (filter test (sites_of P)) s ≡ test s
-listed P test none s =
-    both_ways _ _ (λ e. (filtered_in test (sites_of P) s (has_in (filter test (sites_of P)) s e)).1)
-    (λ e. there (instr_of P s) refl e)
-  where
-    there : (o : Option Instr) → instr_of P s ≡ o → test s ≡ true → has_site (filter test (sites_of P)) s ≡ true
-    there None e h = absurd (never (sym (none s e) ∙ h))
-      where
-        never : false ≡ true → ⊥
-        never e = cc
-    there (Some i) e h = filtered_has test (sites_of P) s (site_in P s i e) h
-
-pub direct_listed : (P : Program) (s : Site) → has_site (filter (direct P) (sites_of P)) s ≡ direct P s
+direct_listed : (P : Program) (s : Site) → has_site (filter (direct P) (sites_of P)) s ≡ direct P s
 direct_listed P = listed P (direct P) (λ s e. ap (stores_outside P (blocks_of P s.function)) e)
-
-pub low_listed : (P : Program) (s : Site) → has_site (filter (low_stores P) (sites_of P)) s ≡ low_stores P s
-low_listed P = listed P (low_stores P) (λ s e. ap (stores_low P (least_levels P) s.function) e)
 
 -- ---- cloned functions
 
@@ -122,16 +103,16 @@ filtered_twice first second both is (s ∷ sites) =
 
 pub counted : (P : Program) (plan : Plan) (functions : List ℕ)
     → ((f : ℕ) → list_any (nat_eq f) functions ≡ has_original (clone_numbers P plan) f)
-    → length (filter (is_spared_by functions (filter (direct P) (sites_of P)) plan.flush_after)
+    → length (filter (is_spared_by functions (has_site (filter (direct P) (sites_of P))) (has_site plan.flush_after))
     (filter (low_stores P) (sites_of P)))
     ≡ spared_count P plan
 counted P plan functions are =
     ap (λ (sites : List Site). length sites)
-    (filtered_twice (low_stores P) (is_spared_by functions (filter (direct P) (sites_of P)) plan.flush_after)
+    (filtered_twice (low_stores P) (is_spared_by functions (has_site (filter (direct P) (sites_of P))) (has_site plan.flush_after))
     (is_spared P plan) same (sites_of P))
   where
     same : (s : Site) → is_spared P plan s
-        ≡ (low_stores P s && is_spared_by functions (filter (direct P) (sites_of P)) plan.flush_after s)
+        ≡ (low_stores P s && is_spared_by functions (has_site (filter (direct P) (sites_of P))) (has_site plan.flush_after) s)
     same s =
         let here : list_any (nat_eq s.function) (cloned P plan) ≡ list_any (nat_eq s.function) functions =
         sym (are s.function ∙ numbered (cloned P plan) (length P.functions) s.function) in

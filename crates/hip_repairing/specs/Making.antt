@@ -1,5 +1,6 @@
 -- The repairs as they are made.
 use Rattle.std.specs.Prelude.{◌≡◌, Bool, List}
+use Rattle.hip_fix.specs.Applied.{IsApplied}
 use Rattle.hip_levels.specs.LowStores.{low_stores}
 use Rattle.hip_many.specs.Reasons as many
 use Rattle.hip_many.specs.Union.{IsUnion}
@@ -8,20 +9,17 @@ use Rattle.hip_repairing.specs.declared.many_runs.ManyRepair.{ManyRepair}
 use Rattle.hip_repairing.specs.declared.one_run.Repair.{Repair}
 use Rattle.hip_repairing.specs.declared.thinning.Thinned.{Thinned}
 use Rattle.hip_repairs.specs.Choice.{Contains, plan_for}
-use Rattle.hip_repairs.specs.CloneNumbers.{clone_numbers}
 use Rattle.hip_repairs.specs.Direct.{direct}
-use Rattle.hip_repairs.specs.Repaired.{repaired}
 use Rattle.hip_repairs.specs.declared.plan.Plan.{Plan}
 use Rattle.hip_runs.specs.StoredParts.Parts.{In}
 use Rattle.hip_runs.specs.declared.report.Findings.{Findings}
 use Rattle.hip_tree.specs.declared.program.Program.{Program}
 use Rattle.hip_tree.specs.declared.site.Site.{Site}
 
--- The program is repaired by the plan, with these clones, which do not flush the stores to skip.
+-- the repair by this plan, whose clones do not flush the stores to skip
 pub record IsRepairBy (P : Program) (plan : Plan) (skip : Site → Bool) (repair : Repair) : Type 0 where
   pub plan_is : repair.plan ≡ plan
-  pub program_is : repair.repaired.checked ≡ repaired P plan skip
-  pub clones_are : repair.repaired.clones ≡ clone_numbers P plan
+  pub applied : IsApplied P plan skip repair.repaired
 
 -- the repair by the plan for what a run found; the clones do not flush the direct stores
 abbrev pub IsRepairFor : Program → Findings → Repair → Type 0

@@ -27,7 +27,6 @@ spared_count P plan = length (filter (is_spared P plan) (sites_of P))
 abbrev pub has_original : List CloneOf → ℕ → Bool
 has_original clones f = list_any (λ c. nat_eq f c.original) clones
 
--- the site is of a cloned function, and neither direct nor flushed, by the lists of these
-abbrev pub is_spared_by : List ℕ → List Site → List Site → Site → Bool
-is_spared_by cloned direct flushed s =
-    list_any (nat_eq s.function) cloned && not (has_site direct s) && not (has_site flushed s)
+-- the site is of one of these functions, and neither direct nor flushed, by these tests
+abbrev pub is_spared_by : List ℕ → (Site → Bool) → (Site → Bool) → Site → Bool
+is_spared_by cloned direct flushed s = list_any (nat_eq s.function) cloned && not (direct s) && not (flushed s)

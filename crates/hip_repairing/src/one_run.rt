@@ -3,10 +3,10 @@
 ghost use Rattle.std.specs.Prelude.{IfOk};
 ghost use Rattle.hip_repairing.specs.Making.{IsRepairFor};
 
+use hip_findings::SharedFindings;
 use hip_fix::apply;
 use hip_plan::plan;
 use hip_repairs::{Plan, Repaired};
-use hip_runs::Findings;
 use hip_sound::Checked;
 use hip_types::NoMemory;
 use std::alloc::Global;
@@ -19,7 +19,11 @@ pub struct Repair {
 }
 
 /// The plan for what a run found, and the program repaired by it.
-pub fn repair_for(alloc: Global, checked: &Checked, findings: &Findings) -> Result<Repair, NoMemory>
+pub fn repair_for(
+    alloc: Global,
+    checked: &Checked,
+    findings: &SharedFindings,
+) -> Result<Repair, NoMemory>
     ensures { IfOk result (λ repair. IsRepairFor checked.now findings.now repair) }
 {
     let plan = plan(alloc, checked, findings)?;

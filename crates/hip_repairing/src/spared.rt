@@ -2,14 +2,14 @@
 
 ghost use Rattle.std.specs.Prelude.{◌≡◌, ℕ, nat_eq, length, IfOk};
 ghost use Rattle.std.specs.List.{filter, list_any};
-ghost use Rattle.hip_tree.specs.Sites.{sites_of};
+ghost use Rattle.hip_tree.specs.Sites.{has_site, sites_of};
 ghost use Rattle.hip_repairs.specs.CloneNumbers.{clone_numbers};
 ghost use Rattle.hip_repairing.specs.Spared.{has_original, is_spared_by, spared_count};
 ghost use Rattle.hip_levels.specs.LowStores.{low_stores};
 
 use hip_fix::direct_stores;
-use hip_insertions::SiteSet;
 use hip_repairs::{CloneOf, Plan};
+use hip_sites::SiteSet;
 use hip_sound::Checked;
 use hip_tree::Site;
 use hip_types::NoMemory;
@@ -28,50 +28,46 @@ fn cloned_functions(alloc: Global, clones: &[CloneOf]) -> Result<IndexSet<usize>
     Ok(functions)
 }
 
-fn is_spared(
-    cloned: &IndexSet<usize>,
-    direct: &SiteSet<'_>,
-    flushed: &SiteSet<'_>,
-    site: Site,
-) -> bool
-    ensures { result ≡ is_spared_by cloned.now.keys direct.now flushed.now site }
+fn is_spared(cloned: &IndexSet<usize>, direct: &SiteSet, flushed: &SiteSet, site: Site) -> bool
+    ensures { result ≡ is_spared_by cloned.now.keys (has_site direct.now) (has_site flushed.now) site }
 {
     cloned.contains(&site.function) && !direct.contains(site) && !flushed.contains(site)
 }
 
 fn count_spared(
     cloned: &IndexSet<usize>,
-    direct: &SiteSet<'_>,
-    flushed: &SiteSet<'_>,
-    quiet: &[Site],
+    direct: &SiteSet,
+    flushed: &SiteSet,
+    low: &[Site],
 ) -> usize
-    ensures { result ≡ length (filter (is_spared_by cloned.now.keys direct.now flushed.now) quiet.now) }
+    ensures { result ≡ length (filter (is_spared_by cloned.now.keys (has_site direct.now) (has_site flushed.now)) low.now) }
 {
     let mut count = 0;
-    'each: for index in 0..quiet.len() {
-        if is_spared(cloned, direct, flushed, quiet[index]) {
+    'each: for index in 0..low.len() {
+        if is_spared(cloned, direct, flushed, low[index]) {
             count += 1;
         }
     }
     count
 }
 
-/// How many low stores of the functions with clones are neither direct nor flushed by the plan, by the list of the low
-/// stores and that of the clones. It takes time and memory linear in the program and the lists.
+/// How many low stores of the functions with clones are neither direct nor flushed by the plan, given the low stores and
+/// the clones. It takes memory linear in the program and the lists, and time linear in them except for the logarithm
+/// of the number of direct stores.
 pub fn spared_count(
     alloc: Global,
     checked: &Checked,
     plan: &Plan,
-    quiet: &[Site],
+    low: &[Site],
     clones: &[CloneOf],
 ) -> Result<usize, NoMemory>
-    requires quiet { quiet.now ≡ filter (low_stores checked.now) (sites_of checked.now) }
+    requires low { low.now ≡ filter (low_stores checked.now) (sites_of checked.now) }
     requires clones { clones.now ≡ clone_numbers checked.now plan.now }
     ensures { IfOk result (λ count. count ≡ spared_count checked.now plan.now) }
 {
     let cloned = cloned_functions(alloc, clones)?;
     let stores = direct_stores(alloc, checked.program())?;
-    let direct = SiteSet::new(alloc, stores.as_slice())?;
-    let flushed = SiteSet::new(alloc, plan.flush_after.as_slice())?;
-    Ok(count_spared(&cloned, &direct, &flushed, quiet))
+    let direct = SiteSet::of(alloc, stores.as_slice())?;
+    let flushed = SiteSet::of(alloc, plan.flush_after.as_slice())?;
+    Ok(count_spared(&cloned, &direct, &flushed, low))
 }

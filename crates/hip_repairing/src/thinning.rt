@@ -5,12 +5,11 @@ ghost use Rattle.hip_repairing.specs.Making.{IsThinnedFor};
 
 use crate::one_run::Repair;
 use crate::spared::spared_count;
-use hip_fix::apply_skipping;
-use hip_levels::quiet_stores;
+use hip_findings::SharedFindings;
 use hip_plan::plan;
-use hip_runs::Findings;
 use hip_sound::Checked;
 use hip_types::NoMemory;
+use hip_vol::{QuietRepair, quiet_repair};
 use std::alloc::Global;
 
 /// A repair, and how many stores its clones do not flush though they are not direct.
@@ -22,17 +21,20 @@ pub struct Thinned {
 
 /// The plan for what a run found, the program repaired by it whose clones do not flush the low stores, and the number
 /// of stores that are spared.
-pub fn thin_for(alloc: Global, checked: &Checked, findings: &Findings) -> Result<Thinned, NoMemory>
+pub fn thin_for(
+    alloc: Global,
+    checked: &Checked,
+    findings: &SharedFindings,
+) -> Result<Thinned, NoMemory>
     ensures { IfOk result (λ thinned. IsThinnedFor checked.now findings.now thinned) }
 {
     let plan = plan(alloc, checked, findings)?;
-    let quiet = quiet_stores(alloc, checked)?;
-    let repaired = apply_skipping(alloc, checked, &plan, quiet.as_slice())?;
+    let QuietRepair { repaired, low } = quiet_repair(alloc, checked, &plan)?;
     let spared = spared_count(
         alloc,
         checked,
         &plan,
-        quiet.as_slice(),
+        low.as_slice(),
         repaired.clones.as_slice(),
     )?;
     Ok(Thinned {

@@ -1,9 +1,10 @@
 //! A log of keys and values: 40 inserts, with a store that lacks something at most places.
 
-use crate::runs::{assert_reports, checked, in_chunks, input, record, replayed};
+use crate::runs::{checked, in_chunks, input, record, replayed};
 use hip_examples::{AMPLE, KEY_VALUE_LOG};
 use hip_io::MemSink;
 use hip_replay::Replayed;
+use hip_report_lines::write_report;
 use hip_runs::Ending;
 use hip_sound::Checked;
 use hip_step::Input;
@@ -59,10 +60,18 @@ fn assert_log(rt: &impl Abort, alloc: Global, checked: &Checked, input: &Input) 
 }
 
 fn assert_some(rt: &impl Abort, alloc: Global, checked: &Checked, found: &Replayed) {
-    let reports = found.findings.reports.as_slice();
+    let reports = found.findings.reports();
     assert_eq!(rt; reports.len(), 82);
-    assert_reports(rt, alloc, checked, &reports[..1], FIRST);
-    assert_reports(rt, alloc, checked, &reports[78..], LAST);
+    let mut first = MemSink::new(alloc, 2_000).expect(rt, AMPLE);
+    for report in reports.iter().take(1) {
+        assert!(rt; write_report(checked, &report, &mut first).is_ok());
+    }
+    assert_eq!(rt; first.bytes(), FIRST.as_bytes());
+    let mut last = MemSink::new(alloc, 2_000).expect(rt, AMPLE);
+    for report in reports.iter().skip(78) {
+        assert!(rt; write_report(checked, &report, &mut last).is_ok());
+    }
+    assert_eq!(rt; last.bytes(), LAST.as_bytes());
 }
 
 #[test]

@@ -78,8 +78,8 @@ fn counts_of(rt: &impl Abort, alloc: Global, checked: &Checked, out: &mut MemSin
     let recorded = record(rt, alloc, checked, &input, out);
     Counts {
         entries: recorded.entries,
-        reports: recorded.findings.reports.len(),
-        hit: recorded.findings.marks.hit.len(),
+        reports: recorded.findings.reports().len(),
+        hit: recorded.findings.marks().hit.len(),
     }
 }
 

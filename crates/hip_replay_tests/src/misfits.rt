@@ -257,7 +257,7 @@ fn assert_fits(rt: &impl Abort, alloc: Global, trace: &str, chunk: usize)
         rt,
         alloc,
         &checked,
-        found.findings.reports.as_slice(),
+        found.findings.reports(),
         "report both entry 3 check 4 closed 0 path @main:entry:0\n",
     );
 }

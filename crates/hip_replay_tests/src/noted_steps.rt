@@ -11,7 +11,7 @@ use hip_examples::{AMPLE, COPY};
 use hip_invariants::runs_are_bounded;
 use hip_io::MemSink;
 use hip_lockstep::put_header;
-use hip_report::{Findings, Mark, Tracker};
+use hip_report::{Mark, SharedFindings, Tracker};
 use hip_run_traces::traces_follow_the_run;
 use hip_sound::Checked;
 use hip_step::{Begin, Ending, Event, Input, Machine, Object, why_not};
@@ -372,7 +372,7 @@ fn found(
     checked: &Checked,
     input: &Input,
     case: &Noted,
-) -> Findings {
+) -> SharedFindings {
     assert!(rt; why_not(checked, input).is_none(), "the input is valid");
     let header = entries_before(rt, alloc, checked, input);
     let mut machine = Machine::new(alloc, checked, input).expect(rt, AMPLE);
@@ -381,14 +381,20 @@ fn found(
     tracker.close(&machine).expect(rt, AMPLE)
 }
 
-fn assert_found(rt: &impl Abort, alloc: Global, checked: &Checked, found: &Findings, case: &Noted) {
+fn assert_found(
+    rt: &impl Abort,
+    alloc: Global,
+    checked: &Checked,
+    found: &SharedFindings,
+    case: &Noted,
+) {
     assert!(rt;
-        found.marks.pointed.as_slice() == case.pointed,
+        found.marks().pointed.as_slice() == case.pointed,
         "{}",
         case.name
     );
-    assert!(rt; found.marks.hit.as_slice() == case.hit, "{}", case.name);
-    assert_reports(rt, alloc, checked, found.reports.as_slice(), case.reports);
+    assert!(rt; found.marks().hit.as_slice() == case.hit, "{}", case.name);
+    assert_reports(rt, alloc, checked, found.reports(), case.reports);
 }
 
 #[test]

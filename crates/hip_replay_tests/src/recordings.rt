@@ -39,7 +39,7 @@ fn assert_replayed(rt: &impl Abort, alloc: Global, checked: &Checked, case: &Rec
     let found = replayed(alloc, checked, &mut cabinet).expect(rt, case.trace);
     assert!(rt; found.entries == case.entries, "{}", case.trace);
     assert!(rt; found.ending == case.ending, "{}", case.trace);
-    let reports = found.findings.reports.as_slice();
+    let reports = found.findings.reports();
     assert_reports(rt, alloc, checked, reports, case.reports);
 }
 
@@ -52,7 +52,7 @@ fn assert_found(
 ) {
     assert!(rt; found.entries == case.entries, "{}", case.trace);
     assert!(rt; found.ending == case.ending, "{}", case.trace);
-    let reports = found.findings.reports.as_slice();
+    let reports = found.findings.reports();
     assert_reports(rt, alloc, checked, reports, case.reports);
 }
 

@@ -6,8 +6,8 @@ use hip_examples::AMPLE;
 use hip_io::{Cabinet, Fetched, MemCabinet, MemSink, NamedFile};
 use hip_parse::parse;
 use hip_replay::{Recorded, ReplayRefusal, Replayed, record_run, replay};
+use hip_report::SharedReports;
 use hip_report_lines::put_reports;
-use hip_runs::Report;
 use hip_sound::Checked;
 use hip_step::{Input, why_not};
 use hip_trace::Reader;
@@ -87,7 +87,7 @@ pub fn assert_reports(
     rt: &impl Abort,
     alloc: Global,
     checked: &Checked,
-    reports: &[Report],
+    reports: &SharedReports,
     lines: &str,
 ) {
     let mut out = MemSink::new(alloc, 2_000).expect(rt, AMPLE);

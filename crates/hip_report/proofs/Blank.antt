@@ -20,7 +20,7 @@ use Rattle.hip_notes.specs.Plain.{AreTracked}
 use Rattle.hip_notes.specs.Noted.{AreNoted}
 use Rattle.hip_notes.specs.Pending.{lines_of, StoresAscend}
 use Rattle.hip_notes.specs.Standing.{IsLooseAt, Tells}
-use Rattle.hip_report.specs.Tracking.{IsSource, NotesOf, seen_in}
+use Rattle.hip_report.specs.Tracking.{HasNotes, IsSource, NotesOf, seen_in}
 use Rattle.hip_notes.specs.declared.notes.Notes.{Notes}
 use Rattle.hip_notes.specs.declared.pending.LineNote.{LineNote}
 use Rattle.hip_notes.specs.declared.pending.StoreNote.{StoreNote}
@@ -66,10 +66,6 @@ blank c h steps entries plain fence calls births stores lines marks recent hits 
 
 -- ---- the source and the machine
 
-pub both_ok : {A B : Type 0} (Q R S : Type 0) (r : Result A B) → OnOk r Q → OnOk r R → (Q → R → S) → OnOk r S
-both_ok Q R S (Ok x) h k f = f h k
-both_ok Q R S (Err e) h k f = h
-
 pub if_ok : {A B : Type 0} (Q : A → Type 0) (R S : Type 0) (r : Result A B) → IfOk r Q → OnOk r R → ((x : A) → Q x → R → S) → OnOk r S
 if_ok Q R S (Ok x) h k f = f x h k
 if_ok Q R S (Err e) h k f = h
@@ -88,7 +84,7 @@ event_in_run m m' e c = record {
   input = ap (λ (x : Seen). x.input) c.step ∙ ap (λ (x : Seen). x.input) c.quiet.is;
 }
 
-pub notes_of : (o : Option Source) (m m' : Seen) (c : Notes) → IsSource o m → longest m.program < 2 ^ 64 → IsInRun m m' → AreTracked m'.program m'.input m'.taken c → NotesOf o c
+notes_of : (o : Option Source) (m m' : Seen) (c : Notes) → IsSource o m → longest m.program < 2 ^ 64 → IsInRun m m' → AreTracked m'.program m'.input m'.taken c → NotesOf o c
 notes_of None m m' c s short e h = absurd s
 notes_of (Some s) m m' c is short e h =
     let p : m'.program ≡ s.checked.now = e.program ∙ sym is.0 in
@@ -97,7 +93,7 @@ notes_of (Some s) m m' c is short e h =
       subst (λ (x : Program). longest x < 2 ^ 64) (sym is.0) short,
     )
 
-pub seen_is : (o : Option Source) (m m' : Seen) (c : Notes) → IsSource o m → IsInRun m m' → AreTracked m'.program m'.input m'.taken c → seen_in o c.steps ≡ Some m'
+seen_is : (o : Option Source) (m m' : Seen) (c : Notes) → IsSource o m → IsInRun m m' → AreTracked m'.program m'.input m'.taken c → seen_in o c.steps ≡ Some m'
 seen_is None m m' c s e h = absurd s
 seen_is (Some s) m m' c is e h =
     let p : s.checked.now ≡ m'.program = is.0 ∙ sym e.program in
@@ -105,3 +101,6 @@ seen_is (Some s) m m' c is e h =
     ap (λ (x : Program). Some (record { program = x; input = s.input.now; taken = c.steps })) p
     ∙ ap (λ (x : Input). Some (record { program = m'.program; input = x; taken = c.steps })) i
     ∙ ap (λ k. Some (record { program = m'.program; input = m'.input; taken = k })) h.noted.steps
+
+pub has_notes : (o : Option Source) (m m' : Seen) (c : Notes) → IsSource o m → longest m.program < 2 ^ 64 → IsInRun m m' → AreTracked m'.program m'.input m'.taken c → HasNotes o c m'
+has_notes o m m' c s short e h = record { notes = notes_of o m m' c s short e h; seen = seen_is o m m' c s e h }

@@ -1,10 +1,20 @@
 -- What is known before a step is so when the machine has taken it.
-use Rattle.std.proofs.Common.{◌≡◌, suc, ◌-◌, false, cond, sym, subst, arith}
+use Rattle.std.proofs.Common.{◌≡◌, ℕ, suc, ◌-◌, ◌<◌, Bool, true, false, cond, List, [], ◌∷◌, Option, Some, None, option_map, refl, sym, ap, ◌∙◌, subst, arith}
+use Rattle.hip_mem.specs.Memory.{range_contains}
+use Rattle.hip_tree.specs.declared.program.Program.{Program}
+use Rattle.hip_runs.specs.Found.Objects.{global_at, object_at, or_else, slot_at, slot_in}
 use Rattle.hip_runs.specs.Seen.{after_step, Seen, state_of}
-use Rattle.hip_runs.specs.Step.{has_ended}
+use Rattle.hip_runs.specs.State.{Frame, Slot}
+use Rattle.hip_runs.specs.Step.{event, has_ended, run}
 use Rattle.hip_runs.specs.declared.event.Event.{Event}
+use Rattle.hip_runs.specs.declared.event.Event.TheVariants as events
+use Rattle.hip_runs.specs.declared.event.Object.{Object}
+use Rattle.hip_runs.specs.declared.event.Object.TheVariants as objects
+use Rattle.hip_notes.specs.Noted.{AreNoted}
+use Rattle.hip_notes.specs.Plain.{AreTracked, IsPlainFor}
 use Rattle.hip_notes.specs.declared.notes.Notes.{Notes}
-use Rattle.hip_report.specs.Stepping.{HasTaken, StandsBefore}
+use Rattle.hip_notes.proofs.noting.PlainSteps.{ahead_tracked}
+use Rattle.hip_report.specs.Stepping.{HasPassed, HasTaken, StandsBefore, Tracks, global_of}
 use Rattle.hip_report.specs.declared.sight.Sight.{Sight}
 
 pub has_taken : (m m' : Seen) (e : Event) (c : Notes) (sight : Sight) → m' ≡ after_step m → has_ended (state_of m) ≡ false
@@ -14,3 +24,60 @@ has_taken m m' e c sight step going h =
     subst (λ (x : Seen). HasTaken x e c sight) (sym step)
     (subst (λ t. HasTaken (record m { taken = cond t m.taken (suc m.taken) }) e c sight) (sym going)
     (omega arith, subst (λ i. StandsBefore m.program m.input i e c sight) (sym back) h))
+
+pub has_passed : (m m' : Seen) (e : Event) (c : Notes) → m' ≡ after_step m → e ≡ event m.program m.input (state_of m) → Tracks m c → 0 < c.plain
+    → HasPassed m' e c
+has_passed m m' e c step is t some =
+    let going : has_ended (state_of m) ≡ false = (t.noted.plain some).going some in
+    let here : HasPassed (record m { taken = suc m.taken }) e c = record {
+      taken = omega arith;
+      noted = subst (λ i. AreTracked m.program m.input i c) (sym back) t.noted;
+      short = t.short;
+      plain = some;
+      event = is ∙ ap (λ i. event m.program m.input (run m.program m.input i)) (sym back);
+    } in
+    subst (λ (x : Seen). HasPassed x e c) (sym step)
+    (subst (λ b. HasPassed (record m { taken = cond b m.taken (suc m.taken) }) e c) (sym going) here)
+  where
+    back : suc m.taken - 1 ≡ m.taken
+    back = omega arith
+
+-- the notes of a machine that has taken a step, of which so many plain places are next
+pub tracked_then : (m m' : Seen) (count k : ℕ) (e : Event) (c : Notes) → m' ≡ after_step m → has_ended (state_of m) ≡ false → e ≡ event m.program m.input (state_of m)
+    → AreNoted m'.program m'.input m'.taken c → (0 < count → IsPlainFor m.program (state_of m) count)
+    → (0 < k → (e ≡ events.Quiet) × (0 < count) × (k ≡ count - 1)) → AreTracked m'.program m'.input m'.taken (record c { plain = k })
+tracked_then m m' count k e c step going is noted known after =
+    let next : m' ≡ record m { taken = suc m.taken } = step ∙ ap (λ t. record m { taken = cond t m.taken (suc m.taken) }) going in
+    subst (λ (x : Seen). AreTracked x.program x.input x.taken (record c { plain = k })) (sym next)
+    (ahead_tracked m.program m.input m.taken count k e is c (subst (λ (x : Seen). AreNoted x.program x.input x.taken c) next noted) known after)
+
+-- ---- the global that an object is
+
+no_slot : (xs : List Slot) (a g : ℕ) → slot_in xs a ≡ Some (objects.Global g) → ⊥
+no_slot [] a g e = let z : ⊥ = cc in z
+no_slot (x ∷ xs) a g e = go (λ q. no_slot xs a g q) (range_contains x.addr x.size a) e
+  where
+    go : (slot_in xs a ≡ Some (objects.Global g) → ⊥) → (t : Bool) → cond t (Some (objects.Slot x.site)) (slot_in xs a) ≡ Some (objects.Global g) → ⊥
+    go rest true e = let z : ⊥ = cc in z
+    go rest false e = rest e
+
+no_slot_at : (fs : List Frame) (a g : ℕ) → slot_at fs a ≡ Some (objects.Global g) → ⊥
+no_slot_at [] a g e = let z : ⊥ = cc in z
+no_slot_at (f ∷ fs) a g e = go (λ q. no_slot_at fs a g q) (slot_in f.slots a) refl e
+  where
+    go : (slot_at fs a ≡ Some (objects.Global g) → ⊥) → (o : Option Object) → slot_in f.slots a ≡ o → or_else o (slot_at fs a) ≡ Some (objects.Global g) → ⊥
+    go rest None q e = rest e
+    go rest (Some x) q e = no_slot f.slots a g (q ∙ e)
+
+-- the object at an address is a global where the address lies in it
+pub the_global : (P : Program) (base a : ℕ) (fs : List Frame) → global_of (object_at P base fs a) ≡ global_at P base a
+the_global P base a fs = by (global_at P base a)
+  where
+    slots : (o : Option Object) → slot_at fs a ≡ o → global_of o ≡ None
+    slots None e = refl
+    slots (Some (objects.Slot s)) e = refl
+    slots (Some (objects.Global g)) e = absurd (no_slot_at fs a g e)
+
+    by : (o : Option ℕ) → global_of (or_else (option_map objects.Global o) (slot_at fs a)) ≡ o
+    by None = slots (slot_at fs a) refl
+    by (Some g) = refl

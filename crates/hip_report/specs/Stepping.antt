@@ -1,17 +1,55 @@
 -- What is known before a step, when its notes are taken after it.
-use Rattle.std.specs.Prelude.{◌≡◌, ℕ, ◌-◌, ◌<◌, ◌^◌, false, length, map}
+use Rattle.std.specs.Prelude.{◌≡◌, ℕ, ◌-◌, ◌<◌, ◌^◌, false, length, map, Option, None, Some}
 use Rattle.hip_tree.specs.declared.program.Program.{Program}
 use Rattle.hip_runs.specs.Ends.{longest}
-use Rattle.hip_runs.specs.Seen.{next_site, Seen}
+use Rattle.hip_runs.specs.Found.Objects.{global_at}
+use Rattle.hip_runs.specs.Seen.{Seen, after_step, next_site, state_of}
+use Rattle.hip_runs.specs.State.{State}
 use Rattle.hip_runs.specs.Step.{event, has_ended, run}
 use Rattle.hip_runs.specs.declared.event.Event.{Event}
+use Rattle.hip_runs.specs.declared.event.Object.{Object}
+use Rattle.hip_runs.specs.declared.event.Object.TheVariants as objects
 use Rattle.hip_runs.specs.declared.input.Input.{Input}
 use Rattle.hip_notes.specs.MarkKeys.{mark_of}
 use Rattle.hip_notes.specs.Noted.{AreNoted}
-use Rattle.hip_notes.specs.Plain.{IsPlainFor}
+use Rattle.hip_notes.specs.Plain.{AreTracked, IsPlainFor}
 use Rattle.hip_notes.specs.Sights.{AddAlike, marks_ahead}
 use Rattle.hip_notes.specs.declared.notes.Notes.{Notes}
 use Rattle.hip_report.specs.declared.sight.Sight.{Sight}
+use Rattle.hip_report.specs.declared.sight.Target.{Target}
+
+-- A machine took a step, which had this event.
+pub record TakesStep (old new : Seen) (e : Event) : Type 0 where
+  pub step : new ≡ after_step old
+  pub event : e ≡ event old.program old.input (state_of old)
+
+-- The notes are those of the steps of a machine, whose program has no block of 2^64 instructions.
+pub record Tracks (m : Seen) (c : Notes) : Type 0 where
+  pub noted : AreTracked m.program m.input m.taken c
+  pub short : longest m.program < 2 ^ 64
+
+-- ---- what is seen before a step
+
+-- the number of the global that an object is
+abbrev pub global_of : Option Object → Option ℕ
+global_of (Some (objects.Global g)) = Some g
+global_of _ = None
+
+-- a target, if there is one, tells the global at its address
+abbrev pub TellsGlobal : Program → Input → Option Target → Type 0
+TellsGlobal P I None = Unit {0}
+TellsGlobal P I (Some t) = global_of t.object ≡ global_at P I.base t.addr
+
+-- What is seen in a state, beside notes of what was met before.
+pub record Sees (P : Program) (I : Input) (s : State) (c : Notes) (sight : Sight) : Type 0 where
+  pub ended : sight.ended ≡ has_ended s
+  pub site : sight.site ≡ next_site P s
+  pub depth : sight.depth ≡ length s.frames
+  pub plain : 0 < sight.plain → IsPlainFor P s sight.plain
+  pub marks : AddAlike (map mark_of c.marks.keys) sight.pointed.marks (marks_ahead P I s)
+  pub last : TellsGlobal P I sight.pointed.last
+
+-- ---- a step that a machine has taken
 
 -- After n steps the run goes on, with a step of this event; the notes are those of the n steps, and this is what is
 -- seen before the next one.
@@ -20,11 +58,16 @@ pub record StandsBefore (P : Program) (I : Input) (n : ℕ) (e : Event) (c : Not
   pub short : longest P < 2 ^ 64
   pub going : has_ended (run P I n) ≡ false
   pub seen : e ≡ event P I (run P I n)
-  pub site : sight.site ≡ next_site P (run P I n)
-  pub depth : sight.depth ≡ length (run P I n).frames
-  pub plain : 0 < sight.plain → IsPlainFor P (run P I n) sight.plain
-  pub marks : AddAlike (map mark_of c.marks.keys) sight.marks (marks_ahead P I (run P I n))
+  pub sees : Sees P I (run P I n) c sight
 
 -- A machine has taken a step with this event, before which the notes were these and this was seen.
 abbrev pub HasTaken : Seen → Event → Notes → Sight → Type 0
 HasTaken m e c sight = (0 < m.taken) × StandsBefore m.program m.input (m.taken - 1) e c sight
+
+-- A machine has taken a step with this event at a plain place, before which the notes were these.
+pub record HasPassed (m : Seen) (e : Event) (c : Notes) : Type 0 where
+  pub taken : 0 < m.taken
+  pub noted : AreTracked m.program m.input (m.taken - 1) c
+  pub short : longest m.program < 2 ^ 64
+  pub plain : 0 < c.plain
+  pub event : e ≡ event m.program m.input (run m.program m.input (m.taken - 1))

@@ -55,3 +55,13 @@ IsSource (Some s) m = (s.checked.now ≡ m.program) × (s.input.now ≡ m.input)
 -- Unless the tracker ran out of memory, the notes are those of the run that was noted.
 pub record IsTracking (t : Inside) : Type 0 where
   pub notes : t.failed ≡ false → NotesOf t.source t.notes
+
+-- The notes are those of every step that a machine took, or of any run's first state where none was noted.
+pub record MayNote (o : Option Source) (c : Notes) (m : Seen) : Type 0 where
+  pub notes : NotesOf o c
+  pub all : notes_all (seen_in o c.steps) m
+
+-- A machine was noted last, and the notes are those of its run.
+pub record HasNotes (o : Option Source) (c : Notes) (m : Seen) : Type 0 where
+  pub notes : NotesOf o c
+  pub seen : seen_in o c.steps ≡ Some m

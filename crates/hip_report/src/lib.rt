@@ -6,5 +6,6 @@ mod sight;
 mod step;
 mod tracker;
 
-pub use hip_runs::{Findings, Kind, Mark, Marks, Report};
+pub use hip_findings::{SharedFindings, SharedReport, SharedReports};
+pub use hip_runs::{Kind, Mark, Marks};
 pub use tracker::Tracker;

@@ -5,33 +5,39 @@ ghost use Rattle.hip_runs.specs.Found.Marks.{event_hits};
 ghost use Rattle.hip_runs.specs.Found.Objects.{global_at};
 ghost use Rattle.hip_runs.specs.Step.{event, has_ended, run};
 ghost use Rattle.hip_runs.specs.Seen.{after_step, next_site, state_of};
+ghost use Rattle.hip_runs.specs.StoredParts.Shown.{shown};
 ghost use Rattle.hip_notes.specs.MarkKeys.{mark_of, WereHit};
 ghost use Rattle.hip_notes.specs.Noted.{AreNoted};
 ghost use Rattle.hip_notes.specs.Plain.{AreTracked};
+ghost use Rattle.hip_notes.specs.Regions.{IsWhole};
 ghost use Rattle.hip_notes.specs.Sights.{is_still};
-ghost use Rattle.hip_report.specs.Stepping.{HasTaken};
+ghost use Rattle.hip_report.specs.Stepping.{HasPassed, HasTaken, TakesStep, TellsGlobal, Tracks, global_of};
 
-use crate::sight::{Sight, look};
-use hip_engine::Machine;
+use crate::sight::{Sight, Target, look, target_at};
+use hip_cache::Machine;
 use hip_invariants::{runs_are_bounded, stack_keeps_its_shape};
-use hip_notes::{
-    Moment, Notes, meet_global, step_calls, step_check, step_counts, step_forget, step_lines,
-    step_marks,
-};
+use hip_notes::{Moment, Notes, Region, meet_global};
 use hip_runs::{Event, Mark, Object};
 use hip_types::{LINE_SIZE, NoMemory, Row};
 use std::alloc::Global;
 
-// The persistent global that a step with this event stores into.
-fn step_hit(notes: &mut Notes, event: Event, machine: &Machine<'_>) -> Result<(), NoMemory>
-    requires { WereHit notes.old.hit.keys notes.old.flags.items }
+// The persistent global that a step with this event stores into, where this is the target of its last operand.
+#[inline(always)]
+fn note_hit(
+    notes: &mut Notes,
+    event: Event,
+    last: Option<Target>,
+    machine: &Machine<'_>,
+) -> Result<(), NoMemory>
+    requires known { WereHit notes.old.hit.keys notes.old.flags.items }
+    requires last { TellsGlobal machine.now.program machine.now.input last }
     ensures hit { OnOk result (notes.new.hit.keys ≡ met nat_eq notes.old.hit.keys
         (event_hits machine.now.program machine.now.input event)) }
     ensures known { OnOk result (WereHit notes.new.hit.keys notes.new.flags.items) }
     ensures rest { OnOk result (notes.new ≡ record notes.old { hit = notes.new.hit; flags = notes.new.flags }) }
 {
     match event {
-        Event::Store { addr, .. } => match global_at(machine, addr) {
+        Event::Store { addr, .. } => match global_at(machine, last, addr) {
             Some(number) => meet_global(&mut notes.hit, &mut notes.flags, number),
             None => Ok(()),
         },
@@ -39,21 +45,42 @@ fn step_hit(notes: &mut Notes, event: Event, machine: &Machine<'_>) -> Result<()
     }
 }
 
-// The global that an address lies in.
-fn global_at(machine: &Machine<'_>, addr: u64) -> Option<usize>
+// The global that an address lies in, which the last operand may have.
+#[inline(always)]
+fn global_at(machine: &Machine<'_>, last: Option<Target>, addr: u64) -> Option<usize>
+    requires { TellsGlobal machine.now.program machine.now.input last }
     ensures { result ≡ global_at machine.now.program machine.now.input.base addr }
 {
-    match machine.object_at(addr) {
+    match last {
+        Some(target) if target.addr == addr => global_of(target.object),
+        _ => global_of(target_at(machine, addr).object),
+    }
+}
+
+// The number of the global that an object is.
+#[inline(always)]
+fn global_of(object: Option<Object>) -> Option<usize>
+    ensures { result ≡ global_of object }
+{
+    match object {
         Some(Object::Global(number)) => Some(number),
         _ => None,
     }
 }
 
-// How many bytes the region has.
-fn region_of(machine: &Machine<'_>) -> u64
-    ensures { result ≡ length machine.now.input.image }
+// The region of the run that a machine takes.
+#[inline(always)]
+fn region_of<'a>(machine: &'a Machine<'_>) -> Region<'a>
+    ensures base { result.base ≡ machine.now.input.base }
+    ensures size { result.size ≡ length machine.now.input.image }
+    ensures lines { result.lines.now.lines ≡ shown (state_of machine.now).lines }
 {
-    machine.input().image.len() as u64
+    let input = machine.input();
+    Region {
+        base: input.base,
+        size: input.image.len() as u64,
+        lines: machine.lines(),
+    }
 }
 
 // Whether a step with this event and these new marks changes no notes but the calls.
@@ -75,49 +102,6 @@ fn is_still(event: Event) -> bool
     }
 }
 
-// Notes the step that a machine has taken, given what was seen before it.
-#[inline(always)]
-fn note_event(
-    alloc: Global,
-    notes: &mut Notes,
-    sight: &Sight,
-    seen: Event,
-    machine: &Machine<'_>,
-) -> Result<(), NoMemory>
-    requires before { HasTaken machine.now seen notes.old sight.now }
-    ensures noted { OnOk result (AreNoted machine.now.program machine.now.input machine.now.taken notes.new) }
-    ensures header { OnOk result (notes.new.header ≡ notes.old.header) }
-{
-    let after = machine.depth();
-    if !changes_calls_alone(seen, &sight.marks) {
-        note_change(alloc, notes, sight, seen, machine, after)?;
-        forget(alloc, notes, machine);
-        return Ok(());
-    }
-    if after != sight.depth {
-        return note_calls_alone(notes, sight, seen, machine, after);
-    }
-    note_still(notes, sight, seen, machine);
-    Ok(())
-}
-
-// Notes a step that changes no notes but the count of steps.
-#[inline(always)]
-fn note_still(notes: &mut Notes, sight: &Sight, seen: Event, machine: &Machine<'_>)
-    requires before { HasTaken machine.now seen notes.old sight.now }
-    requires still { is_still seen ≡ true }
-    requires none { sight.now.marks ≡ [] }
-    requires depth { length (state_of machine.now).frames ≡ sight.now.depth }
-    ensures noted { AreNoted machine.now.program machine.now.input machine.now.taken notes.new }
-    ensures header { notes.new.header ≡ notes.old.header }
-{
-    // Lemmas: runs are bounded, frames have calls, the input is valid.
-    runs_are_bounded();
-    stack_keeps_its_shape();
-    let _input = machine.input();
-    notes.steps += 1;
-}
-
 // Notes a step that changes no notes but the calls.
 #[inline(always)]
 fn note_calls_alone(
@@ -125,12 +109,10 @@ fn note_calls_alone(
     sight: &Sight,
     seen: Event,
     machine: &Machine<'_>,
-    after: usize,
 ) -> Result<(), NoMemory>
     requires before { HasTaken machine.now seen notes.old sight.now }
     requires still { is_still seen ≡ true }
-    requires none { sight.now.marks ≡ [] }
-    requires after { after ≡ length (state_of machine.now).frames }
+    requires none { sight.now.pointed.marks ≡ [] }
     ensures noted { OnOk result (AreNoted machine.now.program machine.now.input machine.now.taken notes.new) }
     ensures header { OnOk result (notes.new.header ≡ notes.old.header) }
 {
@@ -143,7 +125,7 @@ fn note_calls_alone(
         step: notes.steps,
         entry: notes.entries + 1,
     };
-    step_calls(notes, moment, sight.depth, after)?;
+    notes.note_calls(moment, sight.depth, machine.depth())?;
     notes.steps += 1;
     Ok(())
 }
@@ -155,37 +137,35 @@ fn note_change(
     sight: &Sight,
     seen: Event,
     machine: &Machine<'_>,
-    after: usize,
 ) -> Result<(), NoMemory>
     requires before { HasTaken machine.now seen notes.old sight.now }
-    requires after { after ≡ length (state_of machine.now).frames }
     ensures noted { OnOk result (AreNoted machine.now.program machine.now.input machine.now.taken notes.new) }
     ensures header { OnOk result (notes.new.header ≡ notes.old.header) }
 {
-    // Lemmas: runs are bounded, frames have calls, the program is sound.
+    // Lemmas: runs are bounded, frames have calls, the program is sound, the input is valid.
     runs_are_bounded();
     stack_keeps_its_shape();
     let checked = machine.checked();
     let _program = checked.program();
+    let _input = machine.input();
 
-    let base = machine.input().base;
     let region = region_of(machine);
     let moment = Moment {
         site: sight.site,
         step: notes.steps,
         entry: notes.entries + 1,
     };
-    let lines = machine.lines();
-    step_check(alloc, notes, lines, seen, base, region, moment.entry)?;
-    step_lines(alloc, notes, seen, moment, base)?;
-    step_calls(notes, moment, sight.depth, after)?;
-    step_marks(notes, seen, sight.marks.as_slice())?;
-    step_hit(notes, seen, machine)?;
-    step_counts(notes, seen);
+    notes.note_check(alloc, seen, moment.entry, &region)?;
+    notes.note_memory(alloc, seen, moment, &region)?;
+    notes.note_calls(moment, sight.depth, machine.depth())?;
+    notes.note_marks(seen, sight.pointed.marks.as_slice())?;
+    note_hit(notes, seen, sight.pointed.last, machine)?;
+    notes.count(seen);
     Ok(())
 }
 
 // Drops the notes that no check will need, after a step that was noted.
+#[inline(always)]
 fn forget(alloc: Global, notes: &mut Notes, machine: &Machine<'_>)
     requires noted { AreNoted machine.now.program machine.now.input machine.now.taken notes.old }
     requires short { longest machine.now.program < 2 ^ 64 }
@@ -197,11 +177,11 @@ fn forget(alloc: Global, notes: &mut Notes, machine: &Machine<'_>)
     let _input = machine.input();
 
     let region = region_of(machine);
-    let lines = machine.lines();
-    step_forget(alloc, notes, lines, region);
+    notes.forget(alloc, &region);
 }
 
 // The number of plain places that are next after a step with this event, given the number before it.
+#[inline(always)]
 fn plain_after(event: Event, plain: usize) -> usize
     ensures { 0 < result → (event ≡ Event.Quiet) × (0 < plain) × (result ≡ plain - 1) }
 {
@@ -209,42 +189,6 @@ fn plain_after(event: Event, plain: usize) -> usize
         Event::Quiet => plain.saturating_sub(1),
         _ => 0,
     }
-}
-
-// Notes the step that a machine has taken, and how many plain places are next.
-#[inline(always)]
-fn note_taken(
-    alloc: Global,
-    notes: &mut Notes,
-    sight: &Sight,
-    seen: Event,
-    machine: &Machine<'_>,
-) -> Result<(), NoMemory>
-    requires before { HasTaken machine.now seen notes.old sight.now }
-    ensures noted { OnOk result (AreTracked machine.now.program machine.now.input machine.now.taken notes.new) }
-    ensures header { OnOk result (notes.new.header ≡ notes.old.header) }
-{
-    note_event(alloc, notes, sight, seen, machine)?;
-    notes.plain = plain_after(seen, sight.plain);
-    Ok(())
-}
-
-// Takes a step and notes it.
-fn note_seen(alloc: Global, notes: &mut Notes, machine: &mut Machine<'_>) -> Result<Event, NoMemory>
-    requires noted { AreTracked machine.old.program machine.old.input machine.old.taken notes.old }
-    requires short { longest machine.old.program < 2 ^ 64 }
-    ensures event { IfOk result (λ e. e ≡ event machine.old.program machine.old.input (state_of machine.old)) }
-    ensures ok { OnOk result (machine.new ≡ after_step machine.old) }
-    ensures noted { OnOk result (AreTracked machine.new.program machine.new.input machine.new.taken notes.new) }
-    ensures header { OnOk result (notes.new.header ≡ notes.old.header) }
-    ensures err { OnErr result ((machine.new ≡ machine.old) ⊎ (machine.new ≡ after_step machine.old)) }
-{
-    let sight = look(alloc, notes, machine)?;
-    let event = machine.step()?;
-    if !sight.ended {
-        note_taken(alloc, notes, &sight, event, machine)?;
-    }
-    Ok(event)
 }
 
 // A quiet step at a plain place.
@@ -260,12 +204,7 @@ fn pass_plain(notes: &mut Notes)
 // Notes the step that a machine has taken at a plain place.
 #[inline(always)]
 fn note_plain(notes: &mut Notes, seen: Event, machine: &Machine<'_>)
-    requires taken { 0 < machine.now.taken }
-    requires noted { AreTracked machine.now.program machine.now.input (machine.now.taken - 1) notes.old }
-    requires short { longest machine.now.program < 2 ^ 64 }
-    requires plain { 0 < notes.old.plain }
-    requires event { seen ≡ event machine.now.program machine.now.input (run machine.now.program machine.now.input
-        (machine.now.taken - 1)) }
+    requires { HasPassed machine.now seen notes.old }
     ensures noted { AreTracked machine.now.program machine.now.input machine.now.taken notes.new }
     ensures header { notes.new.header ≡ notes.old.header }
 {
@@ -276,7 +215,7 @@ fn note_plain(notes: &mut Notes, seen: Event, machine: &Machine<'_>)
     match seen {
         Event::Quiet => pass_plain(notes),
         _ => {
-            step_counts(notes, seen);
+            notes.count(seen);
             notes.plain = 0;
         }
     }
@@ -286,10 +225,8 @@ fn note_plain(notes: &mut Notes, seen: Event, machine: &Machine<'_>)
 #[inline(always)]
 fn pass(notes: &mut Notes, machine: &mut Machine<'_>) -> Result<Event, NoMemory>
     requires plain { 0 < notes.old.plain }
-    requires noted { AreTracked machine.old.program machine.old.input machine.old.taken notes.old }
-    requires short { longest machine.old.program < 2 ^ 64 }
-    ensures event { IfOk result (λ e. e ≡ event machine.old.program machine.old.input (state_of machine.old)) }
-    ensures ok { OnOk result (machine.new ≡ after_step machine.old) }
+    requires noted { Tracks machine.old notes.old }
+    ensures ok { IfOk result (λ e. TakesStep machine.old machine.new e) }
     ensures noted { OnOk result (AreTracked machine.new.program machine.new.input machine.new.taken notes.new) }
     ensures header { OnOk result (notes.new.header ≡ notes.old.header) }
     ensures err { OnErr result ((machine.new ≡ machine.old) ⊎ (machine.new ≡ after_step machine.old)) }
@@ -306,10 +243,8 @@ pub fn note_step(
     notes: &mut Notes,
     machine: &mut Machine<'_>,
 ) -> Result<Event, NoMemory>
-    requires noted { AreTracked machine.old.program machine.old.input machine.old.taken notes.old }
-    requires short { longest machine.old.program < 2 ^ 64 }
-    ensures event { IfOk result (λ e. e ≡ event machine.old.program machine.old.input (state_of machine.old)) }
-    ensures ok { OnOk result (machine.new ≡ after_step machine.old) }
+    requires { Tracks machine.old notes.old }
+    ensures ok { IfOk result (λ e. TakesStep machine.old machine.new e) }
     ensures noted { OnOk result (AreTracked machine.new.program machine.new.input machine.new.taken notes.new) }
     ensures header { OnOk result (notes.new.header ≡ notes.old.header) }
     ensures err { OnErr result ((machine.new ≡ machine.old) ⊎ (machine.new ≡ after_step machine.old)) }
@@ -317,5 +252,18 @@ pub fn note_step(
     if notes.plain > 0 {
         return pass(notes, machine);
     }
-    note_seen(alloc, notes, machine)
+    let sight = look(alloc, notes, machine)?;
+    let event = machine.step()?;
+    if sight.ended {
+        return Ok(event);
+    }
+    if changes_calls_alone(event, &sight.pointed.marks) {
+        note_calls_alone(notes, &sight, event, machine)?;
+        notes.plain = plain_after(event, sight.plain);
+        return Ok(event);
+    }
+    note_change(alloc, notes, &sight, event, machine)?;
+    forget(alloc, notes, machine);
+    notes.plain = 0;
+    Ok(event)
 }

@@ -7,13 +7,15 @@ ghost use Rattle.hip_runs.specs.Seen.{after_step, state_of};
 ghost use Rattle.hip_notes.specs.MarkKeys.{mark_of};
 ghost use Rattle.hip_notes.specs.Plain.{AreTracked};
 ghost use Rattle.hip_report.specs.Passing.{StopsShort};
-ghost use Rattle.hip_report.specs.Tracking.{HasNoted, IsSource, MayAdvance, NotesOf, notes_all, seen_in};
+ghost use Rattle.hip_report.specs.Stepping.{TakesStep};
+ghost use Rattle.hip_report.specs.Tracking.{HasNoted, HasNotes, IsSource, MayAdvance, MayNote};
 
-use crate::passing::note_next_event;
+use crate::passing::{is_quiet, pass_locally};
 use crate::step::note_step;
-use hip_engine::Machine;
+use hip_cache::Machine;
+use hip_findings::SharedFindings;
 use hip_notes::{Notes, globals_of, marks_of};
-use hip_runs::{Event, Findings, Input, Marks, longest};
+use hip_runs::{Event, Input, Marks, longest};
 use hip_sound::Checked;
 use hip_types::NoMemory;
 use std::alloc::Global;
@@ -117,7 +119,7 @@ impl<'a> Tracker<'a> {
 
     /// The findings of the run, where every step of the machine was noted, it has ended, and the header's entries are
     /// those of the run's trace.
-    pub fn close(self, machine: &Machine<'a>) -> Result<Findings, NoMemory>
+    pub fn close(self, machine: &Machine<'a>) -> Result<SharedFindings, NoMemory>
         requires noted { HasNoted self machine.now }
         requires ended { has_ended (state_of machine.now) ≡ true }
         requires header { self.header ≡ header_entries machine.now.input }
@@ -125,10 +127,7 @@ impl<'a> Tracker<'a> {
     {
         let Tracker { alloc, notes, .. } = self;
         let marks = marks_in(alloc, &notes)?;
-        Ok(Findings {
-            reports: notes.reports,
-            marks,
-        })
+        Ok(SharedFindings::new(notes.reports, marks))
     }
 }
 
@@ -145,8 +144,7 @@ fn marks_in(alloc: Global, notes: &Notes) -> Result<Marks, NoMemory>
 // Takes a machine's program and input, where nothing was noted yet.
 #[inline(always)]
 fn begin<'a>(source: &mut Option<Source<'a>>, notes: &Notes, machine: &Machine<'a>)
-    requires notes { NotesOf source.old notes.now }
-    requires all { notes_all (seen_in source.old notes.now.steps) machine.now }
+    requires { MayNote source.old notes.now machine.now }
     ensures noted { AreTracked machine.now.program machine.now.input machine.now.taken notes.now }
     ensures short { longest machine.now.program < 2 ^ 64 }
     ensures source { IsSource source.new machine.now }
@@ -173,12 +171,9 @@ fn advance_in<'a>(
     notes: &mut Notes,
     machine: &mut Machine<'a>,
 ) -> Result<Event, NoMemory>
-    requires notes { NotesOf source.old notes.old }
-    requires all { notes_all (seen_in source.old notes.old.steps) machine.old }
-    ensures event { IfOk result (λ e. e ≡ event machine.old.program machine.old.input (state_of machine.old)) }
-    ensures ok { OnOk result (machine.new ≡ after_step machine.old) }
-    ensures noted { OnOk result (NotesOf source.new notes.new) }
-    ensures seen { OnOk result (seen_in source.new notes.new.steps ≡ Some machine.new) }
+    requires { MayNote source.old notes.old machine.old }
+    ensures ok { IfOk result (λ e. TakesStep machine.old machine.new e) }
+    ensures noted { OnOk result (HasNotes source.new notes.new machine.new) }
     ensures header { OnOk result (notes.new.header ≡ notes.old.header) }
     ensures err { OnErr result ((machine.new ≡ machine.old) ⊎ (machine.new ≡ after_step machine.old)) }
 {
@@ -193,14 +188,18 @@ fn next_event_in<'a>(
     notes: &mut Notes,
     machine: &mut Machine<'a>,
 ) -> Result<Event, NoMemory>
-    requires notes { NotesOf source.old notes.old }
-    requires all { notes_all (seen_in source.old notes.old.steps) machine.old }
+    requires { MayNote source.old notes.old machine.old }
     ensures ok { IfOk result (λ e. ComesTo machine.old machine.new e) }
-    ensures noted { OnOk result (NotesOf source.new notes.new) }
-    ensures seen { OnOk result (seen_in source.new notes.new.steps ≡ Some machine.new) }
+    ensures noted { OnOk result (HasNotes source.new notes.new machine.new) }
     ensures header { OnOk result (notes.new.header ≡ notes.old.header) }
     ensures err { OnErr result (StopsShort machine.old machine.new) }
 {
     begin(source, notes, machine);
-    note_next_event(alloc, notes, machine)
+    'steps: loop {
+        pass_locally(notes, machine);
+        let event = note_step(alloc, notes, machine)?;
+        if !is_quiet(event) {
+            return Ok(event);
+        }
+    }
 }

@@ -4,8 +4,9 @@ ghost use Rattle.hip_report_lines.specs.Reports.{flush_text, kind_word, numbered
 
 use crate::sites::put_site;
 use hip_answers::put_number;
+use hip_findings::{SharedReport, SharedReports};
 use hip_io::{Put, Sink, WriteFault, deliver_after, put_after};
-use hip_runs::{Kind, Report};
+use hip_runs::Kind;
 use hip_sound::Checked;
 use hip_tree::{Program, Site};
 
@@ -46,38 +47,43 @@ fn put_flush<S: Sink>(before: Put, out: &mut S, program: &Program, site: Option<
     }
 }
 
-fn put_step<S: Sink>(before: Put, out: &mut S, program: &Program, site: &Site) -> Put
-    ensures { Writes before result (S.state out.old) (S.state out.new) (codes " " ++ site_text program.now site.now) }
+fn put_step<S: Sink>(before: Put, out: &mut S, program: &Program, site: Site) -> Put
+    ensures { Writes before result (S.state out.old) (S.state out.new) (codes " " ++ site_text program.now site) }
 {
     let put = put_after(before, out, b" ");
-    put_site(put, out, program, *site)
+    put_site(put, out, program, site)
 }
 
-fn put_path<S: Sink>(before: Put, out: &mut S, program: &Program, sites: &[Site]) -> Put
-    ensures { Writes before result (S.state out.old) (S.state out.new) (path_text program.now sites.now) }
+fn put_path<S: Sink>(before: Put, out: &mut S, program: &Program, report: &SharedReport<'_>) -> Put
+    ensures { Writes before result (S.state out.old) (S.state out.new) (path_text program.now report.now.path) }
 {
     let mut put = before;
-    'each: for site in sites {
+    'each: for site in report.path() {
         put = put_step(put, out, program, site);
     }
     put
 }
 
-fn put_report<S: Sink>(before: Put, out: &mut S, program: &Program, report: &Report) -> Put
+fn put_report<S: Sink>(
+    before: Put,
+    out: &mut S,
+    program: &Program,
+    report: &SharedReport<'_>,
+) -> Put
     ensures { Writes before result (S.state out.old) (S.state out.new) (report_line program.now report.now) }
 {
-    let put = put_kind(before, out, report.kind);
-    let put = put_numbered(put, out, b" entry ", report.entry);
-    let put = put_numbered(put, out, b" check ", report.check_entry);
-    let put = put_numbered(put, out, b" closed ", report.closed as u128);
-    let put = put_flush(put, out, program, report.flush_site);
+    let put = put_kind(before, out, report.kind());
+    let put = put_numbered(put, out, b" entry ", report.entry());
+    let put = put_numbered(put, out, b" check ", report.check_entry());
+    let put = put_numbered(put, out, b" closed ", report.closed() as u128);
+    let put = put_flush(put, out, program, report.flush_site());
     let put = put_after(put, out, b" path");
-    let put = put_path(put, out, program, report.path.as_slice());
+    let put = put_path(put, out, program, report);
     put_after(put, out, b"\n")
 }
 
 /// Writes the lines of reports and delivers them. Takes no memory.
-pub fn put_reports<S: Sink>(out: &mut S, program: &Program, reports: &[Report]) -> Put
+pub fn put_reports<S: Sink>(out: &mut S, program: &Program, reports: &SharedReports) -> Put
     ensures { Delivers Put.Done result (S.state out.old) (S.state out.new) (S.held out.new)
         (report_lines program.now reports.now) }
 {
@@ -85,12 +91,12 @@ pub fn put_reports<S: Sink>(out: &mut S, program: &Program, reports: &[Report]) 
     deliver_after(put, out)
 }
 
-fn put_each<S: Sink>(out: &mut S, program: &Program, reports: &[Report]) -> Put
+fn put_each<S: Sink>(out: &mut S, program: &Program, reports: &SharedReports) -> Put
     ensures { Writes Put.Done result (S.state out.old) (S.state out.new) (report_lines program.now reports.now) }
 {
     let mut put = Put::Done;
-    'each: for report in reports {
-        put = put_report(put, out, program, report);
+    'each: for report in reports.iter() {
+        put = put_report(put, out, program, &report);
     }
     put
 }
@@ -98,7 +104,7 @@ fn put_each<S: Sink>(out: &mut S, program: &Program, reports: &[Report]) -> Put
 /// The line of a report. Takes no memory.
 pub fn write_report<S: Sink>(
     checked: &Checked,
-    report: &Report,
+    report: &SharedReport<'_>,
     out: &mut S,
 ) -> Result<(), WriteFault>
     ensures { Wrote (S.state out.old) (S.state out.new) (report_line checked.now report.now) result }

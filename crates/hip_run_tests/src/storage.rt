@@ -1,10 +1,9 @@
-//! The storage of a run: memory and cache lines together.
+//! The storage of a run: its memory, and what it shows of stores and flushes.
 
 ghost use Rattle.std.specs.Prelude.{◌≤◌};
 
 use crate::machines::{BASE, checked, input};
 use hip_examples::AMPLE;
-use hip_lines::LooseByte;
 use hip_runs::{Event, TrapKind};
 use hip_step::why_not;
 use hip_storage::{Storage, StorageRefusal};
@@ -67,31 +66,14 @@ enum Call {
         size: u64,
         answer: Result<Event, TrapKind>,
     },
-    Fence,
     InRegion {
         addr: u64,
         size: u64,
         answer: bool,
     },
-    /// The number of bytes of the region that are not durable, and of those that are flushed among them.
-    Loose {
-        bytes: usize,
-        flushed: usize,
-    },
 }
 
-fn assert_loose(rt: &impl Abort, alloc: Global, storage: &Storage, bytes: usize, flushed: usize) {
-    assert!(rt; storage.is_in_region(BASE, 128));
-    let loose: Vec<LooseByte> = storage
-        .lines()
-        .not_durable(0, 128)
-        .collect(alloc)
-        .expect(rt, AMPLE);
-    let found = loose.iter().filter(|byte| byte.flushed).count();
-    assert!(rt; loose.len() == bytes && found == flushed);
-}
-
-fn assert_access(rt: &impl Abort, storage: &mut Storage, call: Call, tag: u128) {
+fn assert_access(rt: &impl Abort, storage: &mut Storage, call: Call) {
     match call {
         Call::Load {
             addr,
@@ -111,7 +93,7 @@ fn assert_access(rt: &impl Abort, storage: &mut Storage, call: Call, tag: u128) 
         } => {
             assert!(rt; 0 < size && size <= 8 && 0 < align);
             assert!(rt;
-                storage.store(addr, size, align, value, tag) == answer,
+                storage.store(addr, size, align, value) == answer,
                 "store at {addr}"
             );
         }
@@ -132,7 +114,7 @@ fn assert_access(rt: &impl Abort, storage: &mut Storage, call: Call, tag: u128) 
     }
 }
 
-fn assert_call(rt: &impl Abort, alloc: Global, storage: &mut Storage, call: Call, tag: u128) {
+fn assert_call(rt: &impl Abort, storage: &mut Storage, call: Call) {
     match call {
         Call::Flush { addr, answer } => assert!(rt;
             storage.flush(addr) == answer,
@@ -147,22 +129,20 @@ fn assert_call(rt: &impl Abort, alloc: Global, storage: &mut Storage, call: Call
         Call::Persist { addr, size, answer } => {
             assert!(rt; storage.persist(addr, size) == answer, "{size} from {addr}");
         }
-        Call::Fence => storage.fence(),
         Call::InRegion { addr, size, answer } => {
             assert!(rt;
                 storage.is_in_region(addr, size) == answer,
                 "{size} from {addr}"
             );
         }
-        Call::Loose { bytes, flushed } => assert_loose(rt, alloc, storage, bytes, flushed),
-        access => assert_access(rt, storage, access, tag),
+        access => assert_access(rt, storage, access),
     }
 }
 
-/// The calls in turn, before the first step of a run; each is tagged with its number.
-fn assert_calls_in(rt: &impl Abort, alloc: Global, storage: &mut Storage, calls: &[Call]) {
-    for (number, call) in calls.iter().enumerate() {
-        assert_call(rt, alloc, storage, *call, number as u128);
+/// The calls in turn, before the first step of a run.
+fn assert_calls_in(rt: &impl Abort, storage: &mut Storage, calls: &[Call]) {
+    for call in calls {
+        assert_call(rt, storage, *call);
     }
 }
 
@@ -171,10 +151,10 @@ fn assert_calls(rt: &impl Abort, alloc: Global, calls: &[Call]) {
     let input = input(rt, alloc, &checked, &[], 1);
     assert!(rt; why_not(&checked, &input).is_none(), "the input is valid");
     let mut storage = Storage::new(alloc, &checked, &input).expect(rt, AMPLE);
-    assert_calls_in(rt, alloc, &mut storage, calls);
+    assert_calls_in(rt, &mut storage, calls);
 }
 
-/// A store that lies in two cache lines is durable line by line.
+/// A store that lies in two cache lines, and flushes of these.
 const TORN: &[Call] = &[
     Call::Store {
         addr: BASE + 60,
@@ -182,10 +162,6 @@ const TORN: &[Call] = &[
         align: 8,
         value: 5,
         answer: Err(StorageRefusal::Trap(TrapKind::Misaligned)),
-    },
-    Call::Loose {
-        bytes: 0,
-        flushed: 0,
     },
     Call::Store {
         addr: BASE + 60,
@@ -204,25 +180,12 @@ const TORN: &[Call] = &[
         align: 4,
         answer: Ok(5),
     },
-    Call::Loose {
-        bytes: 8,
-        flushed: 0,
-    },
     Call::Flush {
         addr: BASE,
         answer: Ok(Event::Flush {
             line: BASE,
             size: 64,
         }),
-    },
-    Call::Loose {
-        bytes: 8,
-        flushed: 4,
-    },
-    Call::Fence,
-    Call::Loose {
-        bytes: 4,
-        flushed: 0,
     },
     Call::FlushRange {
         addr: BASE + 60,
@@ -231,15 +194,6 @@ const TORN: &[Call] = &[
             line: BASE,
             size: 128,
         }),
-    },
-    Call::Loose {
-        bytes: 4,
-        flushed: 4,
-    },
-    Call::Fence,
-    Call::Loose {
-        bytes: 0,
-        flushed: 0,
     },
 ];
 
@@ -300,10 +254,6 @@ const RANGES: &[Call] = &[
         addr: VOLATILE,
         size: 2,
         answer: Ok(Event::Fence),
-    },
-    Call::Loose {
-        bytes: 0,
-        flushed: 0,
     },
     Call::Persist {
         addr: VOLATILE,
@@ -379,10 +329,6 @@ const VOLATILE_CALLS: &[Call] = &[
         size: 16_777_217,
         align: 1,
         answer: Err(StorageRefusal::Trap(TrapKind::Stack)),
-    },
-    Call::Loose {
-        bytes: 0,
-        flushed: 0,
     },
 ];
 

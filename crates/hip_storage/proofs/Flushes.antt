@@ -1,16 +1,13 @@
--- What the flush of a range in the region has done.
-use Rattle.std.proofs.Common.{inr, ◌≡◌, ℕ, ◌+◌, ◌-◌, ◌*◌, ◌/◌, ◌<◌, ◌≤◌, true, cond, ◌&&◌, List, length, None, Some, sym, ap, ap₂, ◌∙◌, lt-ltb, arith}
-use Rattle.hip_lines.specs.Parts.{pending_flushed_all}
-use Rattle.hip_lines.specs.Pending.{Pending}
+-- What the flush of a range in the region shows.
+use Rattle.std.proofs.Common.{inr, ◌≡◌, ℕ, ◌+◌, ◌-◌, ◌*◌, ◌/◌, ◌<◌, ◌≤◌, true, cond, ◌&&◌, length, None, Some, sym, ap, ap₂, ◌∙◌, lt-ltb, arith}
 use Rattle.hip_types.specs.declared.areas.TheConstants.{LINE_SIZE}
-use Rattle.hip_lines.specs.declared.part.Part.{Part}
 use Rattle.hip_mem.specs.Laws.AreasLaws.{fits-are_valid}
 use Rattle.hip_runs.specs.Actions.{is_within}
 use Rattle.hip_runs.specs.Step.{first_line, lines_size}
 use Rattle.hip_runs.specs.StoredParts.Persistence.{flushes_lines}
 use Rattle.hip_runs.specs.declared.event.Event.TheVariants as events
 use Rattle.hip_runs.specs.declared.event.TrapKind.TheVariants as traps
-use Rattle.hip_storage.specs.Calls.{HasFlushed}
+use Rattle.hip_storage.specs.Calls.{ShowsFlush}
 use Rattle.hip_storage.specs.Contents.{Contents, range_trap, region_of}
 
 -- a range in the region of the code, whose base and size are those of the contents, has bytes
@@ -29,19 +26,15 @@ module _ {s : Contents} {base size a n : ℕ} (r : IsReached s base size a n) wh
   allowed : range_trap s a n ≡ None
   allowed = ap (λ t. cond t None (Some traps.Address)) (fits-are_valid s.areas n a (inr (inr (omega (arith, r.low, r.base_is), omega (arith, r.high, r.base_is, r.size_is)))))
 
-  lines_are : (ls : List (Pending Part)) → ls ≡ pending_flushed_all (a - base) n s.lines → ls ≡ cond (flushes_lines (region_of s) a n) (pending_flushed_all (a - s.areas.base) n s.lines) s.lines
-  lines_are ls e = e ∙ ap (λ b. pending_flushed_all (a - b) n s.lines) r.base_is ∙ ap (λ t. cond t (pending_flushed_all (a - s.areas.base) n s.lines) s.lines) (sym reaches)
-
   first_is : (l : ℕ) → l ≡ base + LINE_SIZE * ((a - base) / LINE_SIZE) → l ≡ first_line (region_of s) a
   first_is l e = e ∙ ap (λ b. b + LINE_SIZE * ((a - b) / LINE_SIZE)) r.base_is
 
   size_is : (z : ℕ) → z ≡ LINE_SIZE * (((a - base) + n - 1) / LINE_SIZE + 1) - LINE_SIZE * ((a - base) / LINE_SIZE) → z ≡ lines_size (region_of s) a n
   size_is z e = e ∙ ap (λ b. LINE_SIZE * (((a - b) + n - 1) / LINE_SIZE + 1) - LINE_SIZE * ((a - b) / LINE_SIZE)) r.base_is
 
-  pub flushes : {ls : List (Pending Part)} {l z : ℕ} → ls ≡ pending_flushed_all (a - base) n s.lines → l ≡ base + LINE_SIZE * ((a - base) / LINE_SIZE) →
-      z ≡ LINE_SIZE * (((a - base) + n - 1) / LINE_SIZE + 1) - LINE_SIZE * ((a - base) / LINE_SIZE) → HasFlushed s (record { areas = s.areas; lines = ls }) (events.Flush l z) a n
-  flushes {ls} {l} {z} e f g = record {
+  pub flushes : {l z : ℕ} → l ≡ base + LINE_SIZE * ((a - base) / LINE_SIZE) →
+      z ≡ LINE_SIZE * (((a - base) + n - 1) / LINE_SIZE + 1) - LINE_SIZE * ((a - base) / LINE_SIZE) → ShowsFlush s (events.Flush l z) a n
+  flushes {l} {z} f g = record {
     allowed = allowed;
-    contents = ap (λ x. record { areas = s.areas; lines = x }) (lines_are ls e);
     seen = ap₂ events.Flush (first_is l f) (size_is z g) ∙ ap (λ t. cond t (events.Flush (first_line (region_of s) a) (lines_size (region_of s) a n)) events.Quiet) (sym reaches);
   }

@@ -4,7 +4,7 @@ use Rattle.hip_mem.specs.Areas.{bytes_in, block_address}
 use Rattle.hip_types.specs.Bytes.{little_endian}
 use Rattle.hip_runs.specs.declared.event.Event.{Event}
 use Rattle.hip_runs.specs.declared.event.TrapKind.{TrapKind}
-use Rattle.hip_storage.specs.Contents.{Contents, access_trap, block_trap, range_trap, after_store, after_push, after_flush, after_fence, store_event, flush_event, persist_event}
+use Rattle.hip_storage.specs.Contents.{Contents, access_trap, block_trap, range_trap, after_store, after_push, store_event, flush_event, persist_event}
 use Rattle.hip_storage.specs.declared.refusal.StorageRefusal.{StorageRefusal}
 use Rattle.hip_storage.specs.declared.refusal.StorageRefusal.TheVariants.{Trap, NoMemory}
 
@@ -13,10 +13,10 @@ pub record HasLoaded (s : Contents) (a n align value : ℕ) : Type 0 where
   pub allowed : access_trap s a n align ≡ None
   pub loaded : value ≡ little_endian (bytes_in s.areas a n)
 
--- the low n bytes of a number were stored, and their parts have the tag
-pub record HasStored (old new : Contents) (event : Event) (a n align value tag : ℕ) : Type 0 where
+-- the low n bytes of a number were stored
+pub record HasStored (old new : Contents) (event : Event) (a n align value : ℕ) : Type 0 where
   pub allowed : access_trap old a n align ≡ None
-  pub contents : new ≡ after_store a n value tag old
+  pub contents : new ≡ after_store a n value old
   pub seen : event ≡ store_event old a n value
 
 -- a block was made on the stack
@@ -25,17 +25,15 @@ pub record HasPushed (old new : Contents) (block size align : ℕ) : Type 0 wher
   pub contents : new ≡ after_push size align old
   pub address : block ≡ block_address old.areas align
 
--- the cache lines of a range were flushed
-pub record HasFlushed (old new : Contents) (event : Event) (a n : ℕ) : Type 0 where
-  pub allowed : range_trap old a n ≡ None
-  pub contents : new ≡ after_flush a n old
-  pub seen : event ≡ flush_event old a n
+-- the cache lines of a range may be flushed, and this is seen of it
+pub record ShowsFlush (s : Contents) (event : Event) (a n : ℕ) : Type 0 where
+  pub allowed : range_trap s a n ≡ None
+  pub seen : event ≡ flush_event s a n
 
--- the cache lines of a range were flushed, and a fence came
-pub record HasPersisted (old new : Contents) (event : Event) (a n : ℕ) : Type 0 where
-  pub allowed : range_trap old a n ≡ None
-  pub contents : new ≡ after_fence (after_flush a n old)
-  pub seen : event ≡ persist_event old a n
+-- the cache lines of a range may be flushed with a fence after it, and this is seen of it
+pub record ShowsPersist (s : Contents) (event : Event) (a n : ℕ) : Type 0 where
+  pub allowed : range_trap s a n ≡ None
+  pub seen : event ≡ persist_event s a n
 
 -- a refusal is the trap of the run, or says that no memory was left
 abbrev pub IsRefusedFor : Option TrapKind → StorageRefusal → Type 0

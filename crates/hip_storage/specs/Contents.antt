@@ -1,5 +1,5 @@
--- What contracts see of the storage of a run, and what the actions of a step do to it.
-use Rattle.std.specs.Prelude.{ℕ, ◌-◌, ◌/◌, Bool, cond, nat_le, List, [], length, Option, Some, None, option_map}
+-- What contracts see of the storage of a run, and what the actions of a step do to it and show of it.
+use Rattle.std.specs.Prelude.{ℕ, Bool, cond, nat_le, [], Option, Some, None, option_map}
 use Rattle.hip_tree.specs.declared.program.Program.{Program}
 use Rattle.hip_mem.specs.Areas as areas
 use Rattle.hip_mem.specs.Areas.{Areas, after_write, are_valid, pushed_mark}
@@ -7,32 +7,23 @@ use Rattle.hip_types.specs.Bytes.{bytes_of, little_endian}
 use Rattle.hip_types.specs.Areas.{stack_end}
 use Rattle.hip_mem.specs.declared.refusal.MemTrap.{MemTrap}
 use Rattle.hip_mem.specs.declared.refusal.MemTrap.TheVariants as mem_traps
-use Rattle.hip_lines.specs.Parts.{pending_stored, pending_flushed_all, pending_fenced_all, none_pending_all}
-use Rattle.hip_lines.specs.Pending.{Pending}
-use Rattle.hip_types.specs.declared.areas.TheConstants.{LINE_SIZE}
-use Rattle.hip_lines.specs.declared.part.Part.{Part}
 use Rattle.hip_globals.specs.Initial.{volatile_bytes}
 use Rattle.hip_runs.specs.Actions.{Flushes, Persists, in_region}
 use Rattle.hip_runs.specs.Step.{event_of}
-use Rattle.hip_runs.specs.StoredParts.Persistence.{flushes_lines}
 use Rattle.hip_runs.specs.declared.event.Event.{Event}
 use Rattle.hip_runs.specs.declared.event.Event.TheVariants as events
 use Rattle.hip_runs.specs.declared.event.TrapKind.{TrapKind}
 use Rattle.hip_runs.specs.declared.event.TrapKind.TheVariants as traps
 use Rattle.hip_runs.specs.declared.input.Input.{Input}
 
--- the bytes of the memory, and the pending parts of each cache line of the region
+-- the bytes of the memory
 pub record Contents : Type 0 where
   pub areas : Areas
-  pub lines : List (Pending Part)
 
--- before the first step of a run: the initial bytes, an empty stack, and lines into which nothing was stored
+-- before the first step of a run: the initial bytes and an empty stack
 abbrev pub initial : Program → Input → Contents
 initial P I =
-    record {
-      areas = record { base = I.base; volatile = volatile_bytes P I.base; stack = []; region = I.image };
-      lines = none_pending_all (length I.image / LINE_SIZE);
-    }
+    record { areas = record { base = I.base; volatile = volatile_bytes P I.base; stack = []; region = I.image } }
 
 -- ---- the region
 
@@ -65,33 +56,17 @@ block_trap s size align = cond (nat_le (pushed_mark s.areas size align) stack_en
 
 -- ---- changes
 
--- The low n bytes of a number are written from address a on. In the region each cache line that has some of them gets
--- these as a part, with the store's tag.
-abbrev pub after_store : ℕ → ℕ → ℕ → ℕ → Contents → Contents
-after_store a n value tag s =
-    record {
-      areas = after_write (record { addr = a; bytes = bytes_of n value }) s.areas;
-      lines = cond (lies_in_region s a n) (pending_stored (a - s.areas.base) n tag s.lines) s.lines;
-    }
+-- the low n bytes of a number are written from address a on
+abbrev pub after_store : ℕ → ℕ → ℕ → Contents → Contents
+after_store a n value s = record { areas = after_write (record { addr = a; bytes = bytes_of n value }) s.areas }
 
 -- a new block on the stack, and the stack with its mark set back
 abbrev pub after_push : ℕ → ℕ → Contents → Contents
 after_push size align s = record s { areas = areas.after_push (pushed_mark s.areas size align) s.areas }
 
--- the stack with its mark set back to this one: its bytes from there on are gone, and the cache lines stay
+-- the stack with its mark set back to this one: its bytes from there on are gone
 abbrev pub after_pop : ℕ → Contents → Contents
 after_pop mark s = record s { areas = areas.after_pop mark s.areas }
-
--- each cache line that has a byte of the range is flushed; and a fence makes durable what is flushed
-abbrev pub after_flush : ℕ → ℕ → Contents → Contents
-after_flush a n s =
-    record s {
-      lines = cond (flushes_lines (region_of s) a n) (pending_flushed_all (a - s.areas.base) n s.lines) s.lines;
-    }
-
--- what is flushed becomes durable, in every cache line: it is no longer pending
-abbrev pub after_fence : Contents → Contents
-after_fence s = record s { lines = pending_fenced_all s.lines }
 
 -- ---- what is seen from outside
 

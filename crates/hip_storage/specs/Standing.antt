@@ -1,4 +1,4 @@
--- What the storage of a run stands for: its memory and its cache lines.
+-- What the storage of a run stands for: its memory.
 use Rattle.std.specs.Prelude.{◌≡◌, ℕ, Bool, cond, ◌+◌, ◌<◌, List, length, Option}
 use Rattle.hip_tree.specs.declared.program.Program.{Program}
 use Rattle.hip_globals.specs.Addresses.{volatile_end}
@@ -7,7 +7,7 @@ use Rattle.hip_lines.specs.Line.{Line}
 use Rattle.hip_mem.specs.Memory.{Write}
 use Rattle.hip_types.specs.Areas.{volatile_start}
 use Rattle.hip_runs.specs.Actions.{Action, accessed, flushing}
-use Rattle.hip_runs.specs.Standing.{HoldsMemory, HoldsLines}
+use Rattle.hip_runs.specs.Standing.{HoldsMemory}
 use Rattle.hip_runs.specs.State.{Counts, Frame, State, StorePart, World}
 use Rattle.hip_runs.specs.Step.{event_of, perform, with_turn}
 use Rattle.hip_runs.specs.declared.event.Event.{Event}
@@ -15,17 +15,15 @@ use Rattle.hip_runs.specs.declared.event.TrapKind.{TrapKind}
 use Rattle.hip_runs.specs.declared.input.Input.{Input}
 use Rattle.hip_storage.specs.Contents.{Contents, access_trap}
 
--- The contents are those of a run's memory after these writes, with this stack mark, and of these cache lines; and the
--- initial bytes of the volatile globals end where the last of these does.
-pub record HoldsRun (P : Program) (I : Input) (s : Contents) (writes : List Write) (mark : ℕ)
-    (ls : List (Line StorePart)) : Type 0 where
+-- The contents are those of a run's memory after these writes, with this stack mark; and the initial bytes of the
+-- volatile globals end where the last of these does.
+pub record HoldsRun (P : Program) (I : Input) (s : Contents) (writes : List Write) (mark : ℕ) : Type 0 where
   pub volatile : volatile_start + length (volatile_bytes P I.base) ≡ volatile_end P
   pub memory : HoldsMemory P I s.areas writes mark
-  pub lines : HoldsLines I s.lines ls
 
 -- the contents are those of a state
 abbrev pub HoldsState : Program → Input → Contents → State → Type 0
-HoldsState P I s t = HoldsRun P I s t.world.writes t.world.mark t.lines
+HoldsState P I s t = HoldsRun P I s t.world.writes t.world.mark
 
 -- What a step begins with: the world, the top frame and those below, the cache lines, and the counts before it and
 -- after it; and whether it is a turn.
@@ -40,7 +38,7 @@ pub record Point : Type 0 where
 
 -- the contents are those of the state that a step begins with
 abbrev pub HoldsAt : Program → Input → Contents → Point → Type 0
-HoldsAt P I s p = HoldsRun P I s p.world.writes p.world.mark p.lines
+HoldsAt P I s p = HoldsRun P I s p.world.writes p.world.mark
 
 -- A storage at a step of a run: the run's program and input, what the step begins with, and the contents of the
 -- storage, which are those of the state there.

@@ -11,8 +11,8 @@ ghost use Rattle.hip_runs.specs.declared.event.Event.TheVariants as events;
 ghost use Rattle.hip_runs.specs.declared.event.Event.{Event};
 ghost use Rattle.hip_runs.specs.declared.event.TrapKind.TheVariants as traps;
 ghost use Rattle.hip_runs.specs.declared.event.TrapKind.{TrapKind};
-ghost use Rattle.hip_storage.specs.Calls.{HasFlushed, HasLoaded, HasPersisted, HasPushed, HasStored};
-ghost use Rattle.hip_storage.specs.Contents.{Contents, after_fence, after_pop, block_trap, lies_in_region, range_trap};
+ghost use Rattle.hip_storage.specs.Calls.{HasLoaded, HasPushed, HasStored, ShowsFlush, ShowsPersist};
+ghost use Rattle.hip_storage.specs.Contents.{Contents, after_pop, block_trap, lies_in_region, range_trap};
 ghost use Rattle.hip_storage.specs.Standing.{Access, Does, Stand, accessed_at, flushing_at, trap_at};
 
 /// A load assigns the number that the bytes of the run's memory give, modulo whatever the register's type asks. It is
@@ -27,11 +27,10 @@ pub fn loads_are_those_of_the_run()
         Does at at.contents (events.End (Trap kind)) (accessed_at at x go) (Traps kind) }
 {}
 
-/// A store is that of the run, and its tag is the number of steps before it. It is refused exactly where the run traps,
-/// for the same cause.
+/// A store is that of the run. It is refused exactly where the run traps, for the same cause.
 pub fn stores_are_those_of_the_run()
     ensures done { (at : Stand) → (x : Access) → (new : Contents) → (event : Event) → (value : ℕ)
-        → HasStored at.contents new event x.addr x.size x.align value at.point.before.steps →
+        → HasStored at.contents new event x.addr x.size x.align value →
         Does at new event (accessed_at at x (Stores x.addr (bytes_of x.size value)))
         (Stores x.addr (bytes_of x.size value)) }
     ensures refused { (at : Stand) → (x : Access) → (kind : TrapKind) → (value : ℕ) → trap_at at x ≡ Some kind →
@@ -53,19 +52,17 @@ pub fn blocks_are_those_of_the_run()
         Does at (after_pop at.point.frame.mark at.contents) events.Quiet (Returns value) (Returns value) }
 {}
 
-/// A flush of a range, with or without a fence after it, is that of the run: the lines, the event, and the trap. A flush
-/// of the line of an address is a flush of the range of its byte.
+/// A flush of a range, with or without a fence after it, is that of the run: the event and the trap. It changes no
+/// byte. A flush of the line of an address is a flush of the range of its byte.
 pub fn flushes_are_those_of_the_run()
-    ensures flushed { (at : Stand) → (new : Contents) → (event : Event) → (addr size : ℕ)
-        → HasFlushed at.contents new event addr size →
-        Does at new event (flushing_at at addr size (Flushes addr size)) (Flushes addr size) }
-    ensures persisted { (at : Stand) → (new : Contents) → (event : Event) → (addr size : ℕ)
-        → HasPersisted at.contents new event addr size →
-        Does at new event (flushing_at at addr size (Persists addr size)) (Persists addr size) }
+    ensures flushed { (at : Stand) → (event : Event) → (addr size : ℕ) → ShowsFlush at.contents event addr size →
+        Does at at.contents event (flushing_at at addr size (Flushes addr size)) (Flushes addr size) }
+    ensures persisted { (at : Stand) → (event : Event) → (addr size : ℕ) → ShowsPersist at.contents event addr size →
+        Does at at.contents event (flushing_at at addr size (Persists addr size)) (Persists addr size) }
     ensures refused { (at : Stand) → (addr size : ℕ) → (kind : TrapKind) → (go : Action)
         → range_trap at.contents addr size ≡ Some kind →
         Does at at.contents (events.End (Trap kind)) (flushing_at at addr size go) (Traps kind) }
-    ensures fenced { (at : Stand) → Does at (after_fence at.contents) events.Fence Fences Fences }
+    ensures fenced { (at : Stand) → Does at at.contents events.Fence Fences Fences }
 {}
 
 /// A range is checked in the run where it lies in the region; elsewhere the run traps.

@@ -1,4 +1,4 @@
-//! The memory and the cache lines of a run, with one call for each action of a step on them.
+//! The memory of a run, with one call for each action of a step on it.
 #![tactic(auto)]
 
 mod laws;

@@ -2,7 +2,6 @@ ghost use Rattle.std.specs.Prelude.{◌≡◌, ◌+◌, ◌-◌, ◌*◌, ◌/�
 ghost use Rattle.std.specs.Bool.{OnTrue};
 ghost use Rattle.hip_types.specs.declared.limits.TheConstants.{LARGEST_REGION};
 ghost use Rattle.hip_types.specs.declared.areas.TheConstants.{LINE_SIZE};
-ghost use Rattle.hip_lines.specs.Parts.{pending_stored};
 ghost use Rattle.hip_mem.specs.Areas.{access_trap, after_write};
 ghost use Rattle.hip_types.specs.Bytes.{little_endian, bytes_of};
 ghost use Rattle.hip_runs.specs.Actions.{is_within};
@@ -10,7 +9,6 @@ ghost use Rattle.hip_storage.specs.Calls.{IsRefusedFor};
 ghost use Rattle.hip_storage.specs.Contents.{kind_of, with_fence};
 
 use crate::refusal::StorageRefusal;
-use hip_lines::Lines;
 use hip_mem::{MemTrap, Ram, StoreRefusal};
 use hip_runs::{Event, TrapKind};
 use hip_types::LINE_SIZE;
@@ -75,22 +73,6 @@ pub fn put(
         Err(StoreRefusal::Misaligned) => Err(StorageRefusal::Trap(TrapKind::Misaligned)),
         Err(StoreRefusal::BadAddress) => Err(StorageRefusal::Trap(TrapKind::Address)),
         Err(StoreRefusal::NoMemory) => Err(StorageRefusal::NoMemory),
-    }
-}
-
-/// Notes the parts of a store for which room was made.
-#[inline(always)]
-pub fn note(lines: &mut Lines, offset: u64, count: u32, tag: u128)
-    requires some { 0 < count }
-    requires few { count ≤ 8 }
-    requires within { offset + count ≤ LINE_SIZE * length lines.old.lines }
-    requires room { lines.old.room ≡ Some (offset, count) }
-    ensures lines { lines.new.lines ≡ pending_stored offset count tag lines.old.lines }
-    ensures length { length lines.new.lines ≡ length lines.old.lines }
-{
-    match lines.note_store(offset, count, tag) {
-        Ok(()) => {}
-        Err(_) => unreachable!(),
     }
 }
 

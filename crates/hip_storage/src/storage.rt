@@ -1,12 +1,11 @@
-ghost use Rattle.std.specs.Prelude.{◌≡◌, ◌*◌, ◌/◌, ◌<◌, ◌≤◌, [], length, IfOk, IfErr, OnErr};
+ghost use Rattle.std.specs.Prelude.{◌≡◌, ◌<◌, ◌≤◌, IfOk, IfErr, OnErr};
 ghost use Rattle.hip_mem.specs.Areas.{IsLaidOut, mark_of};
 ghost use Rattle.hip_types.specs.Areas.{stack_start};
 ghost use Rattle.hip_runs.specs.Step.{start};
 ghost use Rattle.hip_runs.specs.Validity.{IsValid};
 
 use crate::refusal::StorageRefusal;
-use crate::region::{first_line, is_inside, kind_of, lines_size, low_bytes, note, put, with_fence};
-use hip_lines::Lines;
+use crate::region::{first_line, is_inside, kind_of, lines_size, low_bytes, put, with_fence};
 use hip_mem::{PushRefusal, Ram};
 use hip_runs::{Event, Input, TrapKind};
 use hip_sound::Checked;
@@ -14,15 +13,14 @@ use hip_types::{LINE_SIZE, NoMemory};
 use std::alloc::Global;
 use std::marker::Model;
 
-/// The memory of a run and the cache lines of its region, which contracts see as the bytes that are valid and the
-/// pending parts of each line.
+/// The memory of a run, which contracts see as the bytes that are valid. It knows where the region lies, and shows what
+/// is stored into it and flushed; cache lines are not kept here.
 #[derive(Drop)]
 pub struct Storage {
     // Where the region begins, and how many bytes it has.
     base: u64,
     size: u64,
     ram: Ram,
-    lines: Lines,
 }
 
 impl Model for Storage {
@@ -38,8 +36,8 @@ impl Model for Storage {
 }
 
 impl Storage {
-    ghost use Rattle.hip_storage.specs.Calls.{HasLoaded, HasStored, HasPushed, HasFlushed, HasPersisted, IsRefusedFor};
-    ghost use Rattle.hip_storage.specs.Contents.{initial, lies_in_region, access_trap, block_trap, range_trap, after_pop, after_fence};
+    ghost use Rattle.hip_storage.specs.Calls.{HasLoaded, HasStored, HasPushed, ShowsFlush, ShowsPersist, IsRefusedFor};
+    ghost use Rattle.hip_storage.specs.Contents.{initial, lies_in_region, access_trap, block_trap, range_trap, after_pop};
     ghost use Rattle.hip_storage.specs.Standing.{HoldsState};
 
     /// The storage before the first step of a run. The time is that of the initial bytes.
@@ -54,12 +52,10 @@ impl Storage {
         let region = input.image.as_slice();
         let ram = Ram::new(alloc, input.base, volatile.as_slice(), region)?;
         let size = region.len() as u64;
-        let lines = Lines::new(alloc, size)?;
         Ok(Storage {
             base: input.base,
             size,
             ram,
-            lines,
         })
     }
 
@@ -78,8 +74,7 @@ impl Storage {
         }
     }
 
-    /// Stores the low bytes of a number, the lowest first, and notes its parts in the region under a tag, which is the
-    /// number of steps before it. Room for the parts is made before the memory is written.
+    /// Stores the low bytes of a number, the lowest first.
     #[inline(always)]
     pub fn store(
         &mut self,
@@ -87,25 +82,18 @@ impl Storage {
         size: u32,
         align: u32,
         value: u64,
-        tag: u128,
     ) -> Result<Event, StorageRefusal>
         requires some { 0 < size }
         requires few { size ≤ 8 }
         requires align { 0 < align }
-        ensures ok { IfOk result (λ event. HasStored self.old self.new event addr size align value tag) }
+        ensures ok { IfOk result (λ event. HasStored self.old self.new event addr size align value) }
         ensures err { OnErr result (self.new ≡ self.old) }
         ensures refusal { IfErr result (λ refusal. IsRefusedFor (access_trap self.old addr size align) refusal) }
     {
+        put(&mut self.ram, addr, size, align, value)?;
         if !is_inside(self.base, self.size, addr, size as u64) {
-            put(&mut self.ram, addr, size, align, value)?;
             return Ok(Event::Quiet);
         }
-        let offset = addr - self.base;
-        if self.lines.make_room(offset, size).is_err() {
-            return Err(StorageRefusal::NoMemory);
-        }
-        put(&mut self.ram, addr, size, align, value)?;
-        note(&mut self.lines, offset, size, tag);
         Ok(Event::Store {
             addr,
             value: low_bytes(value, size),
@@ -148,16 +136,14 @@ impl Storage {
         self.ram.pop_stack(mark);
     }
 
-    /// Flushes the cache line of an address: none where it lies outside the region.
+    /// What a flush of the cache line of an address shows: no line where it lies outside the region.
     #[inline(always)]
-    pub fn flush(&mut self, addr: u64) -> Result<Event, TrapKind>
-        ensures ok { IfOk result (λ event. HasFlushed self.old self.new event addr 1) }
-        ensures err { OnErr result (self.new ≡ self.old) }
-        ensures trap { IfErr result (λ kind. range_trap self.old addr 1 ≡ Some kind) }
+    pub fn flush(&self, addr: u64) -> Result<Event, TrapKind>
+        ensures ok { IfOk result (λ event. ShowsFlush self.now event addr 1) }
+        ensures trap { IfErr result (λ kind. range_trap self.now addr 1 ≡ Some kind) }
     {
         if is_inside(self.base, self.size, addr, 1) {
             let offset = addr - self.base;
-            self.lines.flush(offset);
             return Ok(Event::Flush {
                 line: first_line(self.base, offset),
                 size: LINE_SIZE,
@@ -169,15 +155,13 @@ impl Storage {
         Err(TrapKind::Address)
     }
 
-    /// Flushes the cache lines of a range: none where it has no bytes, or lies outside the region.
-    pub fn flush_range(&mut self, addr: u64, size: u64) -> Result<Event, TrapKind>
-        ensures ok { IfOk result (λ event. HasFlushed self.old self.new event addr size) }
-        ensures err { OnErr result (self.new ≡ self.old) }
-        ensures trap { IfErr result (λ kind. range_trap self.old addr size ≡ Some kind) }
+    /// What a flush of the cache lines of a range shows: no line where it has no bytes, or lies outside the region.
+    pub fn flush_range(&self, addr: u64, size: u64) -> Result<Event, TrapKind>
+        ensures ok { IfOk result (λ event. ShowsFlush self.now event addr size) }
+        ensures trap { IfErr result (λ kind. range_trap self.now addr size ≡ Some kind) }
     {
         if size > 0 && is_inside(self.base, self.size, addr, size) {
             let offset = addr - self.base;
-            self.lines.flush_range(offset, size);
             return Ok(Event::Flush {
                 line: first_line(self.base, offset),
                 size: lines_size(offset, size),
@@ -189,23 +173,13 @@ impl Storage {
         Err(TrapKind::Address)
     }
 
-    /// Flushes the cache lines of a range as `flush_range` does, and then makes durable all that is flushed.
-    pub fn persist(&mut self, addr: u64, size: u64) -> Result<Event, TrapKind>
-        ensures ok { IfOk result (λ event. HasPersisted self.old self.new event addr size) }
-        ensures err { OnErr result (self.new ≡ self.old) }
-        ensures trap { IfErr result (λ kind. range_trap self.old addr size ≡ Some kind) }
+    /// What a flush of the cache lines of a range with a fence after it shows: the fence alone where no line is flushed.
+    pub fn persist(&self, addr: u64, size: u64) -> Result<Event, TrapKind>
+        ensures ok { IfOk result (λ event. ShowsPersist self.now event addr size) }
+        ensures trap { IfErr result (λ kind. range_trap self.now addr size ≡ Some kind) }
     {
         let event = self.flush_range(addr, size)?;
-        self.fence();
         Ok(with_fence(event))
-    }
-
-    /// Makes durable all that is flushed.
-    #[inline(always)]
-    pub fn fence(&mut self)
-        ensures { self.new ≡ after_fence self.old }
-    {
-        self.lines.fence();
     }
 
     /// Whether a range lies in the region.
@@ -214,14 +188,5 @@ impl Storage {
         ensures { result ≡ lies_in_region self.now addr size }
     {
         is_inside(self.base, self.size, addr, size)
-    }
-
-    /// The cache lines of the region.
-    #[inline(always)]
-    pub fn lines(&self) -> &Lines
-        ensures lines { result.now.lines ≡ self.now.lines }
-        ensures whole { length self.now.areas.region ≡ LINE_SIZE * length self.now.lines }
-    {
-        &self.lines
     }
 }

@@ -42,11 +42,11 @@ module _ (P : Program) (I : Input) (found : Findings) (thinned : Thinned) (is : 
   row : HasThinned P I found answer
   row = record {
     status_is = refl;
-    out_is = ap show is.repair.program_is;
+    out_is = ap show is.repair.applied.program_is;
     notes_is =
         ap (λ (n : ℕ). thin_counts (length found.reports) thinned.repair.plan (length thinned.repair.repaired.clones) n) is.spared_is
         ∙ ap (λ (cs : List CloneOf). thin_counts (length found.reports) thinned.repair.plan (length cs)
-        (spared_count P (plan_for P found))) is.repair.clones_are
+        (spared_count P (plan_for P found))) is.repair.applied.clones_are
         ∙ ap (λ (plan : Plan). thin_counts (length found.reports) plan (length (clone_numbers P (plan_for P found)))
         (spared_count P (plan_for P found))) is.repair.plan_is;
     cured = cured;

@@ -55,7 +55,7 @@ fn put_thinned<S: Sink, N: Sink>(
     let _program = checked.program();
     match write(thinned.repair.repaired.checked.program(), out) {
         Ok(()) => {
-            let reports = replayed.findings.reports.len();
+            let reports = replayed.findings.reports().len();
             let clones = thinned.repair.repaired.clones.len();
             let tried = put_thin_counts(
                 notes,

@@ -6,4 +6,4 @@ mod repairing;
 pub use hip_levels::{
     direct_stores_are_low, least_levels_are_least, low_stores_are_quiet, quiet_stores,
 };
-pub use repairing::apply_quiet;
+pub use repairing::{QuietRepair, apply_quiet, quiet_repair};

@@ -3,8 +3,6 @@ use Rattle.std.proofs.Common.{◌≡◌, ℕ, zero, suc, ◌+◌, ◌-◌, ◌*�
 use Rattle.std.proofs.lemmas.Bool.Decides.{nat_tests}
 use Rattle.std.specs.Int.{next_multiple_of}
 use Rattle.hip_tree.specs.declared.program.Program.{Program}
-use Rattle.hip_lines.specs.Line.{Line, change_range}
-use Rattle.hip_lines.specs.Parts.{pending_stored, pending_flushed_all}
 use Rattle.hip_types.specs.declared.areas.TheConstants.{LINE_SIZE}
 use Rattle.hip_mem.specs.Areas as areas
 use Rattle.hip_mem.specs.Areas.{Areas, Holds, mark_of, block_address, pushed_mark, bytes_in}
@@ -17,12 +15,10 @@ use Rattle.hip_mem.specs.declared.refusal.MemTrap.{MemTrap}
 use Rattle.hip_mem.specs.declared.refusal.MemTrap.TheVariants as mem_traps
 use Rattle.hip_runs.specs.Actions.{Action, Traps, Assigns, Allocates, Stores, Flushes, Persists, Fences, Asserts, Returns, accessed, allocated, flushing, in_region, is_within, memory_of}
 use Rattle.hip_runs.specs.Actions as actions
-use Rattle.hip_runs.specs.Laws.Standing.ShownLaws.{holds_store, holds_flushed, holds_fenced}
 use Rattle.hip_runs.specs.Laws.Standing.ValidLaws.{accessed_is, memory_written, unless_trap, valid_is}
-use Rattle.hip_runs.specs.Standing.{HoldsLines, HoldsMemory}
-use Rattle.hip_runs.specs.State.{Flush, Frame, StorePart, World, levels_of, site_of}
+use Rattle.hip_runs.specs.Standing.{HoldsMemory}
+use Rattle.hip_runs.specs.State.{Frame, World}
 use Rattle.hip_runs.specs.Step.{event_of, leave, perform, with_turn}
-use Rattle.hip_runs.specs.StoredParts.Persistence.{fenced_lines, flushed_lines, stored_lines}
 use Rattle.hip_runs.specs.StoredParts.Persistence as persistence
 use Rattle.hip_runs.specs.declared.event.Ending.TheVariants.{Trap}
 use Rattle.hip_runs.specs.declared.event.Event.{Event}
@@ -30,14 +26,13 @@ use Rattle.hip_runs.specs.declared.event.Event.TheVariants as events
 use Rattle.hip_runs.specs.declared.event.TrapKind.{TrapKind}
 use Rattle.hip_runs.specs.declared.event.TrapKind.TheVariants as traps
 use Rattle.hip_runs.specs.declared.input.Input.{Input}
-use Rattle.hip_storage.specs.Calls.{HasLoaded, HasStored, HasPushed, HasFlushed, HasPersisted}
-use Rattle.hip_storage.specs.Contents.{Contents, access_trap, after_fence, after_flush, after_pop, after_push, after_store, block_trap, flush_event, kind_of, lies_in_region, persist_event, range_trap, region_of, store_event}
+use Rattle.hip_storage.specs.Calls.{HasLoaded, HasStored, HasPushed, ShowsFlush, ShowsPersist}
+use Rattle.hip_storage.specs.Contents.{Contents, access_trap, after_pop, after_push, after_store, block_trap, flush_event, kind_of, lies_in_region, persist_event, range_trap, region_of, store_event}
 use Rattle.hip_storage.specs.Standing.{HasDone, HoldsAt, HoldsRun, HoldsState, Point, performed}
 
 -- ---- the region of the contents is that of the run
 
-module _ {P : Program} {I : Input} {s : Contents} {ws : List Write} {mark : ℕ} {ls : List (Line StorePart)}
-    (h : HoldsRun P I s ws mark ls) where
+module _ {P : Program} {I : Input} {s : Contents} {ws : List Write} {mark : ℕ} (h : HoldsRun P I s ws mark) where
   base_is : s.areas.base ≡ I.base
   base_is = h.memory.holds.base
 
@@ -49,44 +44,6 @@ module _ {P : Program} {I : Input} {s : Contents} {ws : List Write} {mark : ℕ}
 
   flushes_is : (a n : ℕ) → persistence.flushes_lines (region_of s) a n ≡ persistence.flushes_lines I a n
   flushes_is a n = ap (λ t. nat_lt 0 n && t) (region_is a n)
-
-  -- ---- the lines
-
-  lines_stored : (p : Point) (a n value : ℕ)
-      → HoldsLines I (after_store a n value p.before.steps s).lines
-      (stored_lines I p.before (site_of p.frame) (levels_of (p.frame ∷ p.frames)) a (bytes_of n value) ls)
-  lines_stored p a n value =
-      subst (λ ps. HoldsLines I ps (stored_lines I p.before (site_of p.frame) (levels_of (p.frame ∷ p.frames)) a
-      (bytes_of n value) ls)) (sym same) (holds_store h.lines p.before (site_of p.frame)
-      (levels_of (p.frame ∷ p.frames)) a (bytes_of n value))
-    where
-      same : cond (lies_in_region s a n) (pending_stored (a - s.areas.base) n p.before.steps s.lines) s.lines
-          ≡ cond (in_region I a (length (bytes_of n value)))
-          (pending_stored (a - I.base) (length (bytes_of n value)) p.before.steps s.lines) s.lines
-      same =
-          ap₂ (λ t b. cond t (pending_stored (a - b) n p.before.steps s.lines) s.lines) (region_is a n) base_is
-          ∙ ap (λ k. cond (in_region I a k) (pending_stored (a - I.base) k p.before.steps s.lines) s.lines)
-          (sym (length-bytes_of n value))
-
-  lines_flushed : (flush : Flush) (a n : ℕ) → HoldsLines I (after_flush a n s).lines (flushed_lines I flush a n ls)
-  lines_flushed flush a n =
-      subst (λ ps. HoldsLines I ps (flushed_lines I flush a n ls)) (sym same) (go (persistence.flushes_lines I a n))
-    where
-      same : cond (persistence.flushes_lines (region_of s) a n)
-          (pending_flushed_all (a - s.areas.base) n s.lines) s.lines
-          ≡ cond (persistence.flushes_lines I a n) (pending_flushed_all (a - I.base) n s.lines) s.lines
-      same = ap₂ (λ t b. cond t (pending_flushed_all (a - b) n s.lines) s.lines) (flushes_is a n) base_is
-
-      go : (b : Bool) → HoldsLines I (cond b (pending_flushed_all (a - I.base) n s.lines) s.lines)
-          (cond b (change_range (λ _ l. persistence.flush_line flush l) (a - I.base) n ls) ls)
-      go true = holds_flushed h.lines flush (a - I.base) n
-      go false = h.lines
-
-  flush_holds : (flush : Flush) (a n : ℕ) → HoldsRun P I (after_flush a n s) ws mark (flushed_lines I flush a n ls)
-  flush_holds flush a n = record { volatile = h.volatile; memory = h.memory; lines = lines_flushed flush a n }
-
-  fence_holds : HoldsRun P I (after_fence s) ws mark (fenced_lines ls)
-  fence_holds = record { volatile = h.volatile; memory = h.memory; lines = holds_fenced h.lines }
 
   -- ---- the events
 
@@ -109,7 +66,7 @@ module _ {P : Program} {I : Input} {s : Contents} {ws : List Write} {mark : ℕ}
       (flushes_is a n) base_is
 
   -- the stack's mark set back
-  pub pop_holds : (to : ℕ) → stack_start ≤ to → to ≤ mark → HoldsRun P I (after_pop to s) ws to ls
+  pub pop_holds : (to : ℕ) → stack_start ≤ to → to ≤ mark → HoldsRun P I (after_pop to s) ws to
   pop_holds to low high = record {
     volatile = h.volatile;
     memory = record {
@@ -117,7 +74,6 @@ module _ {P : Program} {I : Input} {s : Contents} {ws : List Write} {mark : ℕ}
       mark_is = mark_of-after_pop to s.areas low within;
       laid_out = laid_out-after_pop to s.areas low within h.memory.laid_out;
     };
-    lines = h.lines;
   }
     where
       within : to ≤ mark_of s.areas
@@ -126,7 +82,7 @@ module _ {P : Program} {I : Input} {s : Contents} {ws : List Write} {mark : ℕ}
   -- a new block on the stack
   push_holds : (size align block : ℕ) → block ≡ block_address s.areas align → block_trap s size align ≡ None
       → HoldsRun P I (after_push size align s)
-      (ws ++ record { addr = mark; bytes = zeros ((block + size) - mark) } ∷ []) (block + size) ls
+      (ws ++ record { addr = mark; bytes = zeros ((block + size) - mark) } ∷ []) (block + size)
   push_holds size align block address allowed = record {
     volatile = h.volatile;
     memory =
@@ -135,7 +91,6 @@ module _ {P : Program} {I : Input} {s : Contents} {ws : List Write} {mark : ℕ}
         (subst (λ m. HoldsMemory P I (after_push size align s).areas
         (ws ++ record { addr = m; bytes = zeros ((block_address s.areas align + size) - m) } ∷ [])
         (block_address s.areas align + size)) h.memory.mark_is core);
-    lines = h.lines;
   }
     where
       by_test : (m : ℕ) → cond (nat_le m stack_end) None (Some traps.Stack) ≡ None → m ≤ stack_end
@@ -216,18 +171,17 @@ module _ {P : Program} {I : Input} {s : Contents} (p : Point) (h : HoldsAt P I s
 -- ---- steps
 
 -- the contents before a step hold the world also in its turn
-kept : {P : Program} {I : Input} {s : Contents} {ls : List (Line StorePart)} (turn : Bool) (w : World)
-    → HoldsRun P I s w.writes w.mark ls → HoldsRun P I s (cond turn (with_turn w) w).writes
-    (cond turn (with_turn w) w).mark ls
+kept : {P : Program} {I : Input} {s : Contents} (turn : Bool) (w : World) → HoldsRun P I s w.writes w.mark
+    → HoldsRun P I s (cond turn (with_turn w) w).writes (cond turn (with_turn w) w).mark
 kept true w h = h
 kept false w h = h
 
 module _ {P : Program} {I : Input} {old : Contents} (p : Point) (h : HoldsAt P I old p) where
   kept_by : {new : Contents} → new ≡ old → HoldsRun P I new (cond p.turn (with_turn p.world) p.world).writes
-      (cond p.turn (with_turn p.world) p.world).mark p.lines
+      (cond p.turn (with_turn p.world) p.world).mark
   kept_by {new} same =
       subst (λ (s : Contents). HoldsRun P I s (cond p.turn (with_turn p.world) p.world).writes
-      (cond p.turn (with_turn p.world) p.world).mark p.lines) (sym same) (kept p.turn p.world h)
+      (cond p.turn (with_turn p.world) p.world).mark) (sym same) (kept p.turn p.world h)
 
   traps_done : {new : Contents} {action : Action} (kind : TrapKind) → action ≡ Traps kind → new ≡ old
       → HasDone P I p new (events.End (Trap kind)) action (Traps kind)
@@ -295,39 +249,32 @@ module _ {P : Program} {I : Input} {old : Contents} (p : Point) (h : HoldsAt P I
       valid : areas.are_valid old.areas a n ≡ true
       valid = by_tests (nat_eq (a % align) 0) (areas.are_valid old.areas a n) x.allowed
 
-  pub store_done : {new : Contents} {e : Event} {a n align value tag : ℕ} → 0 < n → tag ≡ p.before.steps
-      → HasStored old new e a n align value tag →
+  pub store_done : {new : Contents} {e : Event} {a n align value : ℕ} → 0 < n → HasStored old new e a n align value →
       HasDone P I p new e (accessed P I p.world a n align (Stores a (bytes_of n value))) (Stores a (bytes_of n value))
   unfolding perform
-  store_done {new} {e} {a} {n} {align} {value} {tag} some steps x = record {
+  store_done {new} {e} {a} {n} {align} {value} some x = record {
     is =
         access_is p h a n align (Stores a (bytes_of n value)) some
         ∙ ap (λ t. unless t (Stores a (bytes_of n value))) x.allowed;
     holds =
         subst (λ (s : Contents). HoldsRun P I s ((cond p.turn (with_turn p.world) p.world).writes
-        ++ record { addr = a; bytes = bytes_of n value } ∷ []) (cond p.turn (with_turn p.world) p.world).mark after)
-        (sym (x.contents ∙ ap (λ t. after_store a n value t old) steps)) (go p.turn);
+        ++ record { addr = a; bytes = bytes_of n value } ∷ []) (cond p.turn (with_turn p.world) p.world).mark)
+        (sym x.contents) (go p.turn);
     seen = x.seen ∙ store_seen h a n value;
   }
     where
-      after : List (Line StorePart)
-      after = stored_lines I p.before (site_of p.frame) (levels_of (p.frame ∷ p.frames)) a (bytes_of n value) p.lines
-
-      done : HoldsRun P I (after_store a n value p.before.steps old)
+      done : HoldsRun P I (after_store a n value old)
           (p.world.writes ++ record { addr = a; bytes = bytes_of n value } ∷ []) p.world.mark
-          (stored_lines I p.before (site_of p.frame) (levels_of (p.frame ∷ p.frames)) a (bytes_of n value) p.lines)
       done =
           record {
             volatile = h.volatile;
             memory = memory_written
                 (record { addr = a; bytes = bytes_of n value }) h.memory;
-            lines = lines_stored h p a n value;
           }
 
-      go : (turn : Bool) → HoldsRun P I (after_store a n value p.before.steps old)
+      go : (turn : Bool) → HoldsRun P I (after_store a n value old)
           ((cond turn (with_turn p.world) p.world).writes ++ record { addr = a; bytes = bytes_of n value } ∷ [])
           (cond turn (with_turn p.world) p.world).mark
-          (stored_lines I p.before (site_of p.frame) (levels_of (p.frame ∷ p.frames)) a (bytes_of n value) p.lines)
       go true = done
       go false = done
 
@@ -350,42 +297,31 @@ module _ {P : Program} {I : Input} {old : Contents} (p : Point) (h : HoldsAt P I
           ++ record {
             addr = (cond turn (with_turn p.world) p.world).mark;
             bytes = zeros ((block + size) - (cond turn (with_turn p.world) p.world).mark);
-          } ∷ []) (block + size) p.lines
+          } ∷ []) (block + size)
       go true = push_holds h size align block x.address x.allowed
       go false = push_holds h size align block x.address x.allowed
 
-  pub flush_done : {new : Contents} {e : Event} {a n : ℕ} → HasFlushed old new e a n
-      → HasDone P I p new e (flushing P I p.world a n (Flushes a n)) (Flushes a n)
+  pub flush_done : {e : Event} {a n : ℕ} → ShowsFlush old e a n
+      → HasDone P I p old e (flushing P I p.world a n (Flushes a n)) (Flushes a n)
   unfolding perform
-  flush_done {new} {e} {a} {n} x = record {
+  flush_done {e} {a} {n} x = record {
     is = range_is p h a n (Flushes a n) ∙ ap (λ t. unless t (Flushes a n)) x.allowed;
-    holds =
-        subst (λ (s : Contents). HoldsState P I s (performed I p (Flushes a n))) (sym x.contents)
-        (kept p.turn p.world (flush_holds h (record { step = p.before.steps; site = site_of p.frame }) a n));
+    holds = kept p.turn p.world h;
     seen = x.seen ∙ flush_seen h a n;
   }
 
-  pub persist_done : {new : Contents} {e : Event} {a n : ℕ} → HasPersisted old new e a n
-      → HasDone P I p new e (flushing P I p.world a n (Persists a n)) (Persists a n)
+  pub persist_done : {e : Event} {a n : ℕ} → ShowsPersist old e a n
+      → HasDone P I p old e (flushing P I p.world a n (Persists a n)) (Persists a n)
   unfolding perform
-  persist_done {new} {e} {a} {n} x = record {
+  persist_done {e} {a} {n} x = record {
     is = range_is p h a n (Persists a n) ∙ ap (λ t. unless t (Persists a n)) x.allowed;
-    holds =
-        subst (λ (s : Contents). HoldsState P I s (performed I p (Persists a n))) (sym x.contents)
-        (kept p.turn p.world (fence_holds (flush_holds h
-        (record { step = p.before.steps; site = site_of p.frame }) a n)));
+    holds = kept p.turn p.world h;
     seen = x.seen ∙ persist_seen h a n;
   }
 
-  pub fence_done : {new : Contents} → new ≡ after_fence old → HasDone P I p new events.Fence Fences Fences
+  pub fence_done : HasDone P I p old events.Fence Fences Fences
   unfolding perform
-  fence_done {new} fenced = record {
-    is = refl;
-    holds =
-        subst (λ (s : Contents). HoldsState P I s (performed I p Fences)) (sym fenced)
-        (kept p.turn p.world (fence_holds h));
-    seen = refl;
-  }
+  fence_done = record { is = refl; holds = kept p.turn p.world h; seen = refl }
 
   -- the return of a frame that is not the bottom one, with the mark at its call
   pub return_done : {new : Contents} {value : ℕ} (g : Frame) (fs : List Frame) → p.frames ≡ g ∷ fs
@@ -397,12 +333,12 @@ module _ {P : Program} {I : Input} {old : Contents} (p : Point) (h : HoldsAt P I
     holds =
         subst (λ (below : List Frame). HoldsState P I new
         (leave value (cond p.turn (with_turn p.world) p.world) p.frame below p.lines p.after)) (sym above)
-        (subst (λ (s : Contents). HoldsRun P I s (cond p.turn (with_turn p.world) p.world).writes p.frame.mark p.lines)
+        (subst (λ (s : Contents). HoldsRun P I s (cond p.turn (with_turn p.world) p.world).writes p.frame.mark)
         (sym popped) (go p.turn));
     seen = ap (λ below. event_of I below (Returns value)) (sym above);
   }
     where
       go : (turn : Bool) → HoldsRun P I (after_pop p.frame.mark old)
-          (cond turn (with_turn p.world) p.world).writes p.frame.mark p.lines
+          (cond turn (with_turn p.world) p.world).writes p.frame.mark
       go true = pop_holds h p.frame.mark low high
       go false = pop_holds h p.frame.mark low high

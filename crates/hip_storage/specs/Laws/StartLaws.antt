@@ -1,26 +1,16 @@
 -- The storage before the first step of a run.
-use Rattle.std.proofs.Common.{◌≡◌, ℕ, zero, suc, ◌+◌, ◌/◌, length, refl, ap, arith}
+use Rattle.std.proofs.Common.{◌≡◌, ◌+◌, length, arith}
 use Rattle.hip_tree.specs.declared.program.Program.{Program}
 use Rattle.hip_globals.specs.Addresses.{volatile_end}
 use Rattle.hip_globals.specs.Initial.{volatile_bytes}
-use Rattle.hip_lines.specs.Laws.LineLaws.{ordered-fresh_lines}
-use Rattle.hip_lines.specs.Parts.{none_pending_all}
-use Rattle.hip_types.specs.declared.areas.TheConstants.{LINE_SIZE}
 use Rattle.hip_mem.specs.Laws.AreasLaws.{holds-new}
 use Rattle.hip_types.specs.Areas.{volatile_start}
-use Rattle.hip_runs.specs.Laws.Standing.ShownLaws.{shown-fresh}
-use Rattle.hip_runs.specs.State.{StorePart}
 use Rattle.hip_runs.specs.Step.{start}
 use Rattle.hip_runs.specs.Validity.{IsValid}
 use Rattle.hip_runs.specs.declared.input.Input.{Input}
 use Rattle.hip_sound.specs.Sound.{IsSound}
 use Rattle.hip_storage.specs.Contents.{initial}
 use Rattle.hip_storage.specs.Standing.{HoldsState}
-
-length-none_pending_all : (n : ℕ) → length (none_pending_all n) ≡ n
-unfolding none_pending_all
-length-none_pending_all zero = refl
-length-none_pending_all (suc n) = ap suc (length-none_pending_all n)
 
 -- the contents before the first step of a run are those of its start
 pub starts : (P : Program) (I : Input) → IsSound P → IsValid P I
@@ -41,10 +31,5 @@ starts P I s v e = record {
       stack = omega arith;
       region = omega (arith, v.image, s.sizes.region);
     };
-  };
-  lines = record {
-    are = shown-fresh (length I.image / LINE_SIZE);
-    ordered = ordered-fresh_lines StorePart (length I.image / LINE_SIZE);
-    whole = omega (arith, v.image, length-none_pending_all (length I.image / LINE_SIZE));
   };
 }

@@ -1,21 +1,13 @@
 use Rattle.std.proofs.Common.{◌≡◌, Bool, List, sym, ap, ◌∙◌, subst}
-use Rattle.std.specs.Prelude.{IfOk, OnOk, Result, Ok, Err}
+use Rattle.std.specs.Prelude.{IfOk, Result, Ok, Err}
 use Rattle.std.specs.List.{filter}
 use Rattle.hip_tree.specs.Sites.{has_site, sites_of}
 use Rattle.hip_tree.specs.declared.program.Program.{Program}
 use Rattle.hip_tree.specs.declared.site.Site.{Site}
-use Rattle.hip_runs.specs.Found.Marks.{IsFound}
-use Rattle.hip_runs.specs.Validity.{IsValid}
-use Rattle.hip_runs.specs.declared.input.Input.{Input}
-use Rattle.hip_runs.specs.declared.report.Findings.{Findings}
-use Rattle.hip_repairs.specs.Choice.{Contains, plan_for}
-use Rattle.hip_repairs.specs.Clean.{IsClean}
-use Rattle.hip_repairs.specs.Covered.{AreHoistsFenced, IsCovered}
 use Rattle.hip_repairs.specs.Direct.{direct}
-use Rattle.hip_repairs.specs.Harmless.{IsHarmless}
 use Rattle.hip_repairs.specs.Quiet.{IsQuiet}
-use Rattle.hip_repairs.specs.Repaired.{repaired}
 use Rattle.hip_repairs.specs.declared.repaired.Repaired.{Repaired}
+use Rattle.hip_fix.specs.Applied.{IsApplied, IsThorough}
 use Rattle.hip_fix.proofs.DirectSites.{found_direct}
 use Rattle.hip_fix.proofs.repairing.apply.Goals as goal
 
@@ -30,19 +22,13 @@ returns c =
     let plan = c.args.plan.now in
     let r = c.apply_skipping.result in
     let skip = has_site c.as_slice.result.now in
-    let listed : c.as_slice.result.now ≡ filter (direct P) (sites_of P) =
+    let found : c.as_slice.result.now ≡ filter (direct P) (sites_of P) =
     c.as_slice.ensures ∙ c.in_ok-skip.ensures ∙ ap (λ (p : Program). filter (direct p) (sites_of p)) c.program.ensures.is in
-    let same : skip ≡ direct P = λ i s. (ap (λ (xs : List Site). has_site xs s) listed ∙ found_direct P s) i in
+    let same : skip ≡ direct P = λ i s. (ap (λ (xs : List Site). has_site xs s) found ∙ found_direct P s) i in
     let quiet : IsQuiet P skip = subst (IsQuiet P) (sym same) (c.direct_stores_are_quiet.ensures P c.program.ensures.sound) in
-    let told = c.apply_skipping.ensures in
     record {
-      program = subst (λ (test : Site → Bool). IfOk r (λ x. x.checked ≡ repaired P plan test)) same told.program;
-      clones = told.clones;
-      harmless = subst (λ (test : Site → Bool). OnOk r (IsHarmless P plan test)) same told.harmless;
-      clean =
-          if_ok (λ (x : Repaired). (I : Input) → (found : Findings) → IsQuiet P skip → IsValid P I → IsFound P I found → Contains plan (plan_for P found) → IsClean x.checked I)
-          (λ (x : Repaired). (I : Input) → (found : Findings) → IsValid P I → IsFound P I found → Contains plan (plan_for P found) → IsClean x.checked I)
-          (λ x f I found valid is_found contains. f I found quiet valid is_found contains) r told.clean;
-      covered = if_ok (λ (x : Repaired). IsQuiet P skip → IsCovered P x.checked) (λ (x : Repaired). IsCovered P x.checked) (λ x f. f quiet) r told.covered;
-      fenced = subst (λ (test : Site → Bool). OnOk r (AreHoistsFenced P plan test)) same told.fenced;
+      repaired = subst (λ (test : Site → Bool). IfOk r (IsApplied P plan test)) same c.apply_skipping.ensures.repaired;
+      thorough =
+          if_ok (λ (x : Repaired). IsQuiet P skip → IsThorough P plan x.checked) (λ (x : Repaired). IsThorough P plan x.checked) (λ x thorough. thorough quiet) r
+          c.apply_skipping.ensures.thorough;
     }

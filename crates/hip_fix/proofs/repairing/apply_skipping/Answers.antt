@@ -27,10 +27,14 @@ returns c =
     let functions : c.as_slice-3.result.now ≡ P.functions = c.as_slice-3.ensures ∙ ap (λ (p : Program). p.functions) c.program-program.ensures.is in
     let originals : c.as_slice-4.result.now ≡ reach.callees P plan.hoist = c.as_slice-4.ensures ∙ c.in_ok-originals.ensures ∙ (λ i. reach.callees (c.program-program.ensures.is i) (c.as_slice.ensures i)) in
     record {
-      program = is;
-      clones = c.in_ok-clones.ensures ∙ (λ i. numbered_from (length (functions i)) (originals i));
-      harmless = c.repairs_do_no_harm.ensures P plan skip sound;
-      clean = λ I found quiet valid is_found contains. subst (λ (p : Program). IsClean p I) (sym is) (c.repairs_are_clean.ensures P plan skip I found sound valid quiet is_found contains);
-      covered = λ quiet. subst (IsCovered P) (sym is) (c.hoisted_calls_are_covered.ensures P plan skip sound quiet);
-      fenced = c.hoisted_calls_are_fenced.ensures P plan skip sound;
+      repaired = record {
+        program_is = is;
+        clones_are = c.in_ok-clones.ensures ∙ (λ i. numbered_from (length (functions i)) (originals i));
+        harmless = c.repairs_do_no_harm.ensures P plan skip sound;
+        fenced = c.hoisted_calls_are_fenced.ensures P plan skip sound;
+      };
+      thorough = λ quiet. record {
+        clean = λ I found valid is_found contains. subst (λ (p : Program). IsClean p I) (sym is) (c.repairs_are_clean.ensures P plan skip I found sound valid quiet is_found contains);
+        covered = subst (IsCovered P) (sym is) (c.hoisted_calls_are_covered.ensures P plan skip sound quiet);
+      };
     }

@@ -6,9 +6,10 @@ use Rattle.hip_tree.specs.declared.program.Function.{Function}
 use Rattle.hip_tree.specs.declared.site.Site.{Site}
 use Rattle.hip_levels.specs.Gathered.{FunctionFits}
 use Rattle.hip_levels.specs.LowStores.{stores_low}
-use Rattle.hip_levels.specs.Picked.{picked_in_functions}
+use Rattle.hip_sites.specs.Laws.PassingLaws.{walk_filtered}
+use Rattle.hip_sites.specs.Passing.{passing_in_functions}
 use Rattle.hip_levels.specs.Tables.{level_among}
-use Rattle.hip_levels.proofs.LowSites.{walk_filtered, low_by_least}
+use Rattle.hip_levels.proofs.LowSites.{low_by_least}
 use Rattle.hip_levels.proofs.quiet.low_sites.Goals as goal
 
 pub add_functions-requires-clause-fits : goal.add_functions-requires-clause-fits
@@ -19,5 +20,5 @@ returns c =
     let P = c.args.program.now in
     let A = level_among c.args.levels.now in
     c.in_ok-add_functions.ensures
-    ∙ (λ i. c.new-sites.ensures i ++ picked_in_functions (λ f x. stores_low (c.requires.program i) A f (Some x)) 0 (c.as_slice.ensures i))
-    ∙ walk_filtered P A ∙ ap (λ (t : Site → Bool). filter t (sites_of P)) (low_by_least P A c.requires.least)
+    ∙ (λ i. c.new-sites.ensures i ++ passing_in_functions (λ f x. stores_low (c.requires.program i) A f (Some x)) 0 (c.as_slice.ensures i))
+    ∙ walk_filtered P (stores_low P A) ∙ ap (λ (t : Site → Bool). filter t (sites_of P)) (low_by_least P A c.requires.least)

@@ -1,7 +1,7 @@
 -- The table has at a site what its entries have.
 use Rattle.std.proofs.Common.{Option, ap, ◌∙◌}
 use Rattle.std.specs.Prelude.{unwrap_or}
-use Rattle.hip_plan.proofs.Sites.{table_has}
+use Rattle.hip_sites.proofs.SiteOrder.{table_has}
 use Rattle.hip_many.specs.Counts.{none_met}
 use Rattle.hip_many.specs.declared.counts.Count.{Count}
 use Rattle.hip_many.proofs.counts.count_of.Goals as goal

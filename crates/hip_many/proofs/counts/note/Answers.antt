@@ -1,6 +1,6 @@
 -- The site alone is counted.
 use Rattle.std.proofs.Common.{Some}
-use Rattle.hip_plan.proofs.Sites.{table_updated}
+use Rattle.hip_sites.proofs.SiteOrder.{table_updated}
 use Rattle.hip_many.proofs.CountLemmas.{one_noted}
 use Rattle.hip_many.proofs.counts.note.Goals as goal
 

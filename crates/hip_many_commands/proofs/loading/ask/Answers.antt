@@ -1,4 +1,4 @@
-use Rattle.std.proofs.Common.{refl}
+use Rattle.std.proofs.Common.{length, refl, ap, ◌∙◌}
 use Rattle.hip_many_commands.proofs.loading.ask.Goals as goal
 
 pub returns-in-Ok-plan : goal.returns-in-Ok-plan
@@ -17,5 +17,5 @@ returns-in-Ok-plan g c = record {
   met = c.in-Ok.ensures.0.met;
   fetches = c.in-Ok.ensures.1;
   plan_is = c.in-Ok-plan.ensures.is;
-  reports_are = c.len.ensures;
+  reports_are = c.len.ensures ∙ ap length c.reports.ensures;
 }

@@ -5,6 +5,6 @@ use Rattle.hip_notes.proofs.calls.share.Given as goal
 abbrev pub invariant-each : goal.invariant-each
 invariant-each l = record {
   value : calls_inside (drop l.call-index l.inner) l.shared.value ≡ calls_inside l.inner l.fn.shared.value;
-  depth : l.depth ≡ length l.shared.value;
-  rest : l.depth + length (drop l.call-index l.inner) ≡ l.count;
+  depth : l.standing ≡ length l.shared.value;
+  rest : l.standing + length (drop l.call-index l.inner) ≡ l.count;
 }

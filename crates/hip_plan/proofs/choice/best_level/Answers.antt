@@ -1,5 +1,5 @@
 -- The best level so far and those of the calls that are left.
-use Rattle.std.proofs.Common.{ℕ, ◌+◌, ◌-◌, ◌<◌, ◌≤◌, length, drop, min, Option, ℤ, sym, ap, ap₂, ◌∙◌, arith}
+use Rattle.std.proofs.Common.{ℕ, inl, inr, ◌+◌, ◌-◌, ◌<◌, Option, ℤ, sym, ap, ap₂, ◌∙◌}
 use Rattle.hip_repairs.specs.Choice.{Candidate, best_of, is_better}
 use Rattle.hip_plan.proofs.Levels.{best_end, left, taken}
 use Rattle.hip_plan.proofs.choice.best_level.Goals as goal
@@ -10,22 +10,24 @@ each-preserved g c =
     let found = g.W.Worths.found c.args.worths.now in
     let i : ℕ = c.each.index in
     let best : Candidate = record { level = c.each.level; score = c.each.best } in
-    let h : i < c.args.closed = omega (arith, c.min-index-end.ensures) in
-    let within : i < length c.args.calls.now = omega (arith, c.min-index-end.ensures) in
+    let h : i < c.args.closed = c.each-test.true in
     elim c.if-is_better.branch [
       | then-is_better w ↦
-          taken c.args.checked.now found best c.args.closed i c.args.calls.now _ h within c.if-is_better.level c.if-is_better.best w.level-is (w.best-is ∙ c.score_by-score.ensures)
+          taken c.args.checked.now found best c.args.closed i c.in-Some.call c.each.left c.next.new.self c.in-Some.ensures.steps h c.if-is_better.level c.if-is_better.best w.level-is (w.best-is ∙ c.score_by-score.ensures)
           (ap (is_better c.each.best) w.best-is ∙ sym c.is_better.ensures ∙ w.if-is_better.true)
           ∙ c.each.invariant
       | else-is_better w ↦
-          ap₂ (λ (n : ℕ) (s : Option ℤ). (best_of c.args.checked.now found (record { level = n; score = s }) (i + 1 + 1) (c.args.closed - (i + 1)) (drop (i + 1) c.args.calls.now)).level) w.level-is w.best-is
-          ∙ left c.args.checked.now found best c.args.closed i c.args.calls.now _ h within c.score_by-score.result c.score_by-score.ensures (sym c.is_better.ensures ∙ w.if-is_better.false)
+          ap₂ (λ (n : ℕ) (s : Option ℤ). (best_of c.args.checked.now found (record { level = n; score = s }) (i + 1 + 1) (c.args.closed - (i + 1)) c.next.new.self).level) w.level-is w.best-is
+          ∙ left c.args.checked.now found best c.args.closed i c.in-Some.call c.each.left c.next.new.self c.in-Some.ensures.steps h c.score_by-score.result c.score_by-score.ensures (sym c.is_better.ensures ∙ w.if-is_better.false)
           ∙ c.each.invariant
     ]
 
 pub returns : goal.returns
 returns g c =
     let found = g.W.Worths.found c.args.worths.now in
-    let i : ℕ = c.each.index in
-    let ended : min c.args.closed (length c.args.calls.now) ≤ i = omega (arith, c.min-index-end.ensures) in
-    ap (λ (x : Candidate). x.level) (sym (best_end c.args.checked.now found (record { level = c.each.level; score = c.each.best }) c.args.closed i c.args.calls.now ended)) ∙ c.each.invariant
+    ap (λ (x : Candidate). x.level) (sym (best_end c.args.checked.now found (record { level = c.each.level; score = c.each.best }) c.args.closed c.each.index c.each.left (inl c.each-test.false))) ∙ c.each.invariant
+
+pub returns-in-None : goal.returns-in-None
+returns-in-None g c =
+    let found = g.W.Worths.found c.args.worths.now in
+    ap (λ (x : Candidate). x.level) (sym (best_end c.args.checked.now found (record { level = c.each.level; score = c.each.best }) c.args.closed c.each.index c.each.left (inr c.in-None.ensures.steps.0))) ∙ c.each.invariant

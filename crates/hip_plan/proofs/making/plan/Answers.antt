@@ -1,5 +1,5 @@
 -- The three lists have what the reports so far ask for.
-use Rattle.std.proofs.Common.{◌≡◌, ℕ, ◌&&◌, ◌||◌, List, Option, sym, ap, ◌∙◌, subst}
+use Rattle.std.proofs.Common.{◌≡◌, ℕ, ◌&&◌, ◌||◌, List, [], ◌∷◌, Option, sym, ap, ◌∙◌, subst}
 use Rattle.std.specs.Prelude.{IfOk, Result, Ok, Err}
 use Rattle.hip_tree.specs.Sites.{has_site}
 use Rattle.hip_tree.specs.declared.program.Program.{Program}
@@ -14,7 +14,8 @@ use Rattle.hip_repairs.specs.Laws.PlanLaws.{plan_suits}
 use Rattle.hip_repairs.specs.declared.plan.Plan.{Plan}
 use Rattle.hip_plan.specs.Asked.{fence_asked, flush_asked, hoist_asked, is_there, puts}
 use Rattle.hip_plan.specs.Collected.{IsCollected}
-use Rattle.hip_plan.proofs.Listed.{asked_more, fence_is, flush_is, hoist_is, plan_is, whole}
+use Rattle.hip_plan.specs.declared.plan_sites.PlanSites.{PlanSites}
+use Rattle.hip_plan.proofs.Listed.{all_left, asked_more, fence_is, flush_is, hoist_is, plan_is, whole}
 use Rattle.hip_plan.proofs.making.plan.Goals as goal
 
 -- what holds of each answer, by what held of it before
@@ -22,32 +23,45 @@ if_ok : {T E : Type 0} (A B : T → Type 0) → ((x : T) → A x → B x) → (r
 if_ok A B f (Ok x) a = f x a
 if_ok A B f (Err e) a = a
 
+pub each-init : goal.each-init
+each-init c =
+    let P : Program = c.args.checked.now in
+    let found : Findings = c.args.findings.now in
+    let reports = found.reports in
+    let all = c.into_iter-report-iterator.ensures.into_iter_gives ∙ c.iter-report-items.ensures ∙ c.reports.ensures in
+    let none = c.new-sites.ensures in
+    record {
+      flushes = all_left P (λ r s. asks_flush r.kind (choice P found r) r.path s) reports c.into_iter-report-iterator.result c.new-sites.result.flush_after all (ap (λ (x : PlanSites). x.flush_after) none);
+      fences = all_left P (λ r s. asks_fence r.kind (choice P found r) r.flush_site r.path s) reports c.into_iter-report-iterator.result c.new-sites.result.fence_after all (ap (λ (x : PlanSites). x.fence_after) none);
+      hoists = all_left P (λ r s. asks_hoist r.kind (choice P found r) r.path s) reports c.into_iter-report-iterator.result c.new-sites.result.hoist all (ap (λ (x : PlanSites). x.hoist) none);
+    }
+
 pub each-preserved : goal.each-preserved
 each-preserved c =
     let P : Program = c.args.checked.now in
     let found : Findings = c.args.findings.now in
-    let r : Report = c.report-item.result in
+    let reports = found.reports in
+    let r : Report = c.in-Some.report in
     let n : ℕ = c.choose_by-level.result in
-    let items = c.as_slice-report-items.result.now in
+    let left : List Report = c.each.report-iterator in
+    let rest : List Report = c.next.new.self in
+    let are : left ≡ r ∷ rest = c.in-Some.ensures.steps in
     let level : n ≡ choice P found r = c.choose_by-level.ensures ∙ ap (λ (f : Findings). choice P f r) c.in_ok-worths.ensures in
     let put = λ (o : Option Site) (old new : List Site) (told : puts c.program-program.result.now o old new) (s : Site).
     told s ∙ ap (λ (p : Program). (is_site o s && is_there p s) || has_site old s) c.program-program.ensures.is in
     let told = c.in_ok-add_asked.ensures in
     record {
       flushes =
-          let asks = λ (x : Report) (s : Site). asks_flush x.kind (choice P found x) x.path s in
-          asked_more P asks items c.each.report-index r (flush_asked r.kind n r.path) c.each.sites.flush_after c.add_asked.new.sites.flush_after c.each-test.true
-          (λ s. flush_is r.kind n r.path s ∙ ap (λ (k : ℕ). asks_flush r.kind k r.path s) level ∙ ap (λ (x : Report). asks x s) c.report-item.is)
+          asked_more P (λ x s. asks_flush x.kind (choice P found x) x.path s) reports left rest r (flush_asked r.kind n r.path) c.each.sites.flush_after c.add_asked.new.sites.flush_after are
+          (λ s. flush_is r.kind n r.path s ∙ ap (λ (k : ℕ). asks_flush r.kind k r.path s) level)
           (put (flush_asked r.kind n r.path) c.each.sites.flush_after c.add_asked.new.sites.flush_after told.flushes) c.each.invariant.flushes;
       fences =
-          let asks = λ (x : Report) (s : Site). asks_fence x.kind (choice P found x) x.flush_site x.path s in
-          asked_more P asks items c.each.report-index r (fence_asked r.kind n r.flush_site r.path) c.each.sites.fence_after c.add_asked.new.sites.fence_after c.each-test.true
-          (λ s. fence_is r.kind n r.flush_site r.path s ∙ ap (λ (k : ℕ). asks_fence r.kind k r.flush_site r.path s) level ∙ ap (λ (x : Report). asks x s) c.report-item.is)
+          asked_more P (λ x s. asks_fence x.kind (choice P found x) x.flush_site x.path s) reports left rest r (fence_asked r.kind n r.flush_site r.path) c.each.sites.fence_after c.add_asked.new.sites.fence_after are
+          (λ s. fence_is r.kind n r.flush_site r.path s ∙ ap (λ (k : ℕ). asks_fence r.kind k r.flush_site r.path s) level)
           (put (fence_asked r.kind n r.flush_site r.path) c.each.sites.fence_after c.add_asked.new.sites.fence_after told.fences) c.each.invariant.fences;
       hoists =
-          let asks = λ (x : Report) (s : Site). asks_hoist x.kind (choice P found x) x.path s in
-          asked_more P asks items c.each.report-index r (hoist_asked r.kind n r.path) c.each.sites.hoist c.add_asked.new.sites.hoist c.each-test.true
-          (λ s. hoist_is r.kind n r.path s ∙ ap (λ (k : ℕ). asks_hoist r.kind k r.path s) level ∙ ap (λ (x : Report). asks x s) c.report-item.is)
+          asked_more P (λ x s. asks_hoist x.kind (choice P found x) x.path s) reports left rest r (hoist_asked r.kind n r.path) c.each.sites.hoist c.add_asked.new.sites.hoist are
+          (λ s. hoist_is r.kind n r.path s ∙ ap (λ (k : ℕ). asks_hoist r.kind k r.path s) level)
           (put (hoist_asked r.kind n r.path) c.each.sites.hoist c.add_asked.new.sites.hoist told.hoists) c.each.invariant.hoists;
     }
 
@@ -55,12 +69,14 @@ pub returns-clause-is : goal.returns-clause-is
 returns-clause-is c =
     let P : Program = c.args.checked.now in
     let found : Findings = c.args.findings.now in
-    let items : List Report = c.as_slice-report-items.result.now in
+    let reports = found.reports in
+    let left : List Report = c.each.report-iterator in
+    let none : left ≡ [] = c.in-None.ensures.steps.0 in
     if_ok (IsCollected c.each.sites) (λ (plan : Plan). plan ≡ plan_for P found)
     (λ plan h. plan_is P found _ _ _
-    (h.flushes_are ∙ whole P (λ x s. asks_flush x.kind (choice P found x) x.path s) items found.reports c.each.report-index c.each.sites.flush_after c.each-test.false c.as_slice-report-items.ensures c.each.invariant.flushes h.flushes_ascend)
-    (h.fences_are ∙ whole P (λ x s. asks_fence x.kind (choice P found x) x.flush_site x.path s) items found.reports c.each.report-index c.each.sites.fence_after c.each-test.false c.as_slice-report-items.ensures c.each.invariant.fences h.fences_ascend)
-    (h.hoists_are ∙ whole P (λ x s. asks_hoist x.kind (choice P found x) x.path s) items found.reports c.each.report-index c.each.sites.hoist c.each-test.false c.as_slice-report-items.ensures c.each.invariant.hoists h.hoists_ascend))
+    (h.flushes_are ∙ whole P (λ x s. asks_flush x.kind (choice P found x) x.path s) reports left c.each.sites.flush_after none c.each.invariant.flushes h.flushes_ascend)
+    (h.fences_are ∙ whole P (λ x s. asks_fence x.kind (choice P found x) x.flush_site x.path s) reports left c.each.sites.fence_after none c.each.invariant.fences h.fences_ascend)
+    (h.hoists_are ∙ whole P (λ x s. asks_hoist x.kind (choice P found x) x.path s) reports left c.each.sites.hoist none c.each.invariant.hoists h.hoists_ascend))
     c.to_plan.result c.to_plan.ensures
 
 pub returns-clause-suits : goal.returns-clause-suits

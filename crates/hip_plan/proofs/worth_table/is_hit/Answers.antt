@@ -1,6 +1,6 @@
 -- The set has a key exactly where its list has the number.
 use Rattle.std.proofs.Common.{◌∙◌}
-use Rattle.hip_plan.proofs.Sites.{numbers_have}
+use Rattle.hip_sites.proofs.SiteOrder.{numbers_have}
 use Rattle.hip_plan.proofs.worth_table.is_hit.Goals as goal
 
 pub returns : goal.returns

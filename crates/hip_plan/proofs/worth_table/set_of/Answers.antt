@@ -1,6 +1,6 @@
 -- The set's keys are the old ones and the new one.
 use Rattle.hip_plan.proofs.Numbers.{one_number}
-use Rattle.hip_plan.proofs.Sites.{number_inserted}
+use Rattle.hip_sites.proofs.SiteOrder.{number_inserted}
 use Rattle.hip_plan.proofs.worth_table.set_of.Goals as goal
 
 pub each-preserved : goal.each-preserved

@@ -1,7 +1,7 @@
 -- Equality of numbers has no side.
 use Rattle.std.proofs.Common.{◌∙◌}
 use Rattle.std.specs.List.{list_any}
-use Rattle.hip_plan.proofs.Sites.{flipped}
+use Rattle.hip_sites.proofs.SiteOrder.{flipped}
 use Rattle.hip_plan.proofs.worths.is_hit.Goals as goal
 
 pub returns : goal.returns

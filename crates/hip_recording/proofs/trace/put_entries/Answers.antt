@@ -9,43 +9,43 @@ use Rattle.hip_recording.proofs.trace.put_entries.Goals as goal
 
 pub steps-init : goal.steps-init
 steps-init g c = record {
-  on = record { program = refl; input = refl; going = ap (λ n. (run c.args.machine.now.program c.args.machine.now.input n).world.ending) c.requires.fresh ∙ (starts c.args.machine.now.program c.args.machine.now.input).going };
-  counted = count_at c.args.machine.now.program c.args.machine.now.input c.args.machine.now.taken c.args.entries c.requires.fresh c.requires.counted;
-  so_far = λ start h. header_at c.args.machine.now.program c.args.machine.now.input start (g.S.Sink.state c.args.out.now) c.args.machine.now.taken c.requires.fresh h;
+  on = record { program = refl; input = refl; going = ap (λ n. (run c.args.runner.now.program c.args.runner.now.input n).world.ending) c.requires.fresh ∙ (starts c.args.runner.now.program c.args.runner.now.input).going };
+  counted = count_at c.args.runner.now.program c.args.runner.now.input c.args.runner.now.taken c.args.entries c.requires.fresh c.requires.counted;
+  so_far = λ start h. header_at c.args.runner.now.program c.args.runner.now.input start (g.S.Sink.state c.args.out.now) c.args.runner.now.taken c.requires.fresh h;
 }
 
 pub returns-in-Err : goal.returns-in-Err
 returns-in-Err g c = λ start h.
-    let told = told_by c.args.machine.now.program c.args.machine.now.input c.events_tell_output_and_ending.ensures.output c.events_tell_output_and_ending.ensures.ending c.runs_end.ensures c.runs_are_bounded.ensures.bounded in
+    let told = told_by c.args.runner.now.program c.args.runner.now.input c.events_tell_output_and_ending.ensures.output c.events_tell_output_and_ending.ensures.ending c.runs_end.ensures c.runs_are_bounded.ensures.bounded in
     stopped told (record { on = c.steps.invariant.on; written = c.steps.invariant.so_far start h })
 
 pub overflow_add-entries : goal.overflow_add-entries
 overflow_add-entries g c =
-    let told = told_by c.args.machine.now.program c.args.machine.now.input c.events_tell_output_and_ending.ensures.output c.events_tell_output_and_ending.ensures.ending c.runs_end.ensures c.runs_are_bounded.ensures.bounded in
-    let short : longest c.args.machine.now.program < 2 ^ 64 = subst (λ p. longest p < 2 ^ 64) (c.program-program.ensures.is ∙ c.checked.ensures) (subst (λ n. n < 2 ^ 64) c.longest-most.ensures (let fits = c.longest-most.type_inv in omega (arith, fits))) in
+    let told = told_by c.args.runner.now.program c.args.runner.now.input c.events_tell_output_and_ending.ensures.output c.events_tell_output_and_ending.ensures.ending c.runs_end.ensures c.runs_are_bounded.ensures.bounded in
+    let short : longest c.args.runner.now.program < 2 ^ 64 = subst (λ p. longest p < 2 ^ 64) (c.program-program.ensures.is ∙ c.checked.ensures) (subst (λ n. n < 2 ^ 64) c.longest-most.ensures (let fits = c.longest-most.type_inv in omega (arith, fits))) in
     let few = count_fits_next told c.steps.invariant.on c.in-Ok.ensures.ok c.steps.entries c.in-Ok-put_entry.more c.steps.invariant.counted c.in-Ok-put_entry.ensures.count
-    (c.runs_are_bounded.ensures.fit c.args.machine.now.program c.args.machine.now.input (subst (λ p. IsSound p) c.checked.ensures c.program-program.ensures.sound) c.requires.valid short) in
+    (c.runs_are_bounded.ensures.fit c.args.runner.now.program c.args.runner.now.input (subst (λ p. IsSound p) c.checked.ensures c.program-program.ensures.sound) c.requires.valid short) in
     omega (arith, few)
 
 pub returns-in-Err-put_entry : goal.returns-in-Err-put_entry
 returns-in-Err-put_entry g c = λ start h.
-    let told = told_by c.args.machine.now.program c.args.machine.now.input c.events_tell_output_and_ending.ensures.output c.events_tell_output_and_ending.ensures.ending c.runs_end.ensures c.runs_are_bounded.ensures.bounded in
+    let told = told_by c.args.runner.now.program c.args.runner.now.input c.events_tell_output_and_ending.ensures.output c.events_tell_output_and_ending.ensures.ending c.runs_end.ensures c.runs_are_bounded.ensures.bounded in
     failed_next told (record { on = c.steps.invariant.on; written = c.steps.invariant.so_far start h }) c.in-Ok.ensures.ok (g.S.Sink.state c.put_entry.new.out) c.in-Err-put_entry.ensures.wrote
 
 pub returns-in-Some : goal.returns-in-Some
 returns-in-Some g c = λ start h.
-    let told = told_by c.args.machine.now.program c.args.machine.now.input c.events_tell_output_and_ending.ensures.output c.events_tell_output_and_ending.ensures.ending c.runs_end.ensures c.runs_are_bounded.ensures.bounded in
+    let told = told_by c.args.runner.now.program c.args.runner.now.input c.events_tell_output_and_ending.ensures.output c.events_tell_output_and_ending.ensures.ending c.runs_end.ensures c.runs_are_bounded.ensures.bounded in
     recorded_last told (record { on = c.steps.invariant.on; written = c.steps.invariant.so_far start h }) c.in-Ok.ensures.ok (g.S.Sink.state c.put_entry.new.out) c.in-Some.ending c.steps.entries c.in-Ok-put_entry.more
     (sym c.ending_of.ensures ∙ c.in-Some.is) c.in-Ok-put_entry.ensures.wrote c.steps.invariant.counted c.in-Ok-put_entry.ensures.count
 
 pub steps-smaller : goal.steps-smaller
 steps-smaller g c =
-    let told = told_by c.args.machine.now.program c.args.machine.now.input c.events_tell_output_and_ending.ensures.output c.events_tell_output_and_ending.ensures.ending c.runs_end.ensures c.runs_are_bounded.ensures.bounded in
+    let told = told_by c.args.runner.now.program c.args.runner.now.input c.events_tell_output_and_ending.ensures.output c.events_tell_output_and_ending.ensures.ending c.runs_end.ensures c.runs_are_bounded.ensures.bounded in
     comes_nearer told c.steps.invariant.on c.in-Ok.ensures.ok (sym c.ending_of.ensures ∙ c.in-None.is)
 
 pub steps-preserved : goal.steps-preserved
 steps-preserved g c =
-    let told = told_by c.args.machine.now.program c.args.machine.now.input c.events_tell_output_and_ending.ensures.output c.events_tell_output_and_ending.ensures.ending c.runs_end.ensures c.runs_are_bounded.ensures.bounded in
+    let told = told_by c.args.runner.now.program c.args.runner.now.input c.events_tell_output_and_ending.ensures.output c.events_tell_output_and_ending.ensures.ending c.runs_end.ensures c.runs_are_bounded.ensures.bounded in
     let goes = sym c.ending_of.ensures ∙ c.in-None.is in
     record {
       on = comes_on told c.steps.invariant.on c.in-Ok.ensures.ok goes;

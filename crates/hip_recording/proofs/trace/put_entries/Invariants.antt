@@ -7,10 +7,10 @@ use Rattle.hip_recording.proofs.trace.put_entries.Given as goal
 
 abbrev pub invariant-steps : goal.invariant-steps
 invariant-steps g l = record {
-  on : IsGoing l.fn.machine.program l.fn.machine.input l.machine;
-  counted : l.entries ≡ length (trace l.fn.machine.program l.fn.machine.input l.machine.taken);
-  so_far : (start : SinkState) → AppendsAll start (g.S.Sink.state l.fn.out) (lines_of (header_of l.fn.machine.input)) → AppendsAll start (g.S.Sink.state l.out) (lines_of (trace l.fn.machine.program l.fn.machine.input l.machine.taken));
+  on : IsGoing l.fn.runner.program l.fn.runner.input l.runner;
+  counted : l.entries ≡ length (trace l.fn.runner.program l.fn.runner.input l.runner.taken);
+  so_far : (start : SinkState) → AppendsAll start (g.S.Sink.state l.fn.out) (lines_of (header_of l.fn.runner.input)) → AppendsAll start (g.S.Sink.state l.out) (lines_of (trace l.fn.runner.program l.fn.runner.input l.runner.taken));
 }
 
 abbrev pub decreases-steps : goal.decreases-steps
-decreases-steps g l = steps_ahead l.fn.machine.program l.fn.machine.input l.machine.taken
+decreases-steps g l = steps_ahead l.fn.runner.program l.fn.runner.input l.runner.taken

@@ -14,7 +14,7 @@ put_header-requires g c =
     let high = valid.base.high in
     let image = valid.image in
     let region = sound.sizes.region in
-    let within : c.args.machine.now.input.base + length c.args.machine.now.input.image < 2 ^ 64 = omega (arith, high, image, region) in
+    let within : c.args.runner.now.input.base + length c.args.runner.now.input.image < 2 ^ 64 = omega (arith, high, image, region) in
     subst (λ (i : Input). i.base + length i.image < 2 ^ 64) (sym c.input.ensures.is) within
 
 pub put_steps-requires-clause-counted : goal.put_steps-requires-clause-counted
@@ -28,5 +28,5 @@ returns-in-Ok-clause-trace g c =
 pub returns-in-Err-clause-trace : goal.returns-in-Err-clause-trace
 returns-in-Err-clause-trace g c =
     let start = g.S.Sink.state c.args.out.now in
-    header_failed c.args.machine.now.program c.args.machine.now.input start (g.S.Sink.state c.put_header.new.out)
+    header_failed c.args.runner.now.program c.args.runner.now.input start (g.S.Sink.state c.put_header.new.out)
     (subst (λ (i : Input). AppendsPrefix start (g.S.Sink.state c.put_header.new.out) (lines_of (header_of i))) c.input.ensures.is c.in-Err.ensures.wrote)

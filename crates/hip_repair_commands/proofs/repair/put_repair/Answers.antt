@@ -12,7 +12,7 @@ returns-in-Ok-clause-answered g c =
     (c.repairs_cure.ensures P I found c.program-program.ensures.sound c.requires.valid c.requires.found) s
     c.put_repair_counts-tried.result (g.N.Sink.state c.put_repair_counts-tried.new.notes) c.finish.result
     (rw c.program.ensures.is at c.in-Ok.ensures.wrote)
-    (rw (c.len-reports.ensures, c.len-clones.ensures) at c.put_repair_counts-tried.ensures) c.finish.ensures
+    (rw (c.len-reports.ensures, c.reports.ensures, c.len-clones.ensures) at c.put_repair_counts-tried.ensures) c.finish.ensures
 
 pub returns-in-Err-clause-answered : goal.returns-in-Err-clause-answered
 returns-in-Err-clause-answered g c =

@@ -16,16 +16,16 @@ returns-clause-noted c =
     let next : suc n ≡ m.taken = (let t = c.requires.before.0 in omega (arith, t)) in
     let before = c.requires.before.1 in
     let notes : Notes = c.args.notes.now in
-    let called : Notes = c.step_calls.new.notes in
+    let called : Notes = c.note_calls.new.self in
     let after : Notes = record called { steps = called.steps + 1 } in
-    let count = c.requires.after ∙ ap (λ i. length (run P I i).frames) (sym next) in
+    let count = c.depth.ensures ∙ ap (λ i. length (run P I i).frames) (sym next) in
     subst (λ i. AreNoted P I i after) next
     (calls_noted P I n before.going (c.stack_keeps_its_shape.ensures P I n).is.calls notes called after before.noted (ap is_still (sym before.seen) ∙ c.requires.still)
-    (c.in_ok-step_calls.ensures.calls
-    ∙ ap₂ (λ b a. calls_after b a notes.steps c.args.sight.now.site notes.calls) before.depth count
-    ∙ ap (λ s. calls_after (length (run P I n).frames) (length (run P I (suc n)).frames) notes.steps s notes.calls) before.site)
-    (c.in_ok-step_calls.ensures.births
-    ∙ ap₂ (λ b a. births_after b a notes.steps c.args.sight.now.site notes.births.items) before.depth count
-    ∙ ap (λ s. births_after (length (run P I n).frames) (length (run P I (suc n)).frames) notes.steps s notes.births.items) before.site)
-    c.in_ok-step_calls.ensures.rest
-    (subst (λ ms. AddAlike (map mark_of notes.marks.keys) ms (marks_ahead P I (run P I n))) c.requires.none before.marks) refl)
+    (c.in_ok-note_calls.ensures.calls
+    ∙ ap₂ (λ b a. calls_after b a notes.steps c.args.sight.now.site notes.calls) before.sees.depth count
+    ∙ ap (λ s. calls_after (length (run P I n).frames) (length (run P I (suc n)).frames) notes.steps s notes.calls) before.sees.site)
+    (c.in_ok-note_calls.ensures.births
+    ∙ ap₂ (λ b a. births_after b a notes.steps c.args.sight.now.site notes.births.items) before.sees.depth count
+    ∙ ap (λ s. births_after (length (run P I n).frames) (length (run P I (suc n)).frames) notes.steps s notes.births.items) before.sees.site)
+    c.in_ok-note_calls.ensures.rest
+    (subst (λ ms. AddAlike (map mark_of notes.marks.keys) ms (marks_ahead P I (run P I n))) c.requires.none before.sees.marks) refl)

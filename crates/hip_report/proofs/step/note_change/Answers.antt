@@ -6,7 +6,6 @@ use Rattle.hip_runs.specs.Laws.StepLaws.{standing-frame}
 use Rattle.hip_runs.specs.Step.{event, run}
 use Rattle.hip_runs.specs.StoredParts.Shown.{shown}
 use Rattle.hip_runs.specs.declared.event.Event.{Event}
-use Rattle.hip_runs.specs.declared.input.Input.{Input}
 use Rattle.hip_runs.specs.declared.report.Mark.{Mark}
 use Rattle.std.specs.Prelude.{map}
 use Rattle.hip_types.specs.Distinct.{met}
@@ -19,45 +18,36 @@ use Rattle.hip_notes.specs.declared.notes.Notes.{Notes}
 use Rattle.hip_notes.proofs.noting.Assembled.{Did, assembled, did_at, ends_below, few_at, first_frame}
 use Rattle.hip_notes.proofs.ClosedCalls.{length_births}
 use Rattle.hip_notes.proofs.MarksAtHand.{unless_alike}
-use Rattle.hip_notes.proofs.NoteLists.{more_flushes, more_stores}
+use Rattle.hip_notes.proofs.NoteLists.{in_order}
 use Rattle.hip_notes.proofs.Rooms.{Lies, event_lies}
 use Rattle.hip_report.proofs.step.note_change.Goals as goal
 
-pub step_check-requires-clause-region : goal.step_check-requires-clause-region
-step_check-requires-clause-region c =
+pub note_check-requires-clause-region : goal.note_check-requires-clause-region
+note_check-requires-clause-region c =
     let m = c.args.machine.now in
-    let is : c.region_of-region.result ≡ length m.input.image = c.region_of-region.ensures in
-    is ∙ same_size m.program m.input m.taken c.input.ensures.valid ∙ ap (λ k. 64 * k) (sym (ap length c.lines-lines.ensures ∙ length-map _ _))
+    c.region_of-region.ensures.size ∙ same_size m.program m.input m.taken c.input-input.ensures.valid ∙ ap (λ k. 64 * k) (sym (ap length c.region_of-region.ensures.lines ∙ length-map _ _))
 
-pub step_check-requires-clause-stores : goal.step_check-requires-clause-stores
-step_check-requires-clause-stores c =
+pub note_check-requires-clause-order : goal.note_check-requires-clause-order
+note_check-requires-clause-order c =
     let m = c.args.machine.now in
     let n = m.taken - 1 in
     let h = c.requires.before.1.noted in
-    let few : n < 2 ^ 127 = few_at m.program m.input n c.args.notes.now h (c.runs_are_bounded.ensures.bounded m.program m.input n) c.input.ensures.valid.limit c.requires.before.1.short in
-    more_stores 0 n (2 ^ 128) _ (omega (arith, few)) h.pending.stores
+    let few : n < 2 ^ 127 = few_at m.program m.input n c.args.notes.now h (c.runs_are_bounded.ensures.bounded m.program m.input n) c.input-input.ensures.valid.limit c.requires.before.1.short in
+    in_order m.program m.input n c.args.notes.now.header c.args.notes.now.pending (omega (arith, few)) h.pending
 
-pub step_check-requires-clause-flushes : goal.step_check-requires-clause-flushes
-step_check-requires-clause-flushes c j l e =
+pub note_memory-requires-clause-ends : goal.note_memory-requires-clause-ends
+note_memory-requires-clause-ends c =
     let m = c.args.machine.now in
     let n = m.taken - 1 in
-    let h = c.requires.before.1.noted in
-    let few : n < 2 ^ 127 = few_at m.program m.input n c.args.notes.now h (c.runs_are_bounded.ensures.bounded m.program m.input n) c.input.ensures.valid.limit c.requires.before.1.short in
-    more_flushes 0 n (2 ^ 128) _ (omega (arith, few)) (h.pending.flushes j l e)
-
-pub step_lines-requires-clause-ends : goal.step_lines-requires-clause-ends
-step_lines-requires-clause-ends c =
-    let m = c.args.machine.now in
-    let n = m.taken - 1 in
-    let size = same_size m.program m.input n c.input.ensures.valid in
-    let small : length m.input.image < 2 ^ 64 = (let a = c.input.ensures.valid.image in let b = c.program-program.ensures.sound.sizes.region in let k = ap region_size c.checked-checked.ensures in omega (arith, a, b, k)) in
+    let size = same_size m.program m.input n c.input-input.ensures.valid in
+    let small : length m.input.image < 2 ^ 64 = (let a = c.input-input.ensures.valid.image in let b = c.program-program.ensures.sound.sizes.region in let k = ap region_size c.checked-checked.ensures in omega (arith, a, b, k)) in
     let lies : Lies m.input c.args.seen = subst (λ (e : Event). Lies m.input e) (sym c.requires.before.1.seen) (event_lies m.program m.input (run m.program m.input n)) in
-    subst (λ (i : Input). EndsBelow i.base c.args.seen) (sym c.input.ensures.is) (ends_below m.input _ c.args.seen lies size small)
+    subst (λ b. EndsBelow b c.args.seen) (sym c.region_of-region.ensures.base) (ends_below m.input _ c.args.seen lies size small)
 
-pub step_lines-requires-clause-births : goal.step_lines-requires-clause-births
-step_lines-requires-clause-births c =
+pub note_memory-requires-clause-births : goal.note_memory-requires-clause-births
+note_memory-requires-clause-births c =
     let h = c.requires.before.1.noted in
-    let r1 = c.in_ok-step_check.ensures.rest in
+    let r1 = c.in_ok-note_check.ensures.rest in
     ap (λ (x : Notes). length x.births.items) r1 ∙ ap length h.births ∙ length_births _ ∙ sym (ap length h.calls)
     ∙ sym (ap (λ (x : Notes). length x.calls) r1)
 
@@ -69,51 +59,54 @@ returns-clause-noted c =
     let I = m.input in
     let s = run P I n in
     let next : suc n ≡ m.taken = (let t = c.requires.before.0 in omega (arith, t)) in
-    let region : c.region_of-region.result ≡ length I.image = c.region_of-region.ensures in
-    let base : c.input.result.now.base ≡ I.base = ap (λ (i : Input). i.base) c.input.ensures.is in
-    let marks3 : c.step_calls.new.notes.marks ≡ c.args.notes.now.marks = ap (λ (x : Notes). x.marks) c.in_ok-step_calls.ensures.rest ∙ ap (λ (x : Notes). x.marks) c.in_ok-step_lines.ensures.rest ∙ ap (λ (x : Notes). x.marks) c.in_ok-step_check.ensures.rest in
-    let did : Did P I c.args.notes.now c.step_check.new.notes c.step_lines.new.notes c.step_calls.new.notes c.step_marks.new.notes c.step_hit.new.notes c.step_counts.new.notes c.lines-lines.result.now.lines c.input.result.now.base c.region_of-region.result c.args.seen c.args.sight.now.site c.args.sight.now.depth c.args.after (marks_ahead P I s) = record {
-      told = c.in_ok-step_check.ensures.told;
-      r1 = c.in_ok-step_check.ensures.rest;
-      follows = c.in_ok-step_lines.ensures.follows;
-      r2 = c.in_ok-step_lines.ensures.rest;
-      calls = c.in_ok-step_calls.ensures.calls;
-      births = c.in_ok-step_calls.ensures.births;
-      r3 = c.in_ok-step_calls.ensures.rest;
-      marks = c.in_ok-step_marks.ensures.marks ∙ ap (λ (ms : List Mark). met same_mark (map mark_of c.step_calls.new.notes.marks.keys) (unless_ended c.args.seen ms)) c.as_slice.ensures
-          ∙ unless_alike c.args.seen (map mark_of c.step_calls.new.notes.marks.keys) c.args.sight.now.marks (marks_ahead P I s)
-          (subst (λ x. AddAlike (map mark_of x.keys) c.args.sight.now.marks (marks_ahead P I s)) (sym marks3) c.requires.before.1.marks);
-      known = c.in_ok-step_marks.ensures.known;
-      r4 = c.in_ok-step_marks.ensures.rest;
-      hits = c.in_ok-step_hit.ensures.hit;
-      flags = c.in_ok-step_hit.ensures.known;
-      r5 = c.in_ok-step_hit.ensures.rest;
-      r6 = c.step_counts.ensures;
+    let region : c.region_of-region.result.size ≡ length I.image = c.region_of-region.ensures.size in
+    let base : c.region_of-region.result.base ≡ I.base = c.region_of-region.ensures.base in
+    let marks3 : c.note_calls.new.self.marks ≡ c.args.notes.now.marks = ap (λ (x : Notes). x.marks) c.in_ok-note_calls.ensures.rest ∙ ap (λ (x : Notes). x.marks) c.in_ok-note_memory.ensures.rest ∙ ap (λ (x : Notes). x.marks) c.in_ok-note_check.ensures.rest in
+    let did : Did P I c.args.notes.now c.note_check.new.self c.note_memory.new.self c.note_calls.new.self c.note_marks.new.self c.note_hit.new.notes c.count.new.self c.region_of-region.result.lines.now.lines c.region_of-region.result.base c.region_of-region.result.size c.args.seen c.args.sight.now.site c.args.sight.now.depth c.depth.result (marks_ahead P I s) = record {
+      told = c.in_ok-note_check.ensures.told;
+      r1 = c.in_ok-note_check.ensures.rest;
+      follows = c.in_ok-note_memory.ensures.follows;
+      r2 = c.in_ok-note_memory.ensures.rest;
+      calls = c.in_ok-note_calls.ensures.calls;
+      births = c.in_ok-note_calls.ensures.births;
+      r3 = c.in_ok-note_calls.ensures.rest;
+      marks = c.in_ok-note_marks.ensures.marks ∙ ap (λ (ms : List Mark). met same_mark (map mark_of c.note_calls.new.self.marks.keys) (unless_ended c.args.seen ms)) c.as_slice.ensures
+          ∙ unless_alike c.args.seen (map mark_of c.note_calls.new.self.marks.keys) c.args.sight.now.pointed.marks (marks_ahead P I s)
+          (subst (λ x. AddAlike (map mark_of x.keys) c.args.sight.now.pointed.marks (marks_ahead P I s)) (sym marks3) c.requires.before.1.sees.marks);
+      known = c.in_ok-note_marks.ensures.known;
+      r4 = c.in_ok-note_marks.ensures.rest;
+      hits = c.in_ok-note_hit.ensures.hit;
+      flags = c.in_ok-note_hit.ensures.known;
+      r5 = c.in_ok-note_hit.ensures.rest;
+      r6 = c.count.ensures;
     } in
-    let at = did_at P I c.args.notes.now c.step_check.new.notes c.step_lines.new.notes c.step_calls.new.notes c.step_marks.new.notes c.step_hit.new.notes c.step_counts.new.notes c.input.result.now.base c.region_of-region.result
-    c.lines-lines.result.now.lines (shown (run P I (suc n)).lines) (c.lines-lines.ensures ∙ ap (λ i. shown (run P I i).lines) (sym next))
-    c.args.seen (event P I s) c.requires.before.1.seen c.args.sight.now.site (next_site P s) c.requires.before.1.site c.args.sight.now.depth (length s.frames) c.requires.before.1.depth
-    c.args.after (length (run P I (suc n)).frames) (c.requires.after ∙ ap (λ i. length (run P I i).frames) (sym next)) (marks_ahead P I s) (marks_ahead P I s) refl did in
+    let at = did_at P I c.args.notes.now c.note_check.new.self c.note_memory.new.self c.note_calls.new.self c.note_marks.new.self c.note_hit.new.notes c.count.new.self c.region_of-region.result.base c.region_of-region.result.size
+    c.region_of-region.result.lines.now.lines (shown (run P I (suc n)).lines) (c.region_of-region.ensures.lines ∙ ap (λ i. shown (run P I i).lines) (sym next))
+    c.args.seen (event P I s) c.requires.before.1.seen c.args.sight.now.site (next_site P s) c.requires.before.1.sees.site c.args.sight.now.depth (length s.frames) c.requires.before.1.sees.depth
+    c.depth.result (length (run P I (suc n)).frames) (c.depth.ensures ∙ ap (λ i. length (run P I i).frames) (sym next)) (marks_ahead P I s) (marks_ahead P I s) refl did in
     let top = first_frame s.frames (standing-frame P I n) in
-    let noted : AreNoted P I (suc n) c.step_counts.new.notes =
-    assembled P I n c.requires.before.1.going c.args.notes.now c.step_check.new.notes c.step_lines.new.notes c.step_calls.new.notes c.step_marks.new.notes c.step_hit.new.notes c.step_counts.new.notes c.requires.before.1.noted c.input.result.now.base c.region_of-region.result base region (c.stack_keeps_its_shape.ensures P I n).is.calls top.0 top.1 top.2 at in
-    subst (λ i. AreNoted P I i c.step_counts.new.notes) next noted
+    let noted : AreNoted P I (suc n) c.count.new.self =
+    assembled P I n c.requires.before.1.going c.args.notes.now c.note_check.new.self c.note_memory.new.self c.note_calls.new.self c.note_marks.new.self c.note_hit.new.notes c.count.new.self c.requires.before.1.noted c.region_of-region.result.base c.region_of-region.result.size base region (c.stack_keeps_its_shape.ensures P I n).is.calls top.0 top.1 top.2 at in
+    subst (λ i. AreNoted P I i c.count.new.self) next noted
 
-pub step_marks-requires : goal.step_marks-requires
-step_marks-requires c =
+pub note_marks-requires : goal.note_marks-requires
+note_marks-requires c =
     let h = c.requires.before.1.noted in
-    let r1 = c.in_ok-step_check.ensures.rest in
-    let r2 = c.in_ok-step_lines.ensures.rest in
-    let r3 = c.in_ok-step_calls.ensures.rest in
-    subst (λ x. AreMet (map mark_of x.keys) c.step_calls.new.notes.recent.items) (sym (ap (λ (x : Notes). x.marks) r3 ∙ ap (λ (x : Notes). x.marks) r2 ∙ ap (λ (x : Notes). x.marks) r1))
+    let r1 = c.in_ok-note_check.ensures.rest in
+    let r2 = c.in_ok-note_memory.ensures.rest in
+    let r3 = c.in_ok-note_calls.ensures.rest in
+    subst (λ x. AreMet (map mark_of x.keys) c.note_calls.new.self.recent.items) (sym (ap (λ (x : Notes). x.marks) r3 ∙ ap (λ (x : Notes). x.marks) r2 ∙ ap (λ (x : Notes). x.marks) r1))
     (subst (λ x. AreMet (map mark_of c.args.notes.now.marks.keys) x.items) (sym (ap (λ (x : Notes). x.recent) r3 ∙ ap (λ (x : Notes). x.recent) r2 ∙ ap (λ (x : Notes). x.recent) r1)) h.recent)
 
-pub step_hit-requires : goal.step_hit-requires
-step_hit-requires c =
+pub note_hit-requires-clause-last : goal.note_hit-requires-clause-last
+note_hit-requires-clause-last c = c.requires.before.1.sees.last
+
+pub note_hit-requires-clause-known : goal.note_hit-requires-clause-known
+note_hit-requires-clause-known c =
     let h = c.requires.before.1.noted in
-    let r1 = c.in_ok-step_check.ensures.rest in
-    let r2 = c.in_ok-step_lines.ensures.rest in
-    let r3 = c.in_ok-step_calls.ensures.rest in
-    let r4 = c.in_ok-step_marks.ensures.rest in
-    subst (λ x. WereHit x.keys c.step_marks.new.notes.flags.items) (sym (ap (λ (x : Notes). x.hit) r4 ∙ ap (λ (x : Notes). x.hit) r3 ∙ ap (λ (x : Notes). x.hit) r2 ∙ ap (λ (x : Notes). x.hit) r1))
+    let r1 = c.in_ok-note_check.ensures.rest in
+    let r2 = c.in_ok-note_memory.ensures.rest in
+    let r3 = c.in_ok-note_calls.ensures.rest in
+    let r4 = c.in_ok-note_marks.ensures.rest in
+    subst (λ x. WereHit x.keys c.note_marks.new.self.flags.items) (sym (ap (λ (x : Notes). x.hit) r4 ∙ ap (λ (x : Notes). x.hit) r3 ∙ ap (λ (x : Notes). x.hit) r2 ∙ ap (λ (x : Notes). x.hit) r1))
     (subst (λ x. WereHit c.args.notes.now.hit.keys x.items) (sym (ap (λ (x : Notes). x.flags) r4 ∙ ap (λ (x : Notes). x.flags) r3 ∙ ap (λ (x : Notes). x.flags) r2 ∙ ap (λ (x : Notes). x.flags) r1)) h.flags)

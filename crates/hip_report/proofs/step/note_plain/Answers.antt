@@ -20,11 +20,11 @@ returns-in_default c =
     let n = m.taken - 1 in
     let next : suc n ≡ m.taken = (let t = c.requires.taken in omega (arith, t)) in
     let notes : Notes = c.args.notes.now in
-    let counted : Notes = c.step_counts.new.notes in
+    let counted : Notes = c.count.new.self in
     let after : Notes = record counted { plain = 0 } in
     record {
       noted = subst (λ i. AreTracked m.program m.input i after) next
           (plain_ended m.program m.input n notes.plain c.requires.plain (c.requires.noted.plain c.requires.plain) (c.stack_keeps_its_shape.ensures m.program m.input n).is.calls
-          c.args.seen c.requires.event notes counted c.requires.noted.noted c.step_counts.ensures);
-      header = ap (λ (x : Notes). x.header) c.step_counts.ensures;
+          c.args.seen c.requires.event notes counted c.requires.noted.noted c.count.ensures);
+      header = ap (λ (x : Notes). x.header) c.count.ensures;
     }

@@ -1,17 +1,69 @@
+use Rattle.std.proofs.Common.{◌-◌, ◌^◌, ◌<◌, arith, refl, ap, ◌∙◌, sym}
 use Rattle.hip_engine.specs.Quiet.{ComesTo}
-use Rattle.hip_report.proofs.Blank.{event_in_run, if_ok, notes_of, seen_is}
+use Rattle.hip_engine.proofs.Quietly.{no_steps, steps_then}
+use Rattle.hip_runs.specs.Seen.{Seen}
+use Rattle.hip_report.specs.Passing.{StopsShort}
+use Rattle.hip_report.proofs.Blank.{event_in_run, has_notes}
+use Rattle.hip_report.proofs.Locally.{goes_one_more, on_err, one_more, same_short}
 use Rattle.hip_report.proofs.tracker.next_event_in.Goals as goal
 
-pub returns-clause-noted : goal.returns-clause-noted
-returns-clause-noted c =
-    let m = c.args.machine.now in
-    let m' = c.note_next_event.new.machine in
-    if_ok (λ e. ComesTo m m' e) _ _ c.note_next_event.result c.note_next_event.ensures.ok c.note_next_event.ensures.noted
-    (λ e h t. notes_of c.begin.new.source m m' c.note_next_event.new.notes c.begin.ensures.source c.begin.ensures.short (event_in_run m m' e h) t)
+pub steps-init : goal.steps-init
+steps-init c = record { quiet = no_steps c.args.machine.now; noted = c.begin.ensures.noted; header = refl }
 
-pub returns-clause-seen : goal.returns-clause-seen
-returns-clause-seen c =
+pub pass_locally-requires : goal.pass_locally-requires
+pass_locally-requires c = record {
+  noted = c.steps.invariant.noted;
+  short = same_short c.args.machine.now c.steps.machine c.steps.invariant.quiet c.begin.ensures.short;
+}
+
+pub note_step-requires : goal.note_step-requires
+note_step-requires c = record {
+  noted = c.pass_locally.ensures.noted;
+  short = same_short c.steps.machine c.pass_locally.new.machine c.pass_locally.ensures.passes (same_short c.args.machine.now c.steps.machine c.steps.invariant.quiet c.begin.ensures.short);
+}
+
+pub steps-preserved : goal.steps-preserved
+steps-preserved c =
+    let quiet = steps_then c.args.machine.now c.steps.machine c.pass_locally.new.machine c.steps.invariant.quiet c.pass_locally.ensures.passes in
+    let none = c.is_quiet.ensures.0 c.if-not-is_quiet.false in
+    record {
+      quiet = goes_one_more c.args.machine.now c.pass_locally.new.machine c.note_step.new.machine quiet c.in_ok-event.ensures.ok.step (sym c.in_ok-event.ensures.ok.event ∙ none);
+      noted = c.in_ok-event.ensures.noted;
+      header = c.in_ok-event.ensures.header ∙ c.pass_locally.ensures.header ∙ c.steps.invariant.header;
+    }
+
+pub steps-smaller : goal.steps-smaller
+steps-smaller c =
+    let none = c.is_quiet.ensures.0 c.if-not-is_quiet.false in
+    let passed = ap (λ (m : Seen). m.taken) c.pass_locally.ensures.passes.is in
+    let next = ap (λ (m : Seen). m.taken) (one_more c.pass_locally.new.machine c.note_step.new.machine c.in_ok-event.ensures.ok.step (sym c.in_ok-event.ensures.ok.event ∙ none)) in
+    let before = c.steps.invariant.noted.noted.steps in
+    let after = c.in_ok-event.ensures.noted.noted.steps in
+    let few = c.pass_locally.ensures.few in
+    let e : 2 ^ 128 - c.note_step.new.notes.steps < 2 ^ 128 - c.steps.notes.steps = omega (arith, passed, next, before, after, few) in e
+
+pub returns-then-not-is_quiet : goal.returns-then-not-is_quiet
+returns-then-not-is_quiet c =
     let m = c.args.machine.now in
-    let m' = c.note_next_event.new.machine in
-    if_ok (λ e. ComesTo m m' e) _ _ c.note_next_event.result c.note_next_event.ensures.ok c.note_next_event.ensures.noted
-    (λ e h t. seen_is c.begin.new.source m m' c.note_next_event.new.notes c.begin.ensures.source (event_in_run m m' e h) t)
+    let there : ComesTo m c.note_step.new.machine c.in_ok-event.event = record {
+      before = c.pass_locally.new.machine;
+      quiet = steps_then m c.steps.machine c.pass_locally.new.machine c.steps.invariant.quiet c.pass_locally.ensures.passes;
+      step = c.in_ok-event.ensures.ok.step;
+      is = c.in_ok-event.ensures.ok.event;
+      some = λ quiet. let is = c.is_quiet.ensures.1 quiet in let not = c.if-not-is_quiet.true in let z : ⊥ = cc in z;
+    } in
+    record {
+      ok = there;
+      noted = has_notes c.begin.new.source m c.note_step.new.machine c.note_step.new.notes c.begin.ensures.source c.begin.ensures.short (event_in_run m c.note_step.new.machine c.in_ok-event.event there) c.in_ok-event.ensures.noted;
+      header = c.in_ok-event.ensures.header ∙ c.pass_locally.ensures.header ∙ c.steps.invariant.header;
+      err = tt;
+    }
+
+pub returns-in_err-event-clause-err : goal.returns-in_err-event-clause-err
+returns-in_err-event-clause-err c =
+    let stops : StopsShort c.args.machine.now c.note_step.new.machine = record {
+      before = c.pass_locally.new.machine;
+      quiet = steps_then c.args.machine.now c.steps.machine c.pass_locally.new.machine c.steps.invariant.quiet c.pass_locally.ensures.passes;
+      is = c.in_err-event.ensures.err;
+    } in
+    on_err c.from_residual.result stops

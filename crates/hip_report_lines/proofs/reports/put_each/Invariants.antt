@@ -1,9 +1,10 @@
-use Rattle.std.proofs.Common.{take}
+use Rattle.std.proofs.Common.{◌≡◌, ◌++◌, ℕ, List}
 use Rattle.hip_io.specs.Sinks.{Writes}
 use Rattle.hip_report_lines.specs.Reports.{report_lines}
 use Rattle.hip_report_lines.proofs.reports.put_each.Given as goal
 
+-- a text was written, and with the lines of the reports that are left it is the whole
 abbrev pub invariant-each : goal.invariant-each
 invariant-each g l =
-    Writes l.initial.put l.put (g.S.Sink.state l.initial.out) (g.S.Sink.state l.out)
-    (report_lines l.program (take l.report-index l.reports))
+    (text : List ℕ) × Writes l.initial.put l.put (g.S.Sink.state l.initial.out) (g.S.Sink.state l.out) text
+    × (text ++ report_lines l.program l.report-iterator ≡ report_lines l.program l.reports)

@@ -13,4 +13,4 @@ returns-then-is_inside-clause-ok c =
       low = c.if-is_inside.ensures.bounds.0;
       high = c.if-is_inside.ensures.bounds.1;
     } in
-    rw (← c.self.view_is) (flushes reached c.flush_range.ensures.lines c.first_line.ensures c.lines_size.ensures)
+    rw (← c.self.view_is) (flushes reached c.first_line.ensures c.lines_size.ensures)

@@ -1,0 +1,4 @@
+pub mod Within
+pub mod Pending
+pub mod Running
+pub mod Laws

@@ -1,0 +1,42 @@
+ghost use Rattle.std.specs.Prelude.{◌≡◌, ◌<◌, ◌≤◌, IfSome, Some, slice_get};
+ghost use Rattle.hip_code.specs.Ops.{OpWithin};
+ghost use Rattle.hip_machine.specs.Acts.{IsReady, numbers_of};
+ghost use Rattle.hip_engine.specs.StoresAhead.{store_in};
+
+use hip_code::{Code, Memory, Op, read};
+use hip_machine::Core;
+
+/// The bytes that a store writes: the address of the first one, and their number, from 1 to 8.
+#[derive(Clone, Copy)]
+pub struct StoreAhead {
+    pub addr: u64,
+    pub size: u32,
+}
+
+// The store that an op makes in the top frame. None for any other op.
+#[inline(always)]
+fn store_of(core: &Core, code: &Code, op: &Op) -> Option<StoreAhead>
+    requires { OpWithin (numbers_of code.now core.now) op.now }
+    ensures store { result ≡ store_in (numbers_of code.now core.now) op.now }
+    ensures sizes { IfSome result (λ store. (0 < store.size) × (store.size ≤ 8)) }
+{
+    match op {
+        Op::Memory(Memory::Store { size, addr, .. }) => Some(StoreAhead {
+            addr: read(code, core.slots.as_slice(), core.top.base, *addr),
+            size: *size,
+        }),
+        _ => None,
+    }
+}
+
+/// The store that the op at the core's place makes. None for any other op.
+#[inline(always)]
+pub fn store_here(core: &Core, code: &Code) -> Option<StoreAhead>
+    requires { IsReady code.now core.now }
+    ensures store { (op : Op) → slice_get code.now.ops.items core.now.top.place ≡ Some op →
+        result ≡ store_in (numbers_of code.now core.now) op }
+    ensures sizes { IfSome result (λ store. (0 < store.size) × (store.size ≤ 8)) }
+{
+    let op = &code.ops[core.top.place];
+    store_of(core, code, op)
+}

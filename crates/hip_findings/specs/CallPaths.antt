@@ -1,0 +1,31 @@
+-- The calls that a store was made in, as shared nodes, and which of them have returned.
+use Rattle.std.specs.Prelude.{◌≡◌, ℕ, suc, ◌+◌, Bool, false, cond, nat_eq, List, [], ◌∷◌, length, map, Option, Some, None, slice_get}
+use Rattle.hip_tree.specs.declared.site.Site.{Site}
+use Rattle.hip_runs.specs.State.{Level}
+use Rattle.hip_findings.specs.declared.call_path.Link.{Link}
+use Rattle.hip_findings.specs.declared.call_path.Link.TheVariants.{End, Call}
+
+-- the calls from a node outward, the innermost one first; none at the end
+abbrev pub levels_in : Link → List Level
+levels_in End = []
+levels_in (Call site birth count outer) = record { call = site; birth = birth } ∷ outer.value
+
+-- a call knows how many calls there are, with it
+abbrev pub HasCount : Link → Type 0
+HasCount End = Unit {0}
+HasCount (Call site birth count outer) = count ≡ length outer.value + 1
+
+-- the sites of calls
+abbrev pub call_sites : List Level → List Site
+call_sites levels = map (λ l. l.call) levels
+
+-- whether there is a birth, that of the call that stands at a depth, and it is this one
+abbrev pub is_birth : ℕ → Option ℕ → Bool
+is_birth birth None = false
+is_birth birth (Some b) = nat_eq b birth
+
+-- How many of the calls have returned, where those that stand have these births: at a call's depth another one was born,
+-- or none. They are the innermost ones, since a call outside of one that stands stands too.
+abbrev pub closed_by : List ℕ → List Level → ℕ
+closed_by births [] = 0
+closed_by births (l ∷ ls) = cond (is_birth l.birth (slice_get births (length ls))) 0 (suc (closed_by births ls))

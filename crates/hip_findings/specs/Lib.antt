@@ -1,0 +1,2 @@
+pub mod CallPaths
+pub mod Shared

@@ -1,0 +1,11 @@
+-- Room in the counts of a machine for its next step.
+use Rattle.std.specs.Prelude.{◌+◌, ◌<◌, ◌^◌}
+use Rattle.hip_machine.specs.declared.core_parts.Core.{Core}
+
+-- one step more, and one place further, are numbers of their widths
+abbrev pub HasRoom : Core → Type 0
+HasRoom c = (c.taken + 1 < 2 ^ 128) × (c.top.place + 1 < 2 ^ 64)
+
+-- the same in a turn
+abbrev pub HasTurn : Core → Type 0
+HasTurn c = (c.taken + 1 < 2 ^ 128) × (c.top.place + 1 < 2 ^ 64) × (c.turns + 1 < 2 ^ 64)

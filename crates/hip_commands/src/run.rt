@@ -14,6 +14,7 @@ use std::alloc::Global;
 
 /// Runs the program of a file, with its region at the lowest base, and writes what it prints as it runs; then how the
 /// run has ended goes to notes.
+#[inline(never)]
 pub fn run_file<C: Cabinet, S: Sink, N: Sink>(
     alloc: Global,
     program: &str,

@@ -15,6 +15,7 @@ use std::alloc::Global;
 
 /// Makes the program for a seed and a size, records its run in memory, replays the trace, repairs the program and runs
 /// it again. All memory is taken before the first byte is written. Whatever cabinet there is, it is not looked at.
+#[inline(never)]
 pub fn demo<S: Sink, N: Sink>(
     alloc: Global,
     seed: u64,

@@ -26,6 +26,7 @@ use std::alloc::Global;
 
 /// Repairs the program of a file for the runs whose traces other files have, once for all of them. All memory that it
 /// needs is taken before the first byte is written.
+#[inline(never)]
 pub fn many_file<C: Cabinet, S: Sink, N: Sink>(
     alloc: Global,
     program: &str,

@@ -35,6 +35,7 @@ fn report_findings<S: Sink, N: Sink>(
 
 /// Writes the reports of the run whose trace one file has, of the program that another has. All memory that it needs is
 /// taken before the first byte is written.
+#[inline(never)]
 pub fn check_file<C: Cabinet, S: Sink, N: Sink>(
     alloc: Global,
     program: &str,

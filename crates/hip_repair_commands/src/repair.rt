@@ -69,6 +69,7 @@ fn repair_findings<S: Sink, N: Sink>(
 
 /// Repairs the program of a file for the run whose trace another has. All memory that it needs is taken before the
 /// first byte is written.
+#[inline(never)]
 pub fn repair_file<C: Cabinet, S: Sink, N: Sink>(
     alloc: Global,
     program: &str,

@@ -72,6 +72,7 @@ fn rerun_findings<S: Sink, N: Sink>(
 
 /// Repairs the program of a file for the run whose trace another has, and writes the trace of the repaired program's
 /// run on the same input as it runs.
+#[inline(never)]
 pub fn rerun_file<C: Cabinet, S: Sink, N: Sink>(
     alloc: Global,
     program: &str,

@@ -92,6 +92,7 @@ fn thin_findings<S: Sink, N: Sink>(
 
 /// Repairs the program of a file for the run whose trace another has, by clones that do not flush the low stores. All
 /// memory that it needs is taken before the first byte is written.
+#[inline(never)]
 pub fn thin_file<C: Cabinet, S: Sink, N: Sink>(
     alloc: Global,
     program: &str,

@@ -54,7 +54,7 @@ pub enum Event {
 }
 
 /// What an address may point into.
-#[derive(Clone, Copy, PartialEq, Eq)]
+#[derive(Clone, Copy, PartialEq, Eq, Hash)]
 pub enum Object {
     /// The global of that number.
     Global(usize),

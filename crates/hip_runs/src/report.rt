@@ -31,7 +31,7 @@ pub struct Report {
 }
 
 /// That a pointer operand of an instruction pointed into an object.
-#[derive(Clone, Copy, PartialEq, Eq)]
+#[derive(Clone, Copy, PartialEq, Eq, Hash)]
 pub struct Mark {
     pub site: Site,
     /// Counted from 0 among the pointer operands of the instruction.

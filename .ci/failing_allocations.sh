@@ -1,12 +1,12 @@
 #!/usr/bin/env bash
-# Out-of-memory paths, run manually: each command runs over the examples with its n-th allocation failing, for one n after
-# another. It answers either as with ample memory, or with exit code 7, its line, and nothing on standard output except, for
-# the commands that write while they run, a front of the ample text. If the words themselves find no memory, there is only
-# the exit code. One line for each command gives the counts.
+# Tests out-of-memory paths; run it manually. Each command runs on the examples while its n-th allocation fails, for one n
+# after another. It must answer as with ample memory, or with exit code 7 and its line. Standard output must then be empty,
+# or a prefix of the ample text for the commands that write while they run. If the words themselves find no memory, there is
+# only the exit code. One line for each command gives the counts.
 # usage: .ci/failing_allocations.sh [--try] [FIRST [LAST [STEP]]]
-# It runs the built program over a malloc that fails (a C compiler is needed); where no FIRST is given, for the first
-# 100 allocations and for 200 of the others. With --try it runs the unproved program by `rt try --fail-alloc N`, which
-# takes more than a minute for each N; where no FIRST is given, for the 40th alone.
+# It runs the built program with a malloc that fails (it needs a C compiler); without FIRST, for the first 100 allocations
+# and for 200 of the others. With --try it runs the unproved program with `rt try --fail-alloc N`, which takes more than a
+# minute for each N; without FIRST, for the 40th only.
 top=$(cd "$(dirname "${BASH_SOURCE[0]}")/.." && pwd) || exit 2
 program=${HIPPO_PROGRAM:-$top/out/hippo}
 by=preload
@@ -21,7 +21,7 @@ cp -r "$top/examples" "$scratch"
 cd "$scratch/examples" || exit 2
 failed=0
 
-# run_try N WORD..: the program by `rt try`, which runs elsewhere and puts lines of its own on standard error
+# run_try N WORD..: runs the program with `rt try`, which runs in another folder and adds its own lines to standard error
 run_try() {
   local number=$1 words=() word
   shift
@@ -35,14 +35,14 @@ run_try() {
   return "$code"
 }
 
-# run_preload N WORD..: the built program, with the number of its allocations in the file `count`
+# run_preload N WORD..: runs the built program, and writes the number of its allocations into the file `count`
 run_preload() {
   local number=$1
   shift
   FAIL_ALLOC=$number ALLOCATIONS=$PWD/count LD_PRELOAD=$PWD/failing.so "$program" "$@" >out 2>notes
 }
 
-# The malloc that fails at the allocation of number FAIL_ALLOC, and says at the end how many there were.
+# make_preload: builds a malloc that fails at the allocation of number FAIL_ALLOC, and writes at the end how many there were
 make_preload() {
   local compiler
   compiler=$(command -v cc clang gcc clang-19 | head -n 1)
@@ -71,12 +71,12 @@ __attribute__((destructor)) static void end(void) {
 C
   "$compiler" -shared -fPIC -O1 -fno-builtin -o failing.so failing.c || exit 2
   if [ ! -x "$program" ]; then
-    echo 'memory: hippo is not built (./hippo builds it, --try goes without)'
+    echo 'memory: hippo is not built (./hippo --build builds it; --try needs no build)'
     exit 2
   fi
 }
 
-# numbers: which allocations are to fail
+# numbers: prints which allocations fail
 numbers() {
   local all=$1
   if [ "${#given[@]}" -gt 0 ]; then
@@ -89,7 +89,7 @@ numbers() {
   fi
 }
 
-# fronts COMMAND: standard output is empty, or a front of the ample text where the command writes as it runs
+# fronts COMMAND: standard output is empty, or a prefix of the ample text if the command writes while it runs
 fronts() {
   case $1 in
     run | record | rerun | crash) cmp -s -n "$(wc -c <out)" out ample ;;
@@ -102,7 +102,7 @@ lacks() {
   fronts "$1" && if [ -s notes ]; then [ "$(cat notes)" = 'hippo: out of memory' ]; else [ ! -s out ]; fi
 }
 
-# starves WORD..: a command's line
+# starves WORD..: runs a command with failing allocations, and prints its line
 starves() {
   local n code ample all='' tried=0 short=0
   "run_$by" 1000000000 "$@"

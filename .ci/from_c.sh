@@ -1,7 +1,7 @@
 #!/usr/bin/env bash
-# From C: what tools/lower makes of each program in examples/from_c is the text that is stored beside it; that text, the
-# repaired one and the C program, each built for the processor, print what is stored. The tests of tools/lower run too.
-# Without the tools of LLVM 19 there is nothing to compare, and one line says so.
+# Tests tools/lower. It must lower each program in examples/from_c to the text that is stored beside it. That text, the
+# repaired one and the C program, each built for the processor, must print what is stored. The tests of tools/lower run too.
+# Without the tools of LLVM 19 it tests nothing, and one line says so.
 cd "$(dirname "${BASH_SOURCE[0]}")/.." || exit 2
 for tool in python3 clang-19 opt-19 llvm-as-19 llvm-link-19 llc-19; do
   if ! command -v "$tool" >/dev/null; then
@@ -19,7 +19,7 @@ folder=examples/from_c
 passed=0
 failed=0
 
-# count LINE COMMAND..: a check by its command's status
+# count LINE COMMAND..: counts a check, which passes if the command does
 count() {
   local line=$1
   shift
@@ -31,10 +31,10 @@ count() {
   fi
 }
 
-# A processor without clwb gets clflush in its place, which stands under the same type.
+# A processor without clwb gets clflush in its place, which has the same type.
 if grep -qw clwb /proc/cpuinfo; then flush=llvm.x86.clwb; else flush=llvm.x86.sse2.clflush; fi
 
-# build TEXT PROGRAM: an executable out of LLVM's text form
+# build TEXT PROGRAM: builds an executable from LLVM's text form
 build() {
   sed "s/@llvm\.x86\.clwb\b/@$flush/" "$1" >"$scratch/build.ll" &&
     llc-19 --trap-unreachable -mtriple=x86_64-pc-linux-gnu -relocation-model=pic -mattr=+clwb,+clflushopt \
@@ -42,7 +42,7 @@ build() {
     clang-19 -Itools -o "$2" "$scratch/build.o" tools/external_functions.c
 }
 
-# compiled FILE TEXT FLAG..: a C program as clang compiles it, in LLVM's text form
+# compiled FILE TEXT FLAG..: compiles a C program with clang into LLVM's text form
 compiled() {
   clang-19 -O1 -fwrapv -fno-strict-aliasing -mclwb -Itools "${@:3}" -S -emit-llvm -o "$2" "$1"
 }
@@ -60,12 +60,12 @@ shows() {
   [ "${page/"$block"/}" != "$page" ]
 }
 
-# options NAME: what tools/lower is given for a program
+# options NAME: the options of tools/lower for a program
 options() {
   if [ "$1" = store ]; then echo --pool store.pool=64K; fi
 }
 
-# native NAME: a C program as clang compiles it; the runtime's files stand for libpmem, over this pool
+# native NAME: compiles a C program with clang; the runtime's files replace libpmem, over this pool
 native() {
   compiled "$folder/$1.c" "$scratch/c.ll"
   if [ "$1" = store ]; then
@@ -89,10 +89,10 @@ for name in log allocator undo store; do
   count "$name.repaired.ll prints something else" prints "$folder/$name.repaired.ll" "$input" "$folder/$name.out"
 done
 
-# Where hippo is built, its runs of the texts print the same, and stop with 0; and it makes the stored traces and
+# If hippo is built, its runs of the texts must print the same and stop with 0, and it must make the stored traces and
 # repaired texts.
 hippo=$(realpath -m "${HIPPO_PROGRAM:-out/hippo}")
-# ends NOTES WORD..: a command's output, with code 0 and these notes
+# ends NOTES WORD..: runs a command, which must end with code 0 and these notes
 ends() {
   local notes=$1
   shift
@@ -119,7 +119,7 @@ else
   echo "from C: runs by hippo are skipped, it is not built"
 fi
 
-# What clang makes of intrinsics, at each level, and forms that it seldom writes, against the same as LLVM compiles it.
+# Compares what clang makes of intrinsics at each level, and forms that it seldom writes, with LLVM's own builds of them.
 compiled tools/tests/intrinsics.c "$scratch/intrinsics.ll"
 cp tools/tests/forms.ll "$scratch/forms.ll"
 for name in intrinsics forms; do
@@ -135,13 +135,13 @@ done
 tools/lower tools/tests/forms.ll >"$scratch/lowered.ll" 2>"$scratch/notes"
 count "forms.ll prints something else" prints "$scratch/lowered.ll" /dev/null "$scratch/forms.out"
 
-# The tests of tools/lower: C programs feature by feature at each level, what is refused, and the runtime.
+# The tests of tools/lower: C programs feature by feature at each level, refusals, and the runtime.
 if [ -x "$hippo" ]; then export HIPPO=$hippo; fi
 for tests in lowering refusals runtime; do
   count "tools/tests/test_$tests.py fails" python3 "tools/tests/test_$tests.py"
 done
 
-# Random programs, where csmith is installed.
+# Random programs, if csmith is installed.
 if ! command -v csmith >/dev/null; then
   echo "from C: random programs are skipped, csmith is not installed"
 elif [ -x "$hippo" ]; then

@@ -1,6 +1,6 @@
 #!/usr/bin/env bash
-# hippo-c: its tests, which run the program over C files. Without python3 and the tools of LLVM 19 there is nothing to
-# run, and one line says so.
+# Runs the tests of hippo-c, which run the program on C files. Without python3 and the tools of LLVM 19 it runs nothing,
+# and one line says so.
 cd "$(dirname "${BASH_SOURCE[0]}")/.." || exit 2
 for tool in python3 clang-19 opt-19 llvm-as-19 llvm-link-19 llc-19; do
   if ! command -v "$tool" >/dev/null; then

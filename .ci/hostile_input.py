@@ -1,8 +1,8 @@
 #!/usr/bin/env python3
-"""Hard input to the built program: files that are cut or damaged at each byte, texts of 16 MiB of one form, files that
-come byte by byte, and a deep run. A case that fails is named with what came; the last line says how many passed. Each
-run is to end with an exit code of the README, with that code's text on standard error, and with no standard output but
-an answer."""
+"""Hostile input to the built program: files that are cut or damaged at each byte, texts of 16 MiB of one form, files that
+come byte by byte, and a deep run. Each run must end with an exit code of the README, with the text of that code on
+standard error, and with nothing but an answer on standard output. A case that fails is printed with what came; the last
+line says how many passed."""
 import concurrent.futures, os, re, subprocess, sys, tempfile, threading
 
 TOP = os.path.dirname(os.path.dirname(os.path.realpath(__file__)))
@@ -18,7 +18,7 @@ tally = {True: 0, False: 0}
 
 
 def case(name, faults):
-    """Counts a case; it passes where nothing is said against it."""
+    """Counts a case; it passes if there are no faults."""
     tally[not faults] += 1
     for fault in faults[:3]:
         print(f"hard: {name}: {fault}")
@@ -63,7 +63,7 @@ def repairs(variants, program, trace):
 
 
 def cut_program(text, trace, whole):
-    """Each front is refused at its last line, or lacks `main` where it is whole items, or is the whole program."""
+    """Each prefix is refused at its last line, or lacks `main` if it consists of whole items, or is the whole program."""
     ends = [0] + [at.end() for at in re.finditer(rb'i64 0(?=,)|"\.pm"|^\}', text, re.M)]
     fronts = [text[:length] for length in range(len(text))]
     for front, got in repairs(fronts, None, trace):
@@ -80,7 +80,7 @@ def cut_program(text, trace, whole):
 
 
 def cut_trace(text, program, whole):
-    """Each front is refused at its last entry or the one that it lacks."""
+    """Each prefix is refused at its last entry, or at the first entry that it lacks."""
     fronts = [text[:length] for length in range(len(text))]
     for front, got in repairs(fronts, program, None):
         line = TRACE_LINE.fullmatch(got[2])
@@ -101,7 +101,7 @@ def damage(text):
 
 
 def damaged(text, program, trace):
-    """A damaged file is refused nowhere before the damage, or is one that fits."""
+    """A damaged file is refused, but not before the damage, or it still fits."""
     places, variants = zip(*damage(text))
     for place, (variant, got) in zip(places, repairs(variants, program, trace)):
         line = (TRACE_LINE if program else TEXT_LINE).fullmatch(got[2])
@@ -127,7 +127,7 @@ def in_main(front, unit, back=b""):
 
 NO_MAIN = "hippo: program: no main at program\n"
 AT_ONCE = "hippo: program line 1: syntax\n"
-# Each: its name, the text, the exit code and what standard error says.
+# Each case: its name, the text, the exit code, and what standard error says.
 LARGE = [
     ("opening brackets", lambda: filled(b"", b"["), 5, AT_ONCE),
     ("brackets of types", lambda: filled(b"@x = global ", b"[1 x "), 5, "hippo: program line 1: depth\n"),
@@ -194,7 +194,7 @@ entry:
 
 
 def drip(text, path):
-    """Writes a file byte by byte, each as a write of its own."""
+    """Writes a file byte by byte, with one write for each."""
     with open(path, "wb", buffering=0) as file:
         try:
             for place in range(len(text)):
@@ -233,7 +233,7 @@ def large_programs(folder):
 
 
 def large_traces(folder, program, header):
-    """A trace without a separator is refused at the entry that it is, after any header."""
+    """A trace without a separator is refused at its one entry, after any header."""
     for name, front, unit, entry in (
         ("no separator", b"", b"0", 1),
         ("no separator after the header", header, b"STORE;", 3),

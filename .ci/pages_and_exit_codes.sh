@@ -1,8 +1,8 @@
 #!/usr/bin/env bash
-# The program over real files. Each console block of the README and of the pages of examples is run, in a copy of the
-# page's folder: what comes on standard output and standard error is the block's text, and a file that is written is the
-# one that stands there. Then come bad input and the exit codes that no page shows, and the answers of a fresh clone.
-# With --quick: what an unproved build can do too, which needs more memory and time.
+# Runs the program on real files. Each console block of the README and of the pages of examples runs in a copy of the page's
+# folder: standard output and standard error must be the block's text, and each written file must equal the stored one. Then
+# come bad input, the exit codes that no page shows, and the answers of a fresh clone. With --quick it runs only what an
+# unproved build can do, which needs more memory and time.
 case $* in
   '') is_whole=true size=50000 ;;
   --quick) is_whole=false size=200 ;;
@@ -22,7 +22,7 @@ hippo() { "$top/hippo" "$@"; }
 export top
 export -f hippo
 
-# count LINE COMMAND..: a case by its command's status
+# count LINE COMMAND..: counts a case, which passes if the command does
 count() {
   local line=$1
   shift
@@ -34,7 +34,7 @@ count() {
   fi
 }
 
-# commands BLOCK: a script that prints each command of a block, and runs it
+# commands BLOCK: writes a script that prints each command of a block, and runs it
 commands() {
   sed -n 's/^\$ //p' "$1" | while IFS= read -r command; do
     printf 'printf "%%s\\n" %q\n%s\n' "\$ $command" "$command"
@@ -56,7 +56,7 @@ keeps() {
   done
 }
 
-# page FILE FOLDER: the console blocks of a page, over a copy of the folder
+# page FILE FOLDER: runs the console blocks of a page in a copy of the folder
 page() {
   local block
   rm -rf "$scratch/room" "$scratch"/block.*
@@ -143,7 +143,7 @@ says() {
   count "a program with '$2'" answers "$1" "$2" run "$scratch/said.ll"
 }
 
-# in_main CODE LINE TEXT: the same of a program with this `main` and a function of i64 and ptr
+# in_main CODE LINE TEXT: the same for a program with this `main` and a function of i64 and ptr
 in_main() {
   says "$1" "$2" "@x = global i64 0
 declare i64 @read_i64()
@@ -205,7 +205,7 @@ for command in check repair rerun thin; do count "$command on a full device" fil
 count 'record on a full device' fills record "$program"
 count 'demo on a full device' fills demo 1 8
 
-# starves WORD..: too little memory is answered as such, with nothing on standard output
+# starves WORD..: with too little memory, the answer is out of memory, with nothing on standard output
 starves() {
   (ulimit -v 40000 && hippo "$@") >"$scratch/out" 2>"$scratch/notes"
   [ $? -eq 7 ] && [ ! -s "$scratch/out" ] && [ "$(cat "$scratch/notes")" = 'hippo: out of memory' ]
@@ -219,10 +219,10 @@ repeats() {
 count 'a large demo' repeats demo 1 "$size"
 count 'a large demo leaves no report' [ "$(tail -n 1 "$scratch/first")" = 'after 0' ]
 
-# fresh_clone FOLDER: what a clone has, and nothing that was built
+# fresh_clone FOLDER: copies what a clone has, and nothing that was built
 fresh_clone() { mkdir "$1" && tar -c --exclude=./.git --exclude=out . | tar -x -C "$1"; }
 
-# unproved WORD..: the answer of the fresh clone, without the one line in which the launcher says what it is
+# unproved WORD..: the answer of the fresh clone, without the line in which the launcher says which build answers
 unproved() {
   local status
   "$scratch/clone/hippo" "$@" 2>"$scratch/notes_of_launcher"
@@ -244,12 +244,12 @@ agrees() {
   [ $status -eq $other ] && cmp "$scratch/out" "$scratch/other.out" && cmp "$scratch/notes" "$scratch/other.notes"
 }
 
-# agrees_in_folder: from the folder of the files, by relative paths, and the same file twice
+# agrees_in_folder: the same in the folder of the files, with relative paths, and with one file twice
 agrees_in_folder() {
   cd "${program%/*}" && agrees repair one_store.ll ../one_store/one_store.trace && agrees repair one_store.ll one_store.ll
 }
 
-# agrees_on_pipes: files that are read from pipes
+# agrees_on_pipes: the same with files that are read from pipes
 agrees_on_pipes() {
   repaired() { "$1" repair <(cat "$program") <(cat "$trace"); }
   repaired hippo >"$scratch/out" 2>/dev/null && repaired unproved >"$scratch/other.out" 2>/dev/null &&

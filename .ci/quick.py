@@ -1,6 +1,6 @@
 #!/usr/bin/env python3
-"""What needs no proof: the tests of the tools, the tests of each crate by `rt try --test`, and the pages and exit codes over an
-unproved build. Each part has a line with its time; what a part that fails wrote comes before its line."""
+"""Runs what needs no proof: the tests of the tools, the tests of each crate with `rt try --test`, and the pages and exit codes with an
+unproved build. Each part prints a line with its time; the output of a part that fails comes before its line."""
 
 from __future__ import annotations
 
@@ -15,7 +15,7 @@ from pathlib import Path
 
 TOP = Path(__file__).resolve().parent.parent
 UNPROVED = TOP / "out" / "unproved" / "hippo"
-# Over the proved program where it is built, and else over an unproved build, which the first command makes.
+# With the proved program if it is built, otherwise with an unproved build, which the first command makes.
 PAGES = """
 ./hippo demo 1 1 || exit
 if ! ./hippo --version | grep -q '^proved: yes'; then export HIPPO_PROGRAM=$1; fi
@@ -35,7 +35,7 @@ def has_tests(crate: Path) -> bool:
 
 
 def part(name: str, command: list[str], folder: Path) -> bool:
-    """Runs a part, and says how it ended."""
+    """Runs a part, and prints how it ended."""
     start = time.monotonic()
     how = {"stdin": subprocess.DEVNULL, "stdout": subprocess.PIPE, "stderr": subprocess.STDOUT, "errors": "replace"}
     ran = subprocess.run(command, cwd=folder, **how)

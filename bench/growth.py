@@ -21,8 +21,8 @@ LARGEST_TEXT = 16 * MIB
 
 @dataclass(frozen=True)
 class Shape:
-    """Programs that grow in one way: their text for a size, three sizes, the commands, and the MB that a command may take at the
-    largest size. A command without such a limit has a figure of its MB as well."""
+    """Programs that grow in one way: their text for a size, three sizes, the commands, and the MB that each command may take at the
+    largest size. A command without such a limit has a figure of its MB too."""
 
     name: str
     text: Callable[[int], str]
@@ -50,7 +50,7 @@ SHAPES = [
 
 
 def command_on(hippo: Hippo, name: str, text: str) -> Command:
-    """A command on a program, with the trace of its run where it takes one."""
+    """A command on a program, with the trace of its run if it takes one."""
     return hippo.command(name, text) if name in ("run", "record") else hippo.command(name, text, hippo.recorded(text))
 
 
@@ -81,7 +81,7 @@ def of_shape(hippo: Hippo, shape: Shape) -> None:
 
 
 def of_one_to_another(hippo: Hippo) -> None:
-    """What has to cost nearly the same, and what a print costs."""
+    """Programs that must cost nearly the same, and the cost of a print."""
     def taken(*given: tuple[str, str]) -> list[float]:
         return times(hippo.runs, *(hippo.command("run", hippo.file(name, text)) for name, text in given))
 
@@ -148,7 +148,7 @@ def of_memory(hippo: Hippo) -> None:
 
 
 def of_large_texts(hippo: Hippo) -> None:
-    """The peaks of `run` and `repair` on texts of 16 MiB, the worst of several forms, each with its form."""
+    """The peaks of `run` and `repair` on texts of 16 MiB: the worst of several forms, with the form."""
     size = hippo.size(LARGEST_TEXT)
     peaks: dict[str, list[tuple[float, str]]] = {"run": [], "repair": []}
     for number, form in enumerate(texts.FORMS):
@@ -163,7 +163,7 @@ def of_large_texts(hippo: Hippo) -> None:
 
 
 def with_small_stack(hippo: Hippo) -> None:
-    """The exit code of a run of calls 16,000 deep where the stack of the process has 32 KiB."""
+    """The exit code of a run of calls 16,000 deep when the stack of the process has 32 KiB."""
     def small() -> None:
         resource.setrlimit(resource.RLIMIT_STACK, (32 << 10, 32 << 10))
 

@@ -1,4 +1,4 @@
-"""Speed beside LLVM 19's interpreter, of one command or loop beside another, and what the launcher adds."""
+"""Speed compared with LLVM 19's interpreter, one command or loop compared with another, and the time that the launcher adds."""
 
 from __future__ import annotations
 
@@ -10,7 +10,7 @@ from measuring import Command, Hippo, figures, leave_out, seconds, show, times
 
 BENCH = Path(__file__).resolve().parent
 INTERPRETER = ("lli-19", "--force-interpreter")
-# Each loop with the number of its turns, and what is asked of `run` and of `check`: times as fast as the interpreter.
+# Each loop with the number of its turns, and the goals of `run` and of `check`: times as fast as the interpreter.
 LOOPS = {
     "loop": (None, 25, 15),
     "turns": (3_000_000, 25, 20),
@@ -22,14 +22,14 @@ LOOPS = {
 
 
 def for_interpreter(text: str, number: int | None) -> str:
-    """The text with its number written in, and with empty functions in place of flush and fence, which the interpreter has not."""
+    """The text with its number written in, and with empty functions for flush and fence, which the interpreter does not have."""
     text = text.replace("declare i64 @read_i64()\n", f"define i64 @read_i64() {{\n  ret i64 {number}\n}}\n")
     text = re.sub(r"declare void (@llvm\S+)\((\w*)\)", r"define void \1(\2) {\n  ret void\n}", text)
     return text.replace("@llvm.x86.", "@x86.")
 
 
 def beside_the_interpreter(hippo: Hippo, name: str) -> None:
-    """`run` and `check` of a loop beside the interpreter."""
+    """`run` and `check` of a loop, compared with the interpreter."""
     turns, run_asked, check_asked = LOOPS[name]
     path = BENCH / f"{name}.ll"
     numbers = [] if turns is None else [hippo.size(turns)]
@@ -51,7 +51,7 @@ def beside_the_interpreter(hippo: Hippo, name: str) -> None:
 
 
 def beside_one_another(hippo: Hippo) -> None:
-    """Of one command or loop to another."""
+    """Ratios of one command or loop to another."""
     count = hippo.size(1_000_000)
     descents = hippo.size(50)
     mixed = BENCH / "mixed.ll"
@@ -68,7 +68,7 @@ def beside_one_another(hippo: Hippo) -> None:
 
 
 def of_the_launcher(hippo: Hippo) -> None:
-    """What `./hippo` adds to a call of the proved program that it runs."""
+    """The time that `./hippo` adds to a call of the proved program."""
     launcher = BENCH.parent / "hippo"
     if Path(hippo.program) != (BENCH.parent / "out" / "hippo").resolve():
         return

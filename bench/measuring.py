@@ -13,18 +13,18 @@ from collections.abc import Callable
 from dataclasses import dataclass
 
 MIB = 1 << 20
-# What a process may take: seconds of processor, and bytes of memory where it is hippo at full size.
+# What a process may take: seconds of processor time, and bytes of memory if it is hippo at full size.
 MOST_SECONDS = 120
 MOST_MEMORY = 4 << 30
 
 
 class Missed(Exception):
-    """A command that ended otherwise than it has to."""
+    """A command ended in an unexpected way."""
 
 
 @dataclass(frozen=True)
 class Command:
-    """A command with the files of its output and its input, the exit code that it has to end with, and the bytes that it may take."""
+    """A command with the files of its output and its input, the exit code that it must end with, and the bytes that it may take."""
 
     words: tuple[str, ...]
     out: str = os.devnull
@@ -44,7 +44,7 @@ def started(command: Command) -> subprocess.Popen:
 
 
 def require(command: Command, code: int) -> None:
-    """Raises where a command ended otherwise than it has to."""
+    """Raises if a command ended in an unexpected way."""
     if code != command.code:
         how = f"after {MOST_SECONDS} s" if code in (-24, -9) else f"with code {code}"
         raise Missed(f"{' '.join(os.path.basename(word) for word in command.words[:3])} ended {how}")
@@ -60,7 +60,7 @@ def spent(command: Command) -> float:
 
 
 def times(runs: int, *commands: Command) -> list[float]:
-    """The median time of each command. They run in turn, so that other load meets all of them alike."""
+    """The median time of each command. They run in turn, so that other load affects all of them equally."""
     taken: list[list[float]] = [[] for _ in commands]
     for _ in range(runs):
         for found, command in zip(taken, commands):
@@ -84,7 +84,7 @@ def peak(command: Command) -> float:
 
 
 def show(name: str, measured: float, least: float | None = None, most: float | None = None, basis: str = "", form: str = ".2f") -> None:
-    """Prints a figure: its name, what was measured, what is asked where there is an aim, and what it is made of."""
+    """Prints a figure: its name, the measured value, the goal if there is one, and the values that it comes from."""
     asked = f"at least {least:g}" if least is not None else f"at most {most:g}" if most is not None else ""
     missed = least is not None and measured < least or most is not None and measured > most
     print(f"{name:<66} {measured:>8{form}}  {asked:<13} {'missed' if missed else '':<6}  {basis}".rstrip(), flush=True)
@@ -143,7 +143,7 @@ class Hippo:
 
 
 def figures(name: str, measure: Callable[..., None], *words: object) -> None:
-    """Takes some figures; where a command ends otherwise than it has to, one line says so and the others go on."""
+    """Takes some figures; if a command ends in an unexpected way, one line says so and the other figures go on."""
     try:
         measure(*words)
     except Missed as fault:

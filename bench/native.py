@@ -1,4 +1,4 @@
-"""`run` and `check` of C programs beside their native code, which LLVM builds at -O1, and beside valgrind's memcheck of that code."""
+"""`run` and `check` of C programs, compared with native code, which LLVM builds at -O1, and with valgrind's memcheck of that code."""
 
 from __future__ import annotations
 
@@ -11,7 +11,7 @@ from measuring import Command, Hippo, Missed, figures, leave_out, seconds, show,
 
 TOP = Path(__file__).resolve().parent.parent
 TOOLS = ("clang-19", "valgrind")
-# A round of a program, and what puts it back to its start before each. A program without a round reads a longer input instead.
+# A round of a program, and the code that resets it before each round. A program without a round reads a longer input instead.
 ROUNDS = {
     "log": "  store i64 0, ptr @events\n  call void @llvm.x86.clwb(ptr @events)\n  call void @llvm.x86.sse.sfence()\n",
     "allocator": "  store i64 0, ptr @list\n  call void @pmem_persist(ptr @list, i64 8)\n",
@@ -48,7 +48,7 @@ def numbers_of(name: str, size: int) -> list[int]:
 
 
 def built(hippo: Hippo, name: str, text: str) -> str:
-    """The native program. It flushes by `clflush`, since valgrind knows no `clwb`."""
+    """The native program. It flushes with `clflush`, since valgrind does not know `clwb`."""
     path = hippo.file(f"{name}.native.ll", text.replace("@llvm.x86.clwb(", "@llvm.x86.sse2.clflush("))
     program = f"{hippo.folder}/{name}.native"
     words = ["clang-19", "-w", "-O1", "-target", "x86_64-pc-linux-gnu", f"-I{TOP}/tools", "-o", program, path]
@@ -59,7 +59,7 @@ def built(hippo: Hippo, name: str, text: str) -> str:
 
 
 def beside_native_code(hippo: Hippo, name: str) -> None:
-    """The multiples of a program: what the longer input takes more than the shorter one, by each tool and natively."""
+    """The multiples of a program: the extra time for the longer input over the shorter one, with each tool and natively."""
     text = (TOP / "examples" / "from_c" / f"{name}.ll").read_text(encoding="ascii")
     text = longer(name, text) if name in ROUNDS else text
     path, program = hippo.file(f"{name}.ll", text), built(hippo, name, text)

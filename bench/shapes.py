@@ -1,4 +1,4 @@
-"""Programs that grow in one way each: a function of a size that gives the text."""
+"""Programs that each grow in one way: a function takes a size and gives the text."""
 
 from __future__ import annotations
 
@@ -37,7 +37,7 @@ def at(index: str, count: int, kind: str = "i64") -> str:
 
 
 def descent(deepest: str, at_each: str = "") -> str:
-    """A function that calls itself `%n` deep, with what it does at each level and at the deepest."""
+    """A function that calls itself `%n` deep, with the code for each level and for the deepest."""
     return f"""define void @down(i64 %n) {{
 entry:
 {at_each}  %last = icmp eq i64 %n, 0
@@ -116,7 +116,7 @@ def calls_with_block(count: int, size: int) -> str:
 
 
 def asserts_over_region(size: int) -> str:
-    """Ten thousand asserts over a region of this many bytes, of which nothing is loose."""
+    """Ten thousand asserts over a region of this many bytes, in which nothing is loose."""
     return program(loop("i", 10_000, f"  call void @pm_assert(ptr @x, i64 {size})\n", "entry", "over"), region(size, "i8"))
 
 

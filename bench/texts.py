@@ -1,4 +1,4 @@
-"""Texts of a given length, each of one form all the way."""
+"""Texts of a given length, each made of one form."""
 
 from __future__ import annotations
 

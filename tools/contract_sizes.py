@@ -92,7 +92,7 @@ def function_at(lines: list[str], at: int, indent: str, name: str) -> Function:
 
 
 def last_of_head(lines: list[str], at: int, indent: str) -> int:
-    """The line that opens the body of the function, or ends it where it is a declaration or empty."""
+    """The line that opens the body of the function, or ends it if it is a declaration or empty."""
     depth, in_clauses = 0, False
     for row in range(at, len(lines)):
         line = lines[row]
@@ -126,7 +126,7 @@ def excesses(name: str, text: str, limits: Limits) -> list[str]:
 
 
 def report_of(crate: Path, limits: Limits) -> list[str]:
-    """The lines of a crate, none where nothing is too large."""
+    """The lines of a crate; none if nothing is too large."""
     files = [file for pattern in SOURCES for file in sorted(crate.glob(pattern))]
     found: list[str] = []
     for file in files:

@@ -19,7 +19,7 @@ TOP = Path(__file__).resolve().parent.parent
 
 
 class Refused(Exception):
-    """A file that is not as it should be, with the reason."""
+    """A file with a wrong form, and the reason."""
 
 
 def read_lines(text: str) -> list[str]:
@@ -55,7 +55,7 @@ def read_weights(text: str) -> dict[str, float]:
 
 
 def below(crates: dict[str, list[str]], top: str) -> list[str]:
-    """The crate and all that it stands on, each after those that it stands on itself."""
+    """The crate and all that it depends on, each after its own dependencies."""
     order: list[str] = []
     entered: set[str] = set()
 
@@ -138,7 +138,7 @@ def graph_of(crates: dict[str, list[str]], weights: dict[str, float], top: str |
 
 
 def schedule(graph: Graph, processors: int) -> list[Piece]:
-    """What each processor proves when, with as many of them as are given."""
+    """What each of this many processors proves, and when."""
     tails = graph.tails()
     waits = {name: len(graph.libraries[name]) for name in graph.order}
     above: dict[str, list[str]] = {name: [] for name in graph.order}

@@ -1,5 +1,5 @@
 // The external functions of hippo for a program that is built for the processor: numbers are read from standard input
-// and printed to standard output, and pm_assert checks nothing. A program that is linked with libpmem leaves out the
+// and printed to standard output, and pm_assert checks nothing. A program that links with libpmem leaves out the
 // last three.
 #include "hippo.h"
 #include <stdint.h>

@@ -6,15 +6,15 @@
 #include <immintrin.h>
 #include <stddef.h>
 
-// Put before the definition of a global, it lies in the persistent region. `used` keeps clang from taking away a global
-// whose stores no one reads, or from cutting it to pieces.
+// A global with PERSISTENT before its definition lies in the persistent region. `used` keeps clang from removing a global
+// that is never read, and from splitting it.
 #define PERSISTENT __attribute__((section(".pm"), used))
 
 long long read_i64(void);                                  // the next number of the run's input
 void print_i64(long long number);                          // the number in decimal, and a line feed
-void pm_assert(const void *from, unsigned long long size); // these bytes have to be durable here
+void pm_assert(const void *from, unsigned long long size); // these bytes must be durable here
 
-// Those of libpmem.
+// The functions of libpmem.
 void pmem_flush(const void *from, size_t size);
 void pmem_persist(const void *from, size_t size);
 void pmem_drain(void);

@@ -1,5 +1,5 @@
 # hippo_repaired(NAME SOURCES a.c b.c [PARTS a.c] [INPUTS file] [BASELINE file] [FLAGS words] [CLANG words])
-# makes an object library NAME out of the text that hippo repaired. The build fails on reports that the baseline does not
+# makes an object library NAME from the text that hippo repaired. The build fails on reports that the baseline does not
 # list. SOURCES are the C files of the program with its driver, PARTS those whose functions go into the library.
 find_program(HIPPO_C hippo-c REQUIRED)
 

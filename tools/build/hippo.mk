@@ -1,7 +1,7 @@
-# A program that is built from the text which hippo repaired. Set before the include:
+# Builds a program from the text that hippo repaired. Set before the include:
 #   HIPPO_SOURCES   the C files of the program, driver included
-#   HIPPO_PARTS     those of them whose functions go into the object file (all of them where it is empty)
-#   HIPPO_INPUTS    a file with an input in each line (one input without numbers where it is empty)
+#   HIPPO_PARTS     those of them whose functions go into the object file (if empty, all of them)
+#   HIPPO_INPUTS    a file with an input in each line (if empty, one input without numbers)
 #   HIPPO_BASELINE  a file with known groups of reports, of `hippo-c check --write-baseline`
 #   HIPPO_FLAGS     more words for hippo-c, such as -O2 or --clflush; HIPPO_CLANG arguments for clang
 # `repaired.o` is the object file; `make hippo-check` fails on reports that the baseline does not list.

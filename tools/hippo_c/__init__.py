@@ -1,3 +1,3 @@
-"""hippo-c: what hippo answers of C programs, brought into the forms of a terminal, an editor, a browser and a build.
+"""hippo-c shows the answers of hippo about C programs in a terminal, an editor, a browser and a build.
 
-Nothing here is proved. What hippo-c says of durability is what `hippo` answered; the rest is places and names."""
+Nothing here is proved. What hippo-c says about durability is an answer of `hippo`; hippo-c adds places and names."""

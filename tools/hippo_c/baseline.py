@@ -1,4 +1,4 @@
-"""Known groups: a file with a line for each, by which a build fails on new ones alone."""
+"""Known groups: a file with a line for each, so that a build fails only on new ones."""
 from . import running
 from .answer import fingerprint
 from .session import Checked, Session
@@ -19,7 +19,7 @@ def read(path: str) -> set[str]:
 
 
 def write(path: str, session: Session, results: list[Checked]) -> None:
-    """Writes the groups of all results, each once, with words that say to a reader what it is."""
+    """Writes the groups of all results, each once, with words that describe it to a reader."""
     lines = {}
     for checked in results:
         for group in checked.groups:
@@ -32,7 +32,7 @@ def write(path: str, session: Session, results: list[Checked]) -> None:
 
 
 def leave_out(session: Session, results: list[Checked], known: set[str]) -> int:
-    """Takes the known groups out of the results; how many these are."""
+    """Removes the known groups from the results; gives their number."""
     count = 0
     for checked in results if known else []:
         new = [group for group in checked.groups if fingerprint(session, checked, group) not in known]

@@ -39,7 +39,7 @@ def printer_of(options) -> Printer:
 
 
 def check(options, request: Request, progress: Progress) -> int:
-    """Checks the program on each input: 0 where nothing was found, 1 where something was, 2 where a run did not end."""
+    """Checks the program on each input: 0 if nothing was found, 1 if something was, 2 if a run did not end."""
     printer = printer_of(options)
     if options.expand_macros and (options.diff or options.verify_fix):
         raise Trouble('--diff and --verify-fix edit the files as they are: leave out --expand-macros')
@@ -74,7 +74,7 @@ def check(options, request: Request, progress: Progress) -> int:
 
 
 def write_forms(options, session: Session, results: list[Checked], found: Suggestions | None, printer: Printer) -> None:
-    """Writes the answer in the forms that were asked for."""
+    """Writes the answer in the requested forms."""
     if not (options.json or options.sarif or options.html):
         return
     answer = answer_of(session, results, found)
@@ -103,14 +103,14 @@ def print_all(printer: Printer, session: Session, results: list[Checked], most: 
 
 
 def code_of(results: list[Checked]) -> int:
-    """1 where a run has a report, else 2 where a run did not return from main, else 0."""
+    """1 if a run has a report, otherwise 2 if a run did not return from main, otherwise 0."""
     if any(checked.groups for checked in results):
         return 1
     return 0 if all(checked.ended.startswith('stop') for checked in results) else 2
 
 
 def run(options, request: Request, progress: Progress) -> int:
-    """Runs the program: what it prints, and where it traps."""
+    """Runs the program, and shows what it prints and where it traps."""
     printer = Printer(sys.stderr, printer_of(options).colour and sys.stderr.isatty(), not options.no_source)
     with Session(request, progress) as session:
         session.lower()

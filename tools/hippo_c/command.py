@@ -14,9 +14,9 @@ LOWER_FLAGS = ('mem2reg', 'ignore-output', 'print-numbers', 'time-from-input', '
 LOWER_VALUES = {'heap': 'SIZE', 'pool': 'NAME=SIZE[,FILE]', 'array-bound': 'SIZE'}
 DESCRIPTION = '''Durability of C programs, by lines of C.
 
-What hippo-c says of durability is what hippo answered, in another form; hippo-c itself is not proved.'''
+What hippo-c says about durability is an answer of hippo, in another form; hippo-c itself is not proved.'''
 EPILOG = '''Arguments for clang stand after "--". Exit codes: 0 nothing found, 1 durability bugs found,
-2 it could not be carried out. docs/HIPPO_C.md has the whole manual.'''
+2 the command failed. docs/HIPPO_C.md has the whole manual.'''
 
 
 def parser() -> argparse.ArgumentParser:
@@ -28,10 +28,10 @@ def parser() -> argparse.ArgumentParser:
     add_program(check)
     checking.add_options(check)
     check.set_defaults(carry_out=checking.check)
-    run = commands.add_parser('run', help='run the program: what it prints, and where it traps')
+    run = commands.add_parser('run', help='run the program, and show what it prints and where it traps')
     add_program(run)
     run.set_defaults(carry_out=checking.run)
-    repair = commands.add_parser('repair', help='write a repaired program, and what was put in')
+    repair = commands.add_parser('repair', help='write a repaired program, and show what was added')
     add_program(repair)
     repairing.add_options(repair)
     repair.set_defaults(carry_out=repairing.repair)
@@ -54,7 +54,7 @@ def add_program(command: argparse.ArgumentParser) -> None:
         command.add_argument(f'--{name}', action='store_true', help='as for lower')
     command.add_argument('--input', nargs='*', type=int, metavar='N', default=None, help='the numbers that the program reads')
     command.add_argument('--input-file', metavar='FILE', help='a file with these numbers')
-    command.add_argument('--limit', type=int, metavar='N', help='the most turns that a run takes (1,000,000,000)')
+    command.add_argument('--limit', type=int, metavar='N', help='the greatest number of turns of a run (1,000,000,000)')
     command.add_argument('--expand-macros', action='store_true', help='expand the macros of each .c on its line, so that '
                          'columns distinguish the statements of a macro')
     command.add_argument('--color', choices=['auto', 'always', 'never'], default='auto')
@@ -101,7 +101,7 @@ def check_numbers(rows: list[list[int]]) -> list[list[int]]:
 
 
 def lower_words(options) -> list[str]:
-    """The options that are handed on to tools/lower."""
+    """The options that are passed on to tools/lower."""
     words = [f'-O{options.level}'] if options.level else []
     given = vars(options)
     words += [f'--{name}' for name in LOWER_FLAGS if given[name.replace('-', '_')]]

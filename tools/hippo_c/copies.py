@@ -1,4 +1,4 @@
-"""Flushing copies of C functions: what a clone of hippo's is in C."""
+"""Flushing copies of C functions: the clones of hippo in C."""
 import re
 
 from .edits import Additions, Edit, applied
@@ -23,7 +23,7 @@ class Copies:
         return f'{original.name_in_c}_flushed'
 
     def call(self, tree: Tree, offset: int, clone: str, additions: Additions | None = None) -> bool:
-        """Lets the call at a place call the copy; whether the name stands there."""
+        """Makes the call at a place call the copy; whether the name is there."""
         name = self.name_of(clone)[:-len('_flushed')].encode()
         if tree.source[offset:offset + len(name)] != name:
             return False
@@ -78,7 +78,7 @@ class Copies:
         return True
 
     def follow_calls(self, clone: str, tree: Tree, inside: Additions) -> bool:
-        """Lets the calls in a copy call copies; a call of a function that is not the user's gets a flush of its range."""
+        """Makes the calls in a copy call copies; a call of a function that is not the user's gets a flush of its range."""
         program, original = self.fixer.session.program, self.repair.clones[clone]
         cloned = {name: one for one, name in self.repair.clones.items()}
         for site, instruction in program.sites():
@@ -110,7 +110,7 @@ class Copies:
         return any(self.stores(callee, seen | {name}) for callee in callees)
 
     def declare(self, clone: str) -> bool:
-        """Declares a copy before its first use in the file, where that comes before it; a use elsewhere is not served."""
+        """Declares a copy before its first use, if that comes before it in the file; a use in another file is not possible."""
         tree = self.trees[clone]
         if any(use.file != tree.file for use, _ in self.uses[clone]):
             return False

@@ -32,7 +32,7 @@ class Row:
 
 
 def print_crashes(printer: Printer, session: Session, path: str, found, smallest: list, again: list[str]) -> None:
-    """The table of failing points by C line; the first has its smallest image and the command that shows it again."""
+    """The table of failing points by C line; the first has its smallest image and the command that repeats it."""
     paths = paths_of_entries(session.places, session.request.inputs[0], path) if found.failing else {}
     rows = rows_of(session, found, smallest, paths)
     session.progress.wipe()

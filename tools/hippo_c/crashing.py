@@ -37,18 +37,18 @@ class Exploration:
 def add_options(command) -> None:
     """The options that crash has besides those of every command."""
     command.add_argument('--entries', metavar='A-B', help='the entries of the trace after which the power is cut')
-    command.add_argument('--sample', type=int, default=2, metavar='N', help='images by chance for each entry (2)')
+    command.add_argument('--sample', type=int, default=2, metavar='N', help='random images for each entry (2)')
     command.add_argument('--seed', type=int, default=1, metavar='N', help='the seed of these images (1)')
     command.add_argument('--time', type=float, metavar='SECONDS', help='stop after this time')
-    command.add_argument('--jobs', type=int, default=os.cpu_count(), metavar='N', help='runs at once (the processors)')
+    command.add_argument('--jobs', type=int, default=os.cpu_count(), metavar='N', help='runs at a time (as many as processors)')
     command.add_argument('--pick', dest='picks', nargs='*', metavar='LINE:UPTO',
                          help='try this image alone, after the one entry of --entries')
     command.add_argument('--status', action='store_true',
-                         help='an image fails, too, where main returns another number than in the recorded run')
+                         help='an image also fails if main returns another number than in the recorded run')
 
 
 def crash(options, request: Request, progress: Progress) -> int:
-    """Tries the images: 0 where no run fails, 1 where one does."""
+    """Tries the images: 0 if no run fails, 1 if one does."""
     if len(request.inputs) > 1:
         raise Trouble('crash takes one input')
     printer = printer_of(options)
@@ -138,7 +138,7 @@ def smallest_of(found: Exploration) -> list[Outcome]:
 
 
 def shrink(session: Session, path: str, outcome: Outcome, fails) -> Outcome:
-    """The same failure with fewer stores in the image, as far as leaving out goes."""
+    """The same failure with as few stores in the image as leaving them out allows."""
     if len(outcome.point.picks) < 2:
         return outcome
     for point in images.smaller(outcome.point):

@@ -1,4 +1,4 @@
-"""What was found, as text in the form of clang's diagnostics."""
+"""What was found, as text in the format of clang's diagnostics."""
 import sys
 
 from .places import Place
@@ -110,7 +110,7 @@ def print_trap(printer: Printer, session: Session, checked: Checked) -> None:
 
 
 def warnings_of(session: Session, checked: Checked) -> list[str]:
-    """What makes an answer without reports worth less than it seems."""
+    """Why an answer without reports may be worth less than it seems."""
     found = []
     persistent = session.program.persistent
     if not persistent:

@@ -20,7 +20,7 @@ class Addition:
 
 @dataclass
 class Edit:
-    """Bytes of a file from one place to another, and what stands there in their stead."""
+    """Bytes of a file from one place to another, and the text that replaces them."""
     begin: int
     end: int
     text: str
@@ -35,14 +35,14 @@ class Additions:
         self.sources: dict[str, bytes] = {}
 
     def add(self, tree: Tree, statement: Statement, flushes: list[str], fences: list[str]) -> None:
-        """Puts statements after one; what is put there already is not put twice."""
+        """Adds statements after one; those that are already there are not added twice."""
         self.sources[tree.file] = tree.source
         addition = self.by_statement.setdefault((tree.file, statement.end), Addition(tree, statement))
         for texts, more in ((addition.flushes, flushes), (addition.fences, fences)):
             texts += [text for text in more if text not in texts]
 
     def replace(self, tree: Tree, edit: Edit) -> None:
-        """Puts a text in the place of another, once."""
+        """Replaces a text by another, once."""
         self.sources[tree.file] = tree.source
         edits = self.replacements.setdefault(tree.file, [])
         if edit not in edits:

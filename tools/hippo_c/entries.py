@@ -1,4 +1,4 @@
-"""Which instruction made each entry of a trace: a marked copy of the program prints what makes entries as it goes."""
+"""Which instruction made each entry of a trace: a marked copy of the program prints what makes entries as it runs."""
 import re
 from collections.abc import Iterator
 

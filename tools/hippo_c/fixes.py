@@ -1,6 +1,6 @@
 """Suggestions: what to add to the C, for each group, as the plan of hippo's repair has it.
 
-A suggestion is not proved. What is proved is the repaired text; `--verify-fix` checks the edited C as any other."""
+A suggestion is not proved. The repaired text is proved; `--verify-fix` checks the edited C like any other."""
 from dataclasses import dataclass
 
 from lowering.externs import LIBPMEM, LINE_FLUSHES
@@ -105,7 +105,7 @@ class Fixer:
         return Suggestion(place, f"add '{shown}' after this statement", [text, *fences], additions)
 
     def flush_text(self, tree, statement, offset: int, one_line: bool) -> str | None:
-        """The flush of what a statement stores at a place, where its expression can be said again."""
+        """The flush of what a statement stores at a place, if its expression can be repeated."""
         if tree is None or statement is None:
             return None
         if one_line and not self.uses_libpmem:

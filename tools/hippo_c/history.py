@@ -23,7 +23,7 @@ class History:
     left_out: int = 0
 
     def take(self, event: tuple) -> None:
-        """Takes in `(entry, kind, offset, size)`; the oldest event goes where there are too many."""
+        """Takes in `(entry, kind, offset, size)`; drops the oldest event if there are too many."""
         changed = applied(self.now, event)
         if event[1] == 'fence' and changed == self.now and STORED not in changed:
             return

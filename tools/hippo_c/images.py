@@ -1,6 +1,6 @@
 """What a crash may leave after each entry of a trace, by cache lines, as hippo's `crash` numbers them.
 
-This is the enumeration of what to try alone: hippo makes the image, and refuses picks that no crash leaves."""
+This only enumerates what to try: hippo makes the image, and refuses picks that no crash leaves."""
 import random
 from collections.abc import Iterator
 from dataclasses import dataclass, field
@@ -73,7 +73,7 @@ class CacheLines:
         return tuple(sorted({**self.durable, **picks}.items()))
 
     def points(self, entry: int, chance: random.Random, count: int) -> Iterator[Point]:
-        """The images to try after an entry: no line picked, each line alone, all lines, and some by chance."""
+        """The images to try after an entry: no line picked, each line alone, all lines, and some random ones."""
         pending = sorted(self.pending)
         whole = {number: len(self.lines[number].stores) for number in pending}
         choices = [{}, *({number: whole[number]} for number in pending), whole]

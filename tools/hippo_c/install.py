@@ -22,7 +22,7 @@ def add_options(command) -> None:
 
 
 def install(options, parser) -> int:
-    """Copies everything; a file that is there already is replaced."""
+    """Copies everything; it replaces existing files."""
     program = options.program or running.hippo_program()
     if not is_program(program):
         raise Trouble(f'{program} is not a built program', 'build it by ./hippo --build, or name it by --program')

@@ -1,4 +1,4 @@
-"""Copies of a program that print numbers where they come by: which checks, blocks and calls ran, and in which order.
+"""Copies of a program that print numbers as they run: which checks, blocks and calls ran, and in which order.
 
 A copy has the program's memory, blocks and depth of calls, so it does what the program does. It prints no numbers of
 the program's own, and it takes more turns."""

@@ -9,7 +9,7 @@ from .sources import bytes_of, overlay
 from .syntax import Node, Tree
 
 FEW, LARGE = 6, 200_000
-# In place of <immintrin.h>, whose tree has 160 MB: what a program for persistent memory takes from it.
+# Replaces <immintrin.h>, whose tree has 160 MB: it has what a program for persistent memory needs from it.
 INTRINSICS = b'''#ifndef __IMMINTRIN_H
 #define __IMMINTRIN_H
 void _mm_clwb(const void *);

@@ -1,4 +1,4 @@
-"""The part of a repaired program that some C files have: what goes into the build of a library without its driver."""
+"""The part of a repaired program that comes from some C files, for the build of a library without its driver."""
 import re
 import subprocess
 from dataclasses import dataclass
@@ -33,7 +33,7 @@ def visible_names(session: Session, file: str) -> set[str]:
 
 
 def part_for(session: Session, repair: Repair, files: list[str]) -> Part:
-    """The functions of these files and all that they need and no other file defines."""
+    """The functions of these files, and all that they need that no other file defines."""
     given = [file for file in session.request.files if file.endswith('.c')]
     if strange := [file for file in files if file not in given]:
         raise Trouble(f'{strange[0]}: not one of the files of the program', 'name it as it is named before --for')

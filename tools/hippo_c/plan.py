@@ -1,4 +1,4 @@
-"""What a repair put in: the repaired program beside the program, instruction by instruction."""
+"""What a repair added: compares the repaired program with the program, instruction by instruction."""
 import re
 from collections.abc import Callable
 from dataclasses import dataclass
@@ -67,7 +67,7 @@ class Repair:
 def inserted(new: list[Instruction], old: list[Instruction], is_clone: Callable[[str], bool]) -> set[int]:
     """The numbers of the instructions of `new` that are not in `old`.
 
-    What a repair puts in stands directly after its site, so the two are compared from their ends."""
+    A repair adds instructions directly after their site, so the two are compared from their ends."""
     left, found = len(old) - 1, set()
     for index in range(len(new) - 1, -1, -1):
         one = new[index]

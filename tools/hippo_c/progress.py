@@ -1,4 +1,4 @@
-"""What goes on, in one line of a terminal; nothing is said where standard error is no terminal."""
+"""Shows progress in one line of a terminal; nothing if standard error is not a terminal."""
 import contextlib
 import os
 import subprocess

@@ -1,4 +1,4 @@
-"""The command repair: a repaired program as text or as an object file, with what was put in by C lines."""
+"""The command repair: a repaired program as text or as an object file, and what was added, by C lines."""
 import subprocess
 
 from . import running
@@ -31,7 +31,7 @@ def add_options(command) -> None:
 
 
 def repair(options, request: Request, progress: Progress) -> int:
-    """Writes the repaired program: 0, or 1 where a report is left, which hippo's proof excludes."""
+    """Writes the repaired program: 0, or 1 if a report is left, which hippo's proof excludes."""
     check_words(options, request)
     printer = printer_of(options)
     with Session(request, progress) as session:
@@ -97,7 +97,7 @@ def assemble(text: str, path: str) -> None:
 
 
 def print_repair(printer: Printer, session: Session, found: Repair) -> None:
-    """What was put in, by C lines: in functions themselves, and the calls that go to clones."""
+    """What was added, by C lines: in functions themselves, and the calls that go to clones."""
     rows: dict[str, tuple] = {}
     for item in found.insertions:
         if not item.clone and item.site not in found.hoists:

@@ -1,4 +1,4 @@
-"""Runs hippo and tools/lower: their output into files that appear whole, their refusals as troubles."""
+"""Runs hippo and tools/lower: their output goes to files that appear only when complete, and their refusals become troubles."""
 import contextlib
 import os
 import re
@@ -40,7 +40,7 @@ def hint_for(message: str) -> str:
 
 @contextlib.contextmanager
 def whole_file(path: str) -> Iterator:
-    """A binary file to write to; it gets its name when all is written, and there is none after a failure."""
+    """A binary file to write to; it gets its name when it is complete, and there is no file after a failure."""
     half = f'{path}.{os.getpid()}.part'
     try:
         with open(half, 'wb') as file:
@@ -90,7 +90,7 @@ def finish(process: subprocess.Popen) -> Ended:
 
 
 def stop(process: subprocess.Popen) -> None:
-    """Ends a command that is not needed any more."""
+    """Ends a command that is no longer needed."""
     with contextlib.suppress(OSError):
         process.kill()
     process.wait()

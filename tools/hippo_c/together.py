@@ -8,7 +8,7 @@ WHAT = {'flush': 'a flush after this store', 'fence': 'a fence after this', 'hoi
 
 
 def print_together(printer: Printer, session: Session, results: list[Checked]) -> None:
-    """For each place of the common repair how many inputs ask for it."""
+    """For each place of the common repair, how many inputs need it."""
     if not any(checked.groups for checked in results):
         return
     _, ended = repaired_program(session, results)

@@ -1,4 +1,4 @@
-"""What keeps a command from being carried out."""
+"""Why a command cannot be carried out."""
 
 
 class Trouble(Exception):

@@ -1,7 +1,7 @@
-"""What `./hippo` does where the proved program is not at hand, or where a word is meant for the launcher itself.
+"""What `./hippo` does if the script cannot trust the proved program, or if a word is meant for the launcher itself.
 
-The program is answered by the first of these that there is: the proved program, where its stamp names the sources as they are; the
-unproved build of the same sources; an unproved build that is made first. Exit code 69 says that the launcher could not answer.
+The first of these that exists answers: the proved program, if its stamp names the current sources; the unproved build of the same
+sources; an unproved build that the launcher makes first. Exit code 69 says that the launcher could not answer.
 """
 
 from __future__ import annotations
@@ -66,7 +66,7 @@ def why_not(proved: Kept, digest: str) -> str:
 
 
 def answer(top: Path, words: list[str]) -> int:
-    """Runs the program on the words."""
+    """Runs the program with the words."""
     sources = Sources(top)
     proved, tried = Kept(top / PROVED), Kept(top / UNPROVED)
     digest = sources.digest()

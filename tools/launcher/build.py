@@ -1,4 +1,4 @@
-"""`./hippo --build`: proves the crates that the program stands on, and builds the program."""
+"""`./hippo --build`: proves the crates that the program depends on, and builds the program."""
 
 from __future__ import annotations
 
@@ -33,7 +33,7 @@ def say(text: str) -> None:
 
 
 def processors() -> int:
-    """How many crates are proved side by side: one for each processor, as far as the memory goes."""
+    """How many crates are proved side by side: one for each processor, if there is enough memory."""
     try:
         free = re.search(r"^MemAvailable:\s*(\d+) kB", Path("/proc/meminfo").read_text(encoding="utf-8"), re.M)
     except OSError:
@@ -88,7 +88,7 @@ class Build:
         return self.log.read_text(encoding="utf-8", errors="replace")
 
     def run(self, words: list[str], mode: str) -> None:
-        """Runs a command of the toolchain in the program's folder, and says how far it is until it ends."""
+        """Runs a command of the toolchain in the program's folder, and reports progress until it ends."""
         with self.log.open(mode) as log:
             ran = subprocess.Popen(words, cwd=self.sources.program_folder, stdin=subprocess.DEVNULL, stdout=log, stderr=log,
                                    start_new_session=True)
@@ -109,14 +109,14 @@ class Build:
             self.stop(words[1], ran.returncode)
 
     def stop(self, command: str, status: int) -> None:
-        """Says why a command failed, where its own lines do not say which crate it is."""
+        """Says why a command failed, if its own lines do not say which crate it is."""
         if shutil.disk_usage(self.sources.top).free < FULL:
             raise Failed(f"not built: the disk of {self.sources.top} is full")
         if command != "all":
             raise Failed(f"not built: rt {command} ended with {status}; {self.log} has the whole log")
 
     def report(self, is_end: bool = False) -> None:
-        """Says how far it is: on a terminal in one line that goes on, and else in a line for each change."""
+        """Reports progress: on a terminal in one line that it rewrites, otherwise in a line for each change."""
         now = time.monotonic() - self.start
         text, before = self.text(), len(self.ended)
         waits = re.search(r"^rt: waiting for another rt to finish in (.*)$", text, re.M)
@@ -141,7 +141,7 @@ def interrupted(number: int, _frame: object) -> None:
 
 
 def build(rt: str, sources: Sources, kept: Kept, toolchain: str, jobs: int, weighs: bool) -> int:
-    """Proves and builds the program where it is not built from these sources, and answers the exit code."""
+    """Proves and builds the program if it is not built from these sources, and answers the exit code."""
     signal.signal(signal.SIGINT, interrupted)
     with alone(sources.top / "out" / "build.lock"):
         digest = sources.digest()

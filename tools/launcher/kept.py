@@ -14,7 +14,7 @@ from typing import Callable, Iterable
 # Where the proved program is, below the top.
 PROVED = "out/hippo"
 FIELDS = ("sources", "program", "commit", "toolchain", "time")
-# Above the step of the clock by which a file system dates a change.
+# More than the step of the clock with which a file system dates a change.
 CLOCK_STEP = 0.02
 
 
@@ -53,7 +53,7 @@ class Kept:
             return False
 
     def keep(self, made: Path, sources: str, commit: str, toolchain: str) -> None:
-        """Puts a made program in this place. Whenever it is interrupted, a stamp stands only beside the program that it names."""
+        """Puts a made program in this place. Even after an interrupt, a stamp is only beside the program that it names."""
         self.program.parent.mkdir(parents=True, exist_ok=True)
         with tempfile.TemporaryDirectory(dir=self.program.parent, prefix=".new-") as room:
             program, stamp = Path(room, "program"), Path(room, "stamp")
@@ -71,7 +71,7 @@ class Kept:
 
 
 class Mark:
-    """By which the launcher's shell script knows, without reading them, that the sources are what the proved program was made from.
+    """Tells the launcher's shell script, without reading the sources, that they are those of the proved program.
 
     The script trusts the mark until the state of a path that `watched` lists has changed since the mark was made. The mark is listed too,
     since its own state changes where it is unpacked or copied to another place. Without a mark each call reads the sources."""
@@ -81,7 +81,7 @@ class Mark:
         self.watched = program.with_name(program.name + ".watched")
 
     def make(self, paths: Iterable[Path], is_unchanged: Callable[[], bool]) -> None:
-        """Makes the mark where the sources are unchanged once it is made, so that no change escapes it."""
+        """Makes the mark, and keeps it if the sources are unchanged after it was made, so that no change escapes it."""
         with contextlib.suppress(OSError):
             self.remove()
             new = self.watched.with_name(self.watched.name + ".new")

@@ -1,4 +1,4 @@
-"""How far a build is: what is proved, how long the rest takes, and what each crate costs."""
+"""Progress of a build: what is proved, how long the rest takes, and what each crate costs."""
 
 from __future__ import annotations
 
@@ -11,12 +11,12 @@ import crate_schedule
 from sources import Failed, Sources
 
 WEIGHTS = "tools/crate_weights.txt"
-# Seconds for a crate where nothing is known of any.
+# Seconds for a crate if no crate has a known time.
 USUAL = 60.0
 
 
 def weights_of(sources: Sources) -> dict[str, float]:
-    """The seconds of each crate below the program; what has no weight is given the middle one."""
+    """The seconds of each crate below the program; a crate without a weight gets the median."""
     try:
         known = crate_schedule.read_weights((sources.top / WEIGHTS).read_text(encoding="utf-8"))
     except (OSError, crate_schedule.Refused) as fault:
@@ -67,7 +67,7 @@ class Plan:
 
 
 class Meter:
-    """The seconds of processor that each crate's proof takes, as its processes are seen while they run."""
+    """The seconds of processor time that the proof of each crate takes, read from its processes while they run."""
 
     def __init__(self, ancestor: int) -> None:
         self.ancestor = ancestor
@@ -113,7 +113,7 @@ def crate_of(number: int) -> str | None:
 
 
 def write_weights(sources: Sources, measured: dict[str, float]) -> None:
-    """Writes the file of weights anew: what was measured, and what was known of a crate that was not proved in this run."""
+    """Updates the file of weights with what was measured; a crate that was not proved in this run keeps its weight."""
     file = sources.top / WEIGHTS
     weights = {**weights_of(sources), **measured}
     comments = [line for line in file.read_text(encoding="utf-8").splitlines() if line.startswith("#")]

@@ -1,4 +1,4 @@
-"""The sources of the program: the crates that it stands on, and a digest of their contents."""
+"""The sources of the program: the crates that it depends on, and a digest of their contents."""
 
 from __future__ import annotations
 
@@ -42,7 +42,7 @@ def files_below(folder: Path) -> list[Path]:
 
 
 class Sources:
-    """The folder of the repository, and the crates that its program stands on."""
+    """The folder of the repository, and the crates that its program depends on."""
 
     def __init__(self, top: Path) -> None:
         self.top = top
@@ -63,7 +63,7 @@ class Sources:
         return self.program_folder / "out" / PROGRAM
 
     def digest(self, parts: tuple[str, ...] = WHOLE) -> str:
-        """A digest of the contents of these parts of the crates, and of the files that say what stands on what."""
+        """A digest of the contents of these parts of the crates, and of the files that list dependencies."""
         found = [self.top / name for name in LISTS]
         for crate in sorted(self.crates):
             for part in parts:
@@ -80,7 +80,7 @@ class Sources:
         return total.hexdigest()
 
     def watched(self) -> list[Path]:
-        """Each file and folder whose state changes where a source changes, is new or is gone, as paths below the top."""
+        """Each file and folder whose state changes when a source changes, is new or is gone, as paths below the top."""
         folders = [self.top / "crates" / crate / part for crate in self.crates for part in WHOLE]
         found = [self.top / name for name in (*LISTS, *(f"crates/{crate}" for crate in self.crates))]
         for folder in folders:
@@ -89,7 +89,7 @@ class Sources:
         return [path.relative_to(self.top) for path in found]
 
     def commit(self) -> str:
-        """The commit of the clone, with a word where files differ from it; `unknown` outside a clone."""
+        """The commit of the clone, with a word if files differ from it; `unknown` outside a clone."""
         def git(*words: str) -> str:
             ran = subprocess.run(["git", "-C", str(self.top), *words], capture_output=True, text=True, check=True)
             return ran.stdout.strip()

@@ -1,7 +1,7 @@
 """The unproved build: the program as `rt try` compiles it, with checks at run time and without any proof.
 
 `rt try` compiles the program and runs it once, in a folder of its own and within limits. Here it runs the program on an endless loop,
-and while it does so the executable is copied. The copy then answers every call, in the caller's own folder and without limits.
+and the launcher copies the executable meanwhile. The copy then answers every call, in the caller's own folder and without limits.
 """
 
 from __future__ import annotations
@@ -21,7 +21,7 @@ from kept import Kept
 from sources import CODE, Failed, Sources
 
 ENDLESS = "define i32 @main() {\nentry:\n  br label %turn\nturn:\n  br label %turn\n}\n"
-# How often the processes of `rt try` are looked at, in seconds.
+# How often the launcher looks at the processes of `rt try`, in seconds.
 STEP = 0.05
 # A report of a check at run time goes to a file, so that it does not mix with what the program writes.
 CHECKS = "log_path={}/report"
@@ -45,7 +45,7 @@ def locked(file: Path, waits: Callable[[], None]) -> Iterator[bool]:
 
 
 def running(words: list[str], folder: Path) -> Path | None:
-    """The program below the folder that a process runs on just these words, be it by a loader."""
+    """The program below the folder that a process runs with exactly these words, also through a loader."""
     for process in Path("/proc").iterdir():
         with contextlib.suppress(OSError):
             given = [os.fsdecode(word) for word in (process / "cmdline").read_bytes().split(b"\0")[:-1]]
@@ -88,7 +88,7 @@ def not_made(log: Path, folder: Path) -> str:
 
 
 def copy_of(tried: subprocess.Popen, words: list[str], to: Path) -> Path | None:
-    """A copy of the program that `rt try` runs, or nothing where it ends without running one."""
+    """A copy of the program that `rt try` runs, or nothing if it ends without running one."""
     while tried.poll() is None:
         found = running(words, to.parent)
         if found is not None:
@@ -113,7 +113,7 @@ def end(tried: subprocess.Popen) -> None:
 def answer(program: Path, words: list[str], build: str) -> int:
     """Runs the unproved program on the words, and answers its exit code."""
     with tempfile.TemporaryDirectory(prefix="hippo-") as room:
-        # Ctrl-C reaches the program too, and its end says what comes of it.
+        # Ctrl-C reaches the program too, and the way it ends decides the exit code.
         signal.signal(signal.SIGINT, lambda *_: None)
         environment = {**os.environ, "ASAN_OPTIONS": CHECKS.format(room)}
         # The words may name files that the caller opened, as /dev/fd/63 of a shell's <(..).

@@ -1,1 +1,1 @@
-"""Brings the text form that clang 19 writes into the subset of it that hippo reads."""
+"""Translates the text form that clang 19 writes into the subset that hippo reads."""

@@ -65,7 +65,7 @@ def tied_values(function: Function, tokens: Tokens, target: str, constraints: li
 
 
 def plain(written: str) -> str:
-    """The text of an instruction in small letters, with single blanks."""
+    """The text of an instruction in lower case, with single blanks."""
     text = re.sub(r'\\0[AaDd9]', ';', written).replace('\t', ' ').lower()
     text = re.sub(r'\s*;[\s;]*', '; ', text)
     return re.sub(r'\s+', ' ', text).strip('; ').replace('( $', '($')
@@ -86,7 +86,7 @@ def operands(function: Function, tokens: Tokens) -> list[str]:
 
 
 def place_of(constraints: list[str], number: int) -> int:
-    """Which argument an operand is: each constraint but a direct result and a clobber has one."""
+    """The index of an operand's argument: each constraint has one, except direct results and clobbers."""
     before = [constraint for constraint in constraints[:number] if not constraint.startswith('~')]
     return sum(not constraint.startswith('=') or '*' in constraint for constraint in before)
 

@@ -162,7 +162,7 @@ first:
 
 
 def any_helper(name: str, kind: str, bytes_: str) -> str:
-    """Copies or sets any number of bytes at any alignment, by words of the target."""
+    """Copies or sets any number of bytes at any alignment, in words of the target."""
     if kind == 'memset':
         widen = f'  %wide = zext i8 %byte to i64\n  %word = mul i64 %wide, {int("01" * 8, 16)}\n'
         order = ANY_FORWARD.substitute(bytes_=bytes_, head='i8 %byte', tail='i8 %byte', before='entry', word='')

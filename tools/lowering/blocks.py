@@ -13,7 +13,7 @@ if TYPE_CHECKING:
 
 
 def lower_block(function: Function, kind: str, call: Call) -> None:
-    """A copy or a setting of memory, by words where the known alignments allow it."""
+    """A copy or a setting of memory, in words if the known alignments allow it."""
     target, operand, size = call.arguments[:3]
     count = size.values[0]
     alignments = [target.alignment] if kind == 'memset' else [target.alignment, operand.alignment]
@@ -42,7 +42,7 @@ def helper_for(module: Module, kind: str, known: int, constant: int | None) -> s
 
 
 def one_step(module: Module, kind: str, step: int) -> str:
-    """The function that goes by a number of bytes."""
+    """The function that copies or sets this many bytes at a time."""
     if kind == 'memset':
         return module.helper(f'memset.{step}', lambda name: set_helper(name, step))
     return module.helper(f'{kind}.{step}', lambda name: copy_helper(name, step, kind == 'memmove'))

@@ -35,7 +35,7 @@ class Argument(NamedTuple):
 
 
 class Call(NamedTuple):
-    """A call as clang has it; `fixed` is the number of arguments that are no variable ones."""
+    """A call as clang has it; `fixed` is the number of arguments that are not variable."""
 
     result: Type
     arguments: list[Argument]
@@ -137,7 +137,7 @@ def put_call(function: Function, callee: str, signature: Signature, call: Call) 
 
 
 def result_slot(function: Function, types: tuple[str, ...], target: str) -> str:
-    """The block through which a result of several pieces comes; an empty text where it comes in a register."""
+    """The block that takes a result of several pieces; an empty text if the result is in a register."""
     if len(types) < 2:
         return ''
     slot = function.fresh(f'{target[1:]}.result' if target else 'result')
@@ -146,7 +146,7 @@ def result_slot(function: Function, types: tuple[str, ...], target: str) -> str:
 
 
 def call_text(function: Function, callee: str, signature: Signature, call: Call, slot: str, variable: str) -> str:
-    """The text of a call; refused where the function has another type than the call."""
+    """The text of a call; refused if the type of the function is not that of the call."""
     if not fits(signature, call):
         raise Refused(f'a call of {callee} by another type than it has', 'mismatch')
     given = [f'{piece} {value}' for argument in call.arguments[:call.fixed]
@@ -243,7 +243,7 @@ def finish_call(function: Function, call: Call, slot: str, edges: list[tuple[str
     if slot and call.target:
         function.take_pieces(slot, types, function.results(call.target, call.result))
     elif call.target and not edges:
-        # No path comes here; what follows names the value all the same.
+        # No path comes here, but the code that follows names the value.
         function.become(call.target, call.result, [zero_of(type_) for type_ in types])
     elif edges:
         function.put_phi(f'{function.results(call.target, call.result)[0]} = phi {types[0]}', edges)

@@ -29,7 +29,7 @@ class Code:
         self.labels: dict[tuple[str, str], int] = {}
 
     def take(self, lines: list[str]) -> None:
-        """Gives numbers to the functions that these lines name other than by calling them."""
+        """Numbers the functions that these lines name outside of calls."""
         known = self.module.function_names
         found = set()
         for line in lines:

@@ -49,7 +49,7 @@ def lower(options: Options) -> int:
         sys.stdout.write(text)
         sys.stdout.flush()
     except OSError as error:
-        # What is left in the buffer would be written, and fail, once more at the end.
+        # Otherwise Python would write the rest of the buffer at the end, and fail again.
         os.dup2(os.open(os.devnull, os.O_WRONLY), sys.stdout.fileno())
         raise Failure(f'write fault: {error.strerror}', WRITE_FAULT) from None
     return DONE

@@ -158,7 +158,7 @@ def require_integers(*types: Type) -> None:
 
 
 def refuse_expression(instruction: str) -> str:
-    """In place of an instruction, where there can be none."""
+    """Refuses a constant expression where no instruction can be."""
     raise Refused(f'the constant expression {instruction.split()[0]!r} stands where the subset has none', 'constant')
 
 

@@ -18,7 +18,7 @@ COMPILE_FLAGS = '''-S -emit-llvm -target x86_64-pc-linux-gnu -mclwb -mclflushopt
 
 NOT_PUBLIC = re.compile(r'\b(?:internal|private|hidden|available_externally|linkonce\w*|weak\w*)\b')
 
-# LLVM's passes that are run where a text has what they lower.
+# LLVM's passes that run if a text has what they lower.
 ON_DEMAND = {
     'lower-constant-intrinsics': r'@llvm\.(?:objectsize|is\.constant)\.',
     'expand-large-div-rem': r' [us](?:div|rem) (?:exact )?i(?:6[5-9]|[7-9][0-9]|1[0-2][0-9]) ',
@@ -65,7 +65,7 @@ def program_of(options: Options) -> Program:
 
 
 def command_for(file: str, level: str, options: Options) -> list[str]:
-    """The command that compiles a C file. The level stands first: after the flags it would switch vectors on again."""
+    """The command that compiles a C file. The level comes first: after the flags it would enable vectors again."""
     return ['clang-19', level, *COMPILE_FLAGS, f'-I{TOOLS}', *options.clang, file]
 
 

@@ -91,7 +91,7 @@ class Function(Writer):
         self.signature = Signature(result, tuple(types), tuple(by_value), variadic)
 
     def parameter(self, type_: Type, written: str, copied: Type | None) -> None:
-        """A parameter; of an aggregate that is passed by value the function makes its copy."""
+        """A parameter; the function copies an aggregate that is passed by value."""
         if self.written_name == '@main':
             self.module.start.give_parameter(self, written)
             return
@@ -141,7 +141,7 @@ class Function(Writer):
         INSTRUCTIONS[word](self, tokens, target[1] if target else '', word)
 
     def check_same(self, line: str) -> None:
-        """Refuses what a value is made of where the program has no option for it."""
+        """Refuses a value that needs an option which is not given."""
         if '@llvm.threadlocal.address' in line and not self.module.options.single_thread:
             raise Refused('thread-local data', 'thread')
 
@@ -161,7 +161,7 @@ class Function(Writer):
         return [self.piece(written, number) for number in range(count)]
 
     def become(self, target: str, type_: Type, values: list[str]) -> None:
-        """Makes the pieces of a register values that were computed for it, by copies where they were named before."""
+        """Gives the pieces of a register the values that were computed for it; pieces that were named before are copies."""
         if target not in self.values:
             self.values[target] = values
             return
@@ -203,7 +203,7 @@ class Function(Writer):
 
 
 def unknown(word: str) -> Refused:
-    """Why there is no instruction of a name."""
+    """Why an instruction is refused, by its word."""
     kind = 'vector' if word.endswith(('element', 'vector')) else 'float' if word[0] == 'f' else 'form'
     return Refused(f'the instruction {word!r} is not in the subset', kind)
 

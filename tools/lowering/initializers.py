@@ -1,6 +1,6 @@
-"""Initial values of globals, with the types of the subset that they stand under.
+"""Initial values of globals, with their types in the subset.
 
-A number that is an address (`ptrtoint`) stands as a pointer: it has the same bytes. So the type of a global may have
+A number that is an address (`ptrtoint`) becomes a pointer, which has the same bytes. So the type of a global may have
 `ptr` where C has a number, and the same bytes at the same offsets."""
 from __future__ import annotations
 

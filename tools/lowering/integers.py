@@ -1,6 +1,6 @@
 """Integers: operations, comparisons and conversions, and choices between values.
 
-An integer whose width the subset does not have is held in the next one that it has, with zeros above its bits."""
+An integer whose width the subset does not have is held in the next greater width of the subset, with zeros in the upper bits."""
 from __future__ import annotations
 
 import re

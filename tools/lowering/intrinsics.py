@@ -16,7 +16,7 @@ if TYPE_CHECKING:
     from .calls import Call
     from .function import Function
 
-# Calls that say something to the optimiser and do nothing.
+# Calls that only inform the optimiser.
 WITHOUT_EFFECT = re.compile(
     r'llvm\.(lifetime|dbg|assume|experimental\.noalias|donothing|invariant|debugtrap|sideeffect|prefetch'
     r'|stackrestore|va_end|x86\.sse2\.pause|x86\.sse2\.lfence)\b')
@@ -70,7 +70,7 @@ def first_values(call: Call) -> list[str]:
 
 
 def compared_values(function: Function, sign: str, call: Call) -> list[str]:
-    """The arguments, with their signs where they are compared so."""
+    """The arguments, sign-extended if the comparison is signed."""
     values = first_values(call)
     if sign == 'u' or call.arguments[0].type in INTEGERS:
         return values

@@ -3,7 +3,7 @@
 `; ring.c:25:3` is file, line and column. Where clang inlined a call, the place inside the callee comes first, with the
 callee's name, and then the place of the call: `; pair.h:7:8 in set < ring.c:25:3`. A function's head has the place of
 the function and its name in C: `; ring.c:20:0 in put`. What tools/lower added has `; added`. Line 0 says that clang
-merged instructions of several lines. A file name stands in quotes, spelled as in JSON, where it has other characters
+merged instructions of several lines. A file name is in quotes, spelled as in JSON, if it has other characters
 than the plain ones.
 """
 import json

@@ -13,7 +13,7 @@ if TYPE_CHECKING:
     from .function import Function
 
 LARGEST_ALIGNMENT = 4096
-# Where clang's alignment of a block is above this one, C asks for it, and the subset has no type that has it.
+# If clang's alignment of a block is above this one, the C program requests it, and no type of the subset has it.
 CLANGS_ALIGNMENT = 16
 
 
@@ -50,7 +50,7 @@ def aligned_block(function: Function, target: str, count: int, least: int) -> No
 
 
 def variable_array(function: Function, target: str, type_: Type, count: str, count_type: str) -> None:
-    """An array whose length is known when the program runs: a block of the bound, which a longer one does not pass.
+    """An array of variable length: a block of the bound; a longer array traps.
 
     An array in C lives as long as its scope, so one block in each call of the function serves all of them at a place.
     What `alloca` gives lives as long as the call, and has a block each time."""
@@ -164,7 +164,7 @@ def note_volatile(function: Function, tokens: Tokens) -> None:
 
 
 def access_alignment(function: Function, tokens: Tokens, address: str) -> int:
-    """The number in `, align N`, or 0; 1 where C's alignments are not trusted, but for variables by their names."""
+    """The number in `, align N`, or 0; 1 if C's alignments are not trusted, except for named variables."""
     least = 0
     if tokens.take_if(','):
         tokens.take('align')

@@ -108,7 +108,7 @@ class Module:
             self.function_names.add(self.take_name('@' + re.search(GLOBAL_NAME + r'\(', head)[1]))
 
     def take_name(self, written: str) -> str:
-        """Gives a name; what comes from the runtime has `hippo.` before its own."""
+        """Gives a name; names from the runtime get the prefix `hippo.`."""
         name = written[1:].strip('"')
         if name in EXTERNS and name in self.public_names:
             self.refusals.add(Refused(
@@ -121,7 +121,7 @@ class Module:
         return written
 
     def note_assumed(self, program: Program) -> None:
-        """Says which calls, and which accesses, an option was needed for."""
+        """Notes which calls and which accesses needed an option."""
         by_option: dict[str, list[str]] = {}
         for name, option in sorted(program.assumed_names.items()):
             if f'@{name}' in self.names:
@@ -130,7 +130,7 @@ class Module:
         if program.has_atomics:
             self.notes.add('atomic accesses: as --single-thread says')
 
-    # What functions ask.
+    # Queries of functions.
 
     def resolved(self, written: str) -> str:
         """The name that an alias stands for."""
@@ -211,7 +211,7 @@ class Module:
     # The text.
 
     def lower_global(self, line: str) -> str:
-        """A global in the subset, or nothing where it is refused."""
+        """A global in the subset, or nothing if it is refused."""
         try:
             return global_text(self, self.places.without_metadata(line)[0])
         except Refused as refusal:

@@ -72,22 +72,22 @@ def build_parser(description: str) -> Parser:
     parser.add_argument('--mem2reg', action='store_true', help='keep locals in registers, after -O0')
     parser.add_argument('--heap', type=size, metavar='SIZE', help='the size of the heap of malloc')
     parser.add_argument('--pool', dest='pools', type=pool, action='append', default=[], metavar='NAME=SIZE[,FILE]',
-                        help='a file of persistent memory for pmem_map_file and others; FILE has its first bytes')
+                        help='a file of persistent memory for pmem_map_file and others; FILE has its initial bytes')
     parser.add_argument('--ignore-output', dest='output', action='store_const', const='ignore', default='',
-                        help='text output has no effect but its result')
+                        help='text output only returns its result, and writes nothing')
     parser.add_argument('--print-numbers', dest='output', action='store_const', const='print', default='',
-                        help='text output prints its integers by print_i64')
-    parser.add_argument('--time-from-input', action='store_true', help='calls for the time read a number of the input')
+                        help='text output prints only its integers, with print_i64')
+    parser.add_argument('--time-from-input', action='store_true', help='calls for the time read the next number of the input')
     parser.add_argument('--file-calls', action='store_true',
                         help='open, mmap, msync and similar calls work on the pools')
-    parser.add_argument('--single-thread', action='store_true', help='take atomic accesses as those of one thread')
-    parser.add_argument('--unaligned', action='store_true', help='take accesses at any address, as x86-64 does')
+    parser.add_argument('--single-thread', action='store_true', help='assume that one thread makes all atomic accesses')
+    parser.add_argument('--unaligned', action='store_true', help='allow accesses at any address, as x86-64 does')
     parser.add_argument('--non-temporal', action='store_true',
-                        help='take a non-temporal store as a store with a flush after it')
-    parser.add_argument('--array-bound', type=size, metavar='SIZE', help='the bytes of an array of variable length')
+                        help='lower a non-temporal store to a store and a flush after it')
+    parser.add_argument('--array-bound', type=size, metavar='SIZE', help='the size of an array of variable length')
     parser.add_argument('--public', metavar='FILE', default='',
                         help="write the names that other object files may use, for opt's -internalize-public-api-file")
-    parser.add_argument('--lines', action='store_true', help='put the place in C after each instruction, as a comment')
+    parser.add_argument('--lines', action='store_true', help='add a comment after each instruction, with its place in C')
     parser.add_argument('files', nargs='+', metavar='FILE')
     return parser
 

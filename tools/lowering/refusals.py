@@ -25,7 +25,7 @@ ADVICE = {
 
 
 class Refused(Exception):
-    """What stands there cannot be brought into the subset; the message says why, the kind what to do."""
+    """A part of the program cannot be lowered; the message says why, and the kind what to do."""
 
     def __init__(self, reason: str, kind: str = 'form'):
         super().__init__(reason)

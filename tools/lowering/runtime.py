@@ -13,7 +13,7 @@ RUNTIME = os.path.join(os.path.dirname(os.path.dirname(os.path.abspath(__file__)
 RUNTIME_FLAGS = ['-O1', '-D_GNU_SOURCE', '-ffreestanding', '-fno-builtin', '-w']
 # What the runtime calls and tools/lower writes out: a check of each persistent global.
 CHECK_REGION = 'hippo_check_region'
-# Files that only an option links: each rests on an assumption that the user has to make.
+# Files that only an option links: each depends on an assumption that the user must make.
 BEHIND_OPTION = {
     'threads.c': ('--single-thread', lambda options: options.single_thread),
     'output.c': ('--ignore-output or --print-numbers', lambda options: options.output),
@@ -111,7 +111,7 @@ def read(file: str) -> str:
 
 
 def reason_for(name: str, gated: dict[str, str]) -> Refused | None:
-    """Why a function that the program does not define is refused, where more is known than that it is missing."""
+    """Why a function that the program does not define is refused, if more is known than that it is missing."""
     if name in gated:
         return Refused(f'the function @{name}: give {gated[name]}', 'option')
     if 'longjmp' in name:

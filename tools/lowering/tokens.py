@@ -18,7 +18,7 @@ TOKEN = re.compile(r'''
   | (?P<odd>.)
 ''', re.X | re.S)
 
-# Attributes of parameters, results and calls that say something of a program and change nothing of what it does.
+# Attributes of parameters, results and calls that describe a program and do not change what it does.
 PLAIN_ATTRIBUTES = set('''noundef nonnull nocapture readonly writeonly readnone returned noalias signext zeroext immarg
     nofree noext dead_on_unwind writable nounwind willreturn allocptr allocalign inreg swiftself nest'''.split())
 ATTRIBUTES_WITH_ARGUMENTS = set('''dereferenceable dereferenceable_or_null range sret align initializes captures memory
@@ -45,7 +45,7 @@ class Tokens:
         return self.tokens[self.place][0] if self.place < len(self.tokens) else 'end'
 
     def take(self, expected: str | None = None) -> str:
-        """The token that stands next, which is the expected one where one is given."""
+        """Takes the next token, which must be the expected one if one is given."""
         text = self.peek()
         if expected is not None and text != expected:
             raise Refused(f'{expected!r} was expected where {text!r} stands')
@@ -55,7 +55,7 @@ class Tokens:
         return text
 
     def take_if(self, *words: str) -> str:
-        """One of the words where it stands next, and else nothing."""
+        """Takes one of the words if it is next, otherwise nothing."""
         return self.take() if self.peek() in words else ''
 
     def take_all(self, words: set[str]) -> list[str]:

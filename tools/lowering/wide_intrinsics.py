@@ -40,7 +40,7 @@ def lower_wide(function: Function, name: str, call: Call) -> None:
 
 
 def counted(function: Function, kind: str, width: int, value: list[str]) -> list[str]:
-    """How many bits are set, or stand before the first or the last one that is."""
+    """The number of bits that are set, or of leading or trailing zeros."""
     low, high = value
     if kind == 'cttz' and width < 128:
         high = function.emit(f'or i64 {high}, {1 << width - 64}')

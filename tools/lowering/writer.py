@@ -110,12 +110,12 @@ class Writer:
         self.origin = label
 
     def go_on(self, label: str) -> None:
-        """Begins a block that goes on with what stood in the current block of clang's text."""
+        """Begins a block that continues the current block of clang's text."""
         self.begin(label)
         self.ends[self.origin] = label
 
     def guard(self, condition: str, name: str) -> None:
-        """Goes on where a condition holds, and traps where it does not."""
+        """Continues if a condition holds, and traps otherwise."""
         inside, trap = self.fresh(f'{self.origin}.{name}'), self.fresh(f'{self.origin}.{name}.trap')
         self.put(f'br i1 {condition}, label {inside}, label {trap}')
         self.begin(trap[1:])

@@ -1,4 +1,4 @@
-// Memory at an alignment: a greater block is taken, and what lies before the aligned place becomes free.
+// Aligned memory: takes a larger block, and frees the part before the aligned place.
 #include "heap.h"
 #include <errno.h>
 #include <stddef.h>

@@ -1,4 +1,4 @@
-// Absolute values, quotients with rests, and the lowest bit of a number.
+// Absolute values, quotients with remainders, and the lowest bit of a number.
 #include <inttypes.h>
 #include <stdlib.h>
 #include <strings.h>

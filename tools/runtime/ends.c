@@ -1,4 +1,4 @@
-// Ends of the run. A call that ends the program inside a function is a trap, since main does not return. Before the trap, `exit` and
+// Ends of the run. A call that ends the program inside a function traps, since main does not return. Before the trap, `exit` and
 // `_exit` check the region, as a return of main does. A call of `exit` in main itself becomes a return of main, after
 // hippo_run_atexit.
 #include <stddef.h>

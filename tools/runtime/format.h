@@ -1,4 +1,4 @@
-// Formatted text, as printf and kin make it; see format.c.
+// Formatted text, as printf and similar functions make it; see format.c.
 #ifndef HIPPO_FORMAT_H
 #define HIPPO_FORMAT_H
 

@@ -1,6 +1,6 @@
-// malloc and kin over a volatile arena of HIPPO_HEAP_SIZE bytes. When no free block is large enough and the arena is used up,
-// the answer is a null pointer with ENOMEM, as C says. Blocks follow one another; a freed one joins its free neighbours, and
-// free blocks stand in lists by size. A second free of one block is a trap.
+// malloc and similar functions over a volatile arena of HIPPO_HEAP_SIZE bytes. When no free block is large enough and the arena
+// is full, they return a null pointer with ENOMEM, as C allows. Blocks are adjacent; a freed block joins its free neighbours, and
+// free blocks are in lists by size. A second free of one block traps.
 #include "heap.h"
 #include <errno.h>
 #include <stddef.h>
@@ -40,7 +40,7 @@ static int is_last(struct block *block) { return (unsigned char *)following(bloc
 
 static int is_free(const struct block *block) { return !(block->size & USED); }
 
-// The size of the block that holds this number of bytes, or 0 where the arena never has room for it.
+// The size of the block that holds this number of bytes, or 0 if the arena is too small for it.
 static size_t block_size(size_t size) {
   if (size > sizeof arena) return 0;
   size_t whole = (size + HEADER + UNIT - 1) / UNIT * UNIT;
@@ -97,7 +97,7 @@ static void release(struct block *block) {
   }
 }
 
-// Takes a block into use with this size; what is left of it becomes free where it can be a block.
+// Takes a block into use with this size; the rest becomes free if it is large enough for a block.
 static void use(struct block *block, size_t size) {
   size_t left = size_of(block) - size;
   if (left < SMALLEST) {
@@ -162,7 +162,7 @@ void *calloc(size_t count, size_t size) {
   return memory ? memset(memory, 0, bytes) : NULL;
 }
 
-// Makes a block in use larger where it stands, by the free block after it or by the end of the arena.
+// Enlarges a block in place, into the free block after it or the end of the arena.
 static void grow(struct block *block, size_t size) {
   if (is_last(block)) {
     size_t more = size - size_of(block);

@@ -1,4 +1,4 @@
-// setjmp alone: it answers 0, and there is no longjmp that would come back to it.
+// setjmp only: it returns 0, and there is no longjmp that would return to it.
 
 int setjmp(void *buffer) {
   (void)buffer;

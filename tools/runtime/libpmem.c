@@ -1,4 +1,4 @@
-// libpmem's calls over the pools: pmem_flush, pmem_persist and pmem_drain are hippo's own, the others are made of them. A
+// libpmem's calls over the pools: pmem_flush, pmem_persist and pmem_drain are hippo's own, and the others call them. A
 // mapped pool is persistent memory, whose stores need a flush and a fence.
 #include "hippo.h"
 #include "pool.h"

@@ -1,4 +1,4 @@
-// The messages of <err.h>: no text is written, and those that end the program end the run (ends.c).
+// The messages of <err.h>: they write no text, and those that end the program end the run (ends.c).
 #include <stdarg.h>
 #include <stdlib.h>
 

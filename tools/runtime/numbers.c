@@ -1,4 +1,4 @@
-// Numbers that are read from texts. <stdlib.h> is not read here, since it may give these functions other names.
+// Numbers that are read from texts. This file does not include <stdlib.h>, which may rename these functions.
 #include <errno.h>
 #include <limits.h>
 #include <stddef.h>

@@ -1,5 +1,5 @@
-// Streams. A run writes no text: each call of output has no effect but its result, and standard input is at its end. With HIPPO_PRINT_NUMBERS the calls that write a
-// format to standard output print each of its numbers by print_i64.
+// Streams. A run writes no text: each call of output only returns its result, and standard input is at its end. With
+// HIPPO_PRINT_NUMBERS the calls that write a format to standard output print each of its numbers with print_i64.
 #include "format.h"
 #include <errno.h>
 #include <stdio.h>
@@ -101,7 +101,7 @@ int setvbuf(FILE *restrict stream, char *restrict buffer, int mode, size_t size)
 
 void setbuf(FILE *restrict stream, char *restrict buffer) { setvbuf(stream, buffer, 0, 0); }
 
-// No file but a pool is there, and standard input is at its end: numbers come by read_i64.
+// Only pools exist as files, and standard input is at its end: read_i64 gives the numbers.
 FILE *fopen(const char *restrict path, const char *restrict mode) {
   (void)path, (void)mode;
   errno = ENOENT;

@@ -5,7 +5,7 @@
 #include <stdint.h>
 #include <string.h>
 
-// <stdio.h> is not read here, since it may give these functions other names.
+// This file does not include <stdio.h>, which may rename these functions.
 enum { END_OF_TEXT = -1 };
 
 int isspace(int character);

@@ -1,4 +1,4 @@
-// Sorting and binary search. The sort is a merge sort, so elements that compare equal keep their order; where the heap has
+// Sorting and binary search. The sort is a merge sort, so elements that compare equal keep their order; if the heap has
 // no room for a second array it is an insertion sort, which keeps it too.
 #include <stdlib.h>
 #include <string.h>

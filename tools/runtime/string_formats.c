@@ -1,4 +1,4 @@
-// printf's kin that write into memory.
+// The functions of printf's family that write into memory.
 #include "format.h"
 #include <stdint.h>
 #include <stdio.h>

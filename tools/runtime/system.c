@@ -1,4 +1,4 @@
-// What a program asks its system: a run has one process, pages of 4,096 bytes and no environment.
+// Queries about the system: a run has one process, pages of 4,096 bytes and no environment.
 #include <errno.h>
 #include <sched.h>
 #include <stddef.h>

@@ -1,5 +1,5 @@
-// POSIX threads as of one thread, for `--single-thread`. A lock is always free, and taking it stores nothing; no thread is
-// created; what waits for another thread is a trap.
+// POSIX threads with one thread, for `--single-thread`. A lock is always free, and taking it stores nothing; no thread is
+// created; a call that waits for another thread traps.
 #include <errno.h>
 #include <pthread.h>
 #include <semaphore.h>
@@ -103,7 +103,7 @@ int pthread_setspecific(pthread_key_t key, const void *value) {
   return 0;
 }
 
-// Semaphores: a count in the first bytes. Waiting at zero would never end.
+// Semaphores: a count in the first bytes. A wait at zero would never end.
 static unsigned *count_of(sem_t *semaphore) { return (unsigned *)semaphore; }
 
 int sem_init(sem_t *semaphore, int shared UNUSED, unsigned count) {

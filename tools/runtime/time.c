@@ -1,5 +1,5 @@
-// Calls that ask for the time. A run has no clock: each answers 0 seconds, or, with HIPPO_TIME_FROM_INPUT, the next number of
-// the input as seconds. Waiting ends at once.
+// Calls for the time. A run has no clock: each returns 0 seconds, or, with HIPPO_TIME_FROM_INPUT, the next number of
+// the input as seconds. A wait ends at once.
 #include "hippo.h"
 #include <sys/time.h>
 #include <sys/times.h>

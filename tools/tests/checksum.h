@@ -1,4 +1,4 @@
-// Put before a program of csmith: its checksum is printed by print_i64, natively and in hippo, and nothing else is.
+// Goes before a program of csmith: print_i64 prints its checksum, natively and in hippo, and nothing else is printed.
 #include <hippo.h>
 #include <stdio.h>
 #define printf(...) ((void)0)

@@ -1,4 +1,4 @@
-// What clang makes intrinsics and constant expressions of; the lowered text has to print what this program prints.
+// Code that clang compiles to intrinsics and constant expressions; the lowered text must print what this program prints.
 #include <hippo.h>
 #include <stdbool.h>
 #include <stdint.h>

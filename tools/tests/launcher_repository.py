@@ -1,7 +1,7 @@
 """For the tests of the launcher: a small repository, and a toolchain that proves nothing.
 
 The program of `rt try` is a copy of bash here: `hippo WORD ...` runs the script WORD in the caller's folder. The proved program is a
-script that says so. What the toolchain is to do next stands in files beside it.
+script that says so. Files beside the toolchain say what it does next.
 """
 
 from __future__ import annotations

@@ -1,7 +1,7 @@
 #!/usr/bin/env python3
-"""Random C programs of csmith: `hippo run` of each lowered text has to print what the native build prints.
+"""Random C programs of csmith: `hippo run` of each lowered text must print what the native build prints.
 
-A program is the one that csmith makes of a seed with the options below: integers alone, and no packed structs, since csmith takes
+csmith makes a program from a seed with the options below: integers only, and no packed structs, since csmith takes
 pointers to their fields, through which an access is misaligned and has no defined meaning. A program whose native build does not
 end in time, or whose run is cut by hippo's limit of turns, is skipped and counted. The exit code is 1 where one differs or is
 refused; its seed and level are said.
@@ -50,7 +50,7 @@ def native_output(program: str, folder: str) -> str | None:
 
 
 def check(made: subprocess.CompletedProcess) -> None:
-    """A compiler has to do its work."""
+    """A compiler must succeed."""
     if made.returncode:
         raise RuntimeError(made.stderr)
 

@@ -99,7 +99,7 @@ class Refusals(unittest.TestCase):
         self.assertIn(advice, errors)
 
     def test_all_at_once(self):
-        """All places are named, those of one reason together, with one line for what to do."""
+        """All places are named, grouped by reason, with one line for what to do."""
         code, out, errors = lower(self.file('''#include <hippo.h>
 long long n, m;
 float f(float x) { return x + 1; }
@@ -130,7 +130,7 @@ int main(void) {
             self.assertIn(f'@close_{number} is not', errors)
 
     def test_notes(self):
-        """What is taken under an assumption is said, and a call by pointer that can only trap is named with its place."""
+        """Notes name what an assumption allowed, and a call by pointer that can only trap, with its place."""
         code, _, errors = lower('--single-thread', self.file('''#include <hippo.h>
 void (*volatile f)(long long);
 _Thread_local long long own;

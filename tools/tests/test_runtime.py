@@ -1,7 +1,7 @@
 """The runtime of lowered programs, against the system's C library.
 
 Each program of `runtime/` prints sums of what functions answer. Its native build, which calls the system's library, and
-`hippo run` of its lowered text, into which the runtime is linked, have to print the same, and so has the lowered text that is
+`hippo run` of its lowered text, into which the runtime is linked, must print the same, and so must the lowered text that is
 built for the processor. HIPPO names hippo, or crates/hippo/out/hippo is taken; without it what it would do is skipped.
 """
 import os
@@ -20,7 +20,7 @@ POOL = ['--pool', 'data.pool=16K']
 
 
 def run(words: list[str], folder: str) -> subprocess.CompletedProcess:
-    """What a command answers; its exit code has to be 0."""
+    """What a command answers; its exit code must be 0."""
     done = subprocess.run(words, cwd=folder, capture_output=True, encoding='latin-1')
     if done.returncode:
         raise AssertionError(f'{words[0]} ended with {done.returncode}: {done.stderr[:2000]}')
@@ -44,7 +44,7 @@ class Setting(unittest.TestCase):
         return text
 
     def hippo(self, text: str) -> str:
-        """What `hippo run` prints; the run has to end with `stop 0`."""
+        """What `hippo run` prints; the run must end with `stop 0`."""
         done = run([HIPPO, 'run', text], self.folder)
         self.assertEqual(done.stderr.strip().splitlines()[-1], 'stop 0')
         return done.stdout

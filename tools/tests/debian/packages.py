@@ -14,7 +14,7 @@ SUITES = ('bookworm', 'trixie')
 
 
 class Packages:
-    """Packages under one folder; what lies there already is not fetched again."""
+    """Packages under one folder; what is already there is not fetched again."""
 
     def __init__(self, folder: str):
         self.folder = os.path.abspath(folder)

@@ -2,8 +2,8 @@
 """Real C, unchanged, through tools/lower and hippo.
 
 Sources are fetched from Debian's packages into a folder; nothing of them is part of this repository. Each piece is compiled
-with a driver of this folder. At each level the native build's output has to be that of `hippo run`; the run is recorded and
-repaired, `rerun` has to have `after 0`, and the repaired text has to print the same in hippo and built for the processor.
+with a driver of this folder. At each level the native build must print what `hippo run` prints; the run is recorded and
+repaired, `rerun` must say `after 0`, and the repaired text must print the same in hippo and built for the processor.
 Prints a line for each piece and level, and what was skipped; the exit code is 1 where something differs.
 """
 import argparse

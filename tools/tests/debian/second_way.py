@@ -4,7 +4,7 @@
 Each piece of C from Debian's packages is built by clang for the processor, with store_tracer.c, and run: each change of a byte of
 persistent memory is noted with its instruction. For a reported store the trace of hippo says which change of a byte it is, the
 first, the second and so on; llvm-symbolizer gives the line of the instruction that made this change natively. The innermost frame
-in the piece's files has to be at the line that hippo-c gives. Prints a line for each piece; the exit code is 1 where a line differs.
+in the piece's files must be at the line that hippo-c gives. Prints a line for each piece; the exit code is 1 where a line differs.
 """
 import argparse
 import os

@@ -16,7 +16,7 @@ PRINT_I64 = '#include <stdio.h>\nvoid print_i64(long long n) { printf("%lld\\n",
 
 
 class Differs(Exception):
-    """A step failed, or its answer is another one than it has to be."""
+    """A step failed, or gave an unexpected answer."""
 
 
 @dataclass(frozen=True)
@@ -120,7 +120,7 @@ def build(text: str, setting: Setting, folder: str) -> str:
 
 
 def is_same(what: str, printed: str, code: int, expected: tuple[str, int]) -> None:
-    """A run has to print what the native build prints, and to end with its exit code."""
+    """A run must print what the native build prints, and end with its exit code."""
     if printed != expected[0]:
         raise Differs(f'{what} prints something else than the native build')
     if code != expected[1]:
@@ -128,7 +128,7 @@ def is_same(what: str, printed: str, code: int, expected: tuple[str, int]) -> No
 
 
 def hippo_run(what: str, text: str, setting: Setting, folder: str, expected: tuple[str, int]) -> None:
-    """`hippo run` of a text has to be as expected; it writes `stop N`, or how else the run ended."""
+    """`hippo run` of a text must be as expected; it writes `stop N`, or how else the run ended."""
     done = run([setting.hippo, 'run', text], folder, codes=tuple(range(128)))
     last = (done.stderr.strip().splitlines() or [''])[-1]
     if not last.startswith('stop '):

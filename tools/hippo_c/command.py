@@ -16,7 +16,7 @@ DESCRIPTION = '''Durability of C programs, by lines of C.
 
 What hippo-c says about durability is an answer of hippo, in another form; hippo-c itself is not proved.'''
 EPILOG = '''Arguments for clang stand after "--". Exit codes: 0 nothing found, 1 durability bugs found,
-2 the command failed. docs/HIPPO_C.md has the whole manual.'''
+2 the command failed, or a run trapped or was cut. docs/HIPPO_C.md has the whole manual.'''
 
 
 def parser() -> argparse.ArgumentParser:

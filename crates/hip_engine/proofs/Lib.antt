@@ -2,8 +2,10 @@ pub mod Told
 pub mod Runs
 pub mod Quietly
 pub mod Silently
+pub mod Reached
 pub mod Quickly
 pub mod Locally
+pub mod Within
 pub mod StoresTold
 pub mod MainPlace
 pub mod StartStands

@@ -5,5 +5,6 @@ pub mod Quiet
 pub mod Silent
 pub mod QuickSteps
 pub mod LocalSteps
+pub mod Reaches
 pub mod StoresAhead
 pub mod Laws

@@ -8,8 +8,10 @@ mod here;
 mod moves;
 mod printing;
 mod quick_calls;
+mod quick_effects;
 mod quick_steps;
 mod quick_stores;
+mod reach;
 mod runner;
 mod stepping;
 

@@ -15,7 +15,7 @@ byte-any (suc n) zero v i h k = absurd (omega (arith, k))
 byte-any (suc n) (suc m) v zero h k = refl
 byte-any (suc n) (suc m) v (suc i) h k = byte-any n m (v / 256) i (omega (arith, h)) (omega (arith, k))
 
--- behind the bytes that a value has there are zeros
+-- after the bytes of a value there are zeros
 pub byte-past : (n k v i : ℕ) → v < 256 ^ k → k ≤ i → slice_index (bytes_of n v) i ≡ 0
 byte-past zero k v i h le = refl
 byte-past (suc n) zero v zero h le = let z : v ≡ 0 = omega (arith, h) in ap (λ x. x % 256) z

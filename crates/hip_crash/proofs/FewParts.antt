@@ -21,7 +21,7 @@ use Rattle.hip_runs.specs.declared.event.Ending.{Ending}
 use Rattle.hip_runs.specs.declared.event.Ending.TheVariants.{Cut}
 use Rattle.hip_runs.specs.declared.input.Input.{Input}
 
--- each line has at most so many parts
+-- each line has this many parts at most
 pub record AreShort (most : ℕ) (ls : List (Line StorePart)) : Type 0 where
   pub are : (j : ℕ) (l : Line StorePart) → slice_get ls j ≡ Some l → length l.parts ≤ most
 

@@ -106,7 +106,7 @@ module _ (x : Inside) (h : IsLogging x) (image : List ℕ) (e : image ≡ x.inpu
           rest : (m : ℕ) → m ≡ length r - 64 * j → 64 ≤ m
           rest m q = omega (arith, q, size, whole-size, lt)
 
-      -- so many later stores give the line in the content
+      -- this many later stores give the line in the content
       pub number-seen : (count : ℕ) → count ≤ length (seen_at x.region image j).later → bytes_after (take count (seen_at x.region image j).later) (64 * j) (seen_at x.region image j).bytes ≡ wanted
           → IsNumberOf s.input (state_of s) r j (Some ((seen_at x.region image j).least + count))
       number-seen count le e = record {

@@ -1,5 +1,5 @@
 -- A log that notes a step stands for the next state.
-use Rattle.std.proofs.Common.{◌≡◌, ℕ, suc, ◌+◌, zero, ◌*◌, ◌/◌, ◌^◌, ◌<◌, ◌≤◌, ◌%◌, Bool, true, false, cond, List, length, Some, is_some, slice_get, sym, ap, ◌∙◌, subst, arith}
+use Rattle.std.proofs.Common.{◌≡◌, ℕ, suc, ◌+◌, zero, ◌/◌, ◌^◌, ◌<◌, ◌%◌, Bool, true, false, cond, List, length, Some, is_some, slice_get, sym, ap, ◌∙◌, subst, arith}
 use Rattle.hip_tree.specs.declared.program.Program.{Program}
 use Rattle.hip_lines.specs.Line.{Line, fresh_line, fresh_lines}
 use Rattle.hip_runs.specs.Ends.{longest}
@@ -18,7 +18,7 @@ use Rattle.hip_cache.specs.Laws.WithinLaws.{event_within}
 use Rattle.hip_cache.specs.Within.{IsWithin}
 use Rattle.hip_crash.specs.Noting.{noted}
 use Rattle.hip_crash.specs.Now.{fresh}
-use Rattle.hip_crash.specs.Region.{seen_at}
+use Rattle.hip_crash.specs.Region.{HasRoom, seen_at}
 use Rattle.hip_crash.specs.declared.waiting.Waiting.TheVariants as waits
 use Rattle.hip_crash.specs.Waiting.{WaitsWithin}
 use Rattle.hip_crash.specs.declared.log.CrashLog.TheInside.{Inside}
@@ -39,8 +39,13 @@ module _ (x : Inside) (h : IsLogging x) where
   pub image-small : length I.image < 2 ^ 40
   image-small = omega (arith, h.valid.image, h.sound.sizes.region)
 
-  pub logged-few : (image : List ℕ) → image ≡ I.image → (j : ℕ) → 64 * j + 64 ≤ length image → (seen_at x.region image j).least + length (seen_at x.region image j).later < 2 ^ 63
-  logged-few image e = subst (λ xs. (j : ℕ) → 64 * j + 64 ≤ length xs → (seen_at x.region xs j).least + length (seen_at x.region xs j).later < 2 ^ 63) (sym e) (kept-few P I x.taken (seen_at x.region I.image) h.valid h.kept)
+  -- there is room for what waits
+  pub has_room : (image : List ℕ) → image ≡ I.image → HasRoom x.region image
+  has_room image e = subst (HasRoom x.region) (sym e) (record {
+    whole = whole;
+    small = omega (arith, h.valid.image, h.sound.sizes.region);
+    few = kept-few P I x.taken (seen_at x.region I.image) h.valid h.kept;
+  })
 
   -- what waits may be taken up
   pub logged-same : (image : List ℕ) → image ≡ I.image → (r : RegionLog) → ((j : ℕ) → seen_at r image j ≡ seen_at x.region image j) → WaitsWithin r.waiting image → IsLogging (record x { region = r })

@@ -213,7 +213,7 @@ from-number from (x ∷ picks) h (suc k) p e =
     other : x.line ≡ from → x.line ≢ from + suc k
     other q r = absurd (omega (arith, q, r))
 
--- they do not fail behind picks of the lines before them
+-- they do not fail after picks of the lines before them
 from-fit : (s : State) (earlier rest : List Pick) → AreFrom (length earlier) rest → ((k : ℕ) (p : Pick) → slice_get rest k ≡ Some p → (p.line < length s.lines) × IsBetween (bounds_of s p.line) p.upto) → ((j : ℕ) → length earlier ≤ j → number_for earlier j ≡ None)
     → failure_behind s earlier rest ≡ None
 from-fit s earlier [] h b n = refl

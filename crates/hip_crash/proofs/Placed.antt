@@ -1,10 +1,11 @@
 -- Kept lines by their places.
-use Rattle.std.proofs.Common.{◌≡◌, ◌≢◌, ◌⊎◌, inl, inr, ℕ, zero, suc, ◌+◌, ◌-◌, ◌<◌, ◌≤◌, ◌==◌, true, false, cond, Result, Ok, Err, OnOk, OnErr, List, [], ◌∷◌, ◌++◌, length, slice_get, slice_set, get_or, Option, Some, None, IsSome, option_map, refl, sym, ap, ◌∙◌, subst, arith}
+use Rattle.std.proofs.Common.{◌≡◌, ◌≢◌, ◌⊎◌, inl, inr, ℕ, zero, suc, ◌+◌, ◌-◌, ◌<◌, ◌≤◌, ◌==◌, true, false, cond, Result, Ok, Err, OnOk, OnErr, List, [], ◌∷◌, ◌++◌, length, length-append, slice_get, slice_set, get_or, Option, Some, None, IsSome, option_map, refl, sym, ap, ◌∙◌, subst, arith}
 use Rattle.std.proofs.lemmas.Bool.Decides.{nat_tests}
-use Rattle.std.proofs.lemmas.List.{length-set}
+use Rattle.std.proofs.lemmas.List.{get_or-set_same, length-set}
 use Rattle.std.proofs.lemmas.Option.{slice_get-get_or}
 use Rattle.hip_directory.specs.declared.directory.Directory.{Directory}
 use Rattle.hip_directory.specs.Directories.{number_at}
+use Rattle.hip_lines.specs.Laws.LooseLaws.{get-append_end}
 use Rattle.hip_crash.specs.Kept.{Kept, kept_in}
 use Rattle.hip_crash.specs.KeptLines.{line_at, kept_at, ChangesLine, GivesLine}
 use Rattle.hip_crash.specs.Places.{at_place, line_in, ArePlaced, ChangesPlace}
@@ -20,9 +21,8 @@ some_same x y e = cc
 -- ---- lists
 
 pub get-set_same : {A : Type 0} (xs : List A) (i : ℕ) (x : A) → i < length xs → slice_get (slice_set xs i x) i ≡ Some x
-get-set_same [] i x h = absurd (omega arith)
-get-set_same (y ∷ xs) zero x h = refl
-get-set_same (y ∷ xs) (suc i) x h = get-set_same xs i x (omega arith)
+get-set_same xs i x h =
+    slice_get-get_or (slice_set xs i x) i x (omega (arith, h, length-set xs i x)) ∙ ap (λ y. Some y) (get_or-set_same xs i x x h)
 
 pub get-set_other : {A : Type 0} (xs : List A) (i k : ℕ) (x : A) → k ≢ i → slice_get (slice_set xs i x) k ≡ slice_get xs k
 get-set_other [] i k x ne = refl
@@ -41,14 +41,6 @@ get-push_other [] zero x ne = absurd (ne refl)
 get-push_other [] (suc k) x ne = refl
 get-push_other (y ∷ xs) zero x ne = refl
 get-push_other (y ∷ xs) (suc k) x ne = get-push_other xs k x (λ e. ne (ap suc e))
-
-get-push_end : {A : Type 0} (xs : List A) (x : A) → slice_get (xs ++ x ∷ []) (length xs) ≡ Some x
-get-push_end [] x = refl
-get-push_end (y ∷ xs) x = get-push_end xs x
-
-length-push : {A : Type 0} (xs : List A) (x : A) → length (xs ++ x ∷ []) ≡ length xs + 1
-length-push [] x = refl
-length-push (y ∷ xs) x = omega (arith, length-push xs x)
 
 -- the item that was read
 pub get-read : {A : Type 0} (xs : List A) (i : ℕ) (x : A) → i < length xs → x ≡ get_or xs i x → slice_get xs i ≡ Some x
@@ -165,7 +157,7 @@ module _ (d d' : Directory) (xs : List KeptLine) (line : ℕ) (x : KeptLine) (h 
       go (inr t) = inr (t.1, s j ∙ ap (λ b. cond b (length xs + 1) (number_at d j)) t.0)
 
   here_by : (j : ℕ) → number_at d' j ≡ length xs + 1 → line_in d' (xs ++ x ∷ []) j ≡ Some x
-  here_by j e = ap (at_place (xs ++ x ∷ [])) e ∙ at-counted (xs ++ x ∷ []) (length xs + 1) (omega arith) ∙ ap (slice_get (xs ++ x ∷ [])) (let z : length xs + 1 - 1 ≡ length xs = omega arith in z) ∙ get-push_end xs x
+  here_by j e = ap (at_place (xs ++ x ∷ [])) e ∙ at-counted (xs ++ x ∷ []) (length xs + 1) (omega arith) ∙ ap (slice_get (xs ++ x ∷ [])) (let z : length xs + 1 - 1 ≡ length xs = omega arith in z) ∙ get-append_end xs x
 
   other_by : (j : ℕ) → number_at d' j ≡ number_at d j → line_in d' (xs ++ x ∷ []) j ≡ line_in d xs j
   other_by j e = ap (at_place (xs ++ x ∷ [])) e ∙ at-same xs (xs ++ x ∷ []) (number_at d j) (λ k q. get-push_other xs k x (λ z. absurd (omega (arith, z, q, h.within j))))
@@ -188,8 +180,8 @@ module _ (d d' : Directory) (xs : List KeptLine) (line : ℕ) (x : KeptLine) (h 
   placed-added = record { within = λ j. within j (given j); numbered = λ j y e. numbered j y e (given j) }
     where
       within : (j : ℕ) → ((j ≡ line) × (number_at d' j ≡ length xs + 1)) ⊎ ((j ≢ line) × (number_at d' j ≡ number_at d j)) → number_at d' j ≤ length (xs ++ x ∷ [])
-      within j (inl t) = omega (arith, t.1, length-push xs x)
-      within j (inr t) = omega (arith, t.1, h.within j, length-push xs x)
+      within j (inl t) = omega (arith, t.1, length-append xs (x ∷ []))
+      within j (inr t) = omega (arith, t.1, h.within j, length-append xs (x ∷ []))
 
       numbered : (j : ℕ) (y : KeptLine) → line_in d' (xs ++ x ∷ []) j ≡ Some y → ((j ≡ line) × (number_at d' j ≡ length xs + 1)) ⊎ ((j ≢ line) × (number_at d' j ≡ number_at d j)) → y.line ≡ j
       numbered j y e (inl t) = ap (λ (z : KeptLine). z.line) (some_same y x (sym e ∙ here_by j t.1)) ∙ l ∙ sym t.0

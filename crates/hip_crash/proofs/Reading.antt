@@ -22,7 +22,7 @@ whole-after vs o count front start bs b1 b2 f lt le p q =
     ∙ sym (bytes_after-append vs (option_to_list o) start bs)
     ∙ ap (λ xs. bytes_after xs start bs) (sym (take_all count (vs ++ option_to_list o) all))
 
--- no fewer stores that stand together give the bytes that are wanted, and these are the bytes after so many
+-- These are the bytes after this many of the later stores, and no fewer of them give the wanted bytes.
 pub record IsSearched (v : LineView) (start place : ℕ) (wanted bytes : List ℕ) : Type 0 where
   pub at : bytes ≡ bytes_after (take place (later_in v)) start v.bytes
   pub none : (q : ℕ) → q < place → bytes_after (take q (later_in v)) start v.bytes ≢ wanted

@@ -1,6 +1,5 @@
 -- What a log keeps follows the steps of the run.
-use Rattle.std.proofs.Common.{◌≡◌, ℕ, zero, suc, ◌+◌, ◌-◌, ◌*◌, ◌/◌, ◌%◌, ◌^◌, ◌<◌, ◌≤◌, true, false, cond, ◌&&◌, nat_le, nat_lt, List, [], ◌∷◌, length, drop, Option, Some, None, is_some, slice_get, refl, sym, ap, ◌∙◌, subst, arith, length-drop}
-use Rattle.std.proofs.lemmas.Bool.Decides.{nat_tests}
+use Rattle.std.proofs.Common.{◌≡◌, ℕ, zero, suc, ◌+◌, ◌-◌, ◌*◌, ◌^◌, ◌<◌, ◌≤◌, true, false, cond, List, [], ◌∷◌, length, drop, Option, Some, None, is_some, slice_get, refl, sym, ap, ◌∙◌, subst, arith, length-drop}
 use Rattle.hip_tree.specs.declared.program.Program.{Program}
 use Rattle.hip_tree.specs.declared.site.Site.{Site}
 use Rattle.hip_invariants.specs.Laws.Bounds.{counts_fit}
@@ -11,13 +10,12 @@ use Rattle.hip_runs.specs.Ends.{longest}
 use Rattle.hip_runs.specs.Laws.HistoryLaws.{lines_ordered}
 use Rattle.hip_runs.specs.Laws.NextLaws.{next_lines, counts-next}
 use Rattle.hip_runs.specs.Laws.OutputLaws.{run_told}
-use Rattle.hip_runs.specs.Laws.StepLaws.{Cases, is_plain, step-cases, ordered-flushed_by, length-lines, standing-frame, counted-steps, has_frame}
+use Rattle.hip_runs.specs.Laws.StepLaws.{ordered-flushed_by, length-lines, counted-steps}
 use Rattle.hip_runs.specs.Outputs.{ending_by}
-use Rattle.hip_runs.specs.State.{Counts, Frame, Level, State, StorePart, levels_of, site_of}
+use Rattle.hip_runs.specs.State.{Counts, Level, StorePart, levels_of}
 use Rattle.hip_runs.specs.Step.{counted, event, has_ended, has_entry, run}
 use Rattle.hip_runs.specs.StoredParts.After.{flush_at, flushed_by, lines_after}
 use Rattle.hip_runs.specs.StoredParts.Persistence.{part_of_store}
-use Rattle.hip_runs.specs.StoredParts.Since.{top_site}
 use Rattle.hip_runs.specs.Validity.{IsValid}
 use Rattle.hip_runs.specs.declared.event.Ending.{Ending}
 use Rattle.hip_runs.specs.declared.event.Event.{Event}

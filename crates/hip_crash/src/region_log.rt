@@ -30,7 +30,7 @@ pub struct RegionLog {
 
 #[tactic(auto, unfolding(crate::specs::Region::seen_at))]
 impl RegionLog {
-    ghost use Rattle.hip_crash.specs.Region.{seen_at};
+    ghost use Rattle.hip_crash.specs.Region.{HasRoom, seen_at};
 
     /// Nothing was stored into the region.
     pub fn new(alloc: Global) -> Result<RegionLog, NoMemory>
@@ -49,11 +49,8 @@ impl RegionLog {
     /// Takes up what waits. What is seen of the lines stays, also out of memory.
     #[inline(always)]
     pub fn take_up(&mut self, image: &[u8]) -> Result<(), NoMemory>
-        requires whole { length image.now % LINE_SIZE ≡ 0 }
-        requires small { length image.now ≤ 2 ^ 32 }
+        requires room { HasRoom self.old image.now }
         requires within { WaitsWithin self.old.waiting image.now }
-        requires few { (j : ℕ) → LINE_SIZE * j + LINE_SIZE ≤ length image.now →
-            (seen_at self.old image.now j).least + length (seen_at self.old image.now j).later < 2 ^ 63 }
         ensures same { (j : ℕ) → seen_at self.new image.now j ≡ seen_at self.old image.now j }
         ensures within { WaitsWithin self.new.waiting image.now }
         ensures ok { OnOk result (self.new.waiting ≡ waits.Nothing) }
@@ -66,11 +63,8 @@ impl RegionLog {
 
     #[inline(never)]
     fn take_up_last(&mut self, image: &[u8]) -> Result<(), NoMemory>
-        requires whole { length image.now % LINE_SIZE ≡ 0 }
-        requires small { length image.now ≤ 2 ^ 32 }
+        requires room { HasRoom self.old image.now }
         requires within { WaitsWithin self.old.waiting image.now }
-        requires few { (j : ℕ) → LINE_SIZE * j + LINE_SIZE ≤ length image.now →
-            (seen_at self.old image.now j).least + length (seen_at self.old image.now j).later < 2 ^ 63 }
         ensures same { (j : ℕ) → seen_at self.new image.now j ≡ seen_at self.old image.now j }
         ensures within { WaitsWithin self.new.waiting image.now }
         ensures ok { OnOk result (self.new.waiting ≡ waits.Nothing) }
@@ -88,12 +82,9 @@ impl RegionLog {
         stored: StoredValue,
         from: u64,
     ) -> Result<(), NoMemory>
-        requires whole { length image.now % LINE_SIZE ≡ 0 }
-        requires small { length image.now ≤ 2 ^ 32 }
+        requires room { HasRoom self.old image.now }
         requires within { stored.offset + stored.size ≤ length image.now }
         requires waiting { self.old.waiting ≡ waits.Store stored from }
-        requires few { (j : ℕ) → LINE_SIZE * j + LINE_SIZE ≤ length image.now →
-            (seen_at self.old image.now j).least + length (seen_at self.old image.now j).later < 2 ^ 63 }
         ensures same { (j : ℕ) → seen_at self.new image.now j ≡ seen_at self.old image.now j }
         ensures within { WaitsWithin self.new.waiting image.now }
         ensures ok { OnOk result (self.new.waiting ≡ waits.Nothing) }

@@ -12,8 +12,9 @@ pub record HasPut (sites before list : List Site) : Type 0 where
 pub none_put : (sites before : List Site) → HasPut (take 0 sites) before before
 none_put sites before = record { has = λ s. refl }
 
-pub one_put : (sites : List Site) (i : ℕ) (d : Site) (before old new : List Site) → i < length sites →
-    ((s : Site) → has_site new s ≡ same_site s (get_or sites i d) || has_site old s) → HasPut (take i sites) before old → HasPut (take (i + 1) sites) before new
+pub one_put : (sites : List Site) (i : ℕ) (d : Site) (before old new : List Site) → i < length sites
+    → ((s : Site) → has_site new s ≡ same_site s (get_or sites i d) || has_site old s)
+    → HasPut (take i sites) before old → HasPut (take (i + 1) sites) before new
 one_put sites i d before old new h put so_far = record { has = by_site }
   where
     regroup : (a b c : Bool) → a || (b || c) ≡ (b || (a || false)) || c
@@ -30,6 +31,6 @@ one_put sites i d before old new h put so_far = record { has = by_site }
         ∙ ap (λ b. b || has_site before s) (sym (list_any-append (same_site s) (take i sites) (get_or sites i d ∷ [])))
         ∙ ap (λ xs. has_site xs s || has_site before s) (sym (take_more sites i d h))
 
-pub all_put : (sites : List Site) (i : ℕ) (before list : List Site) → length sites ≤ i → HasPut (take i sites) before list →
-    (s : Site) → has_site list s ≡ has_site sites s || has_site before s
+pub all_put : (sites : List Site) (i : ℕ) (before list : List Site) → length sites ≤ i
+    → HasPut (take i sites) before list → (s : Site) → has_site list s ≡ has_site sites s || has_site before s
 all_put sites i before list h so_far s = so_far.has s ∙ ap (λ xs. has_site xs s || has_site before s) (take_all i sites h)

@@ -50,17 +50,22 @@ pub flipped : (m n : ℕ) → nat_eq m n ≡ nat_eq n m
 flipped m n = grind (arith, nat_tests)
 
 same_site-sym : (a b : Site) → same_site a b ≡ same_site b a
-same_site-sym a b = ap₂ (λ (c d : Bool). c && d) (flipped a.function b.function) (ap₂ (λ (c d : Bool). c && d) (flipped a.block b.block) (flipped a.index b.index))
+same_site-sym a b =
+    ap₂ (λ (c d : Bool). c && d) (flipped a.function b.function)
+    (ap₂ (λ (c d : Bool). c && d) (flipped a.block b.block) (flipped a.index b.index))
 
 one_or : (b c : Bool) → cond b true c ≡ b || c
 one_or true c = refl
 one_or false c = refl
 
 -- what a set has after one site more
-pub inserted : (old new : List Site) (site s : Site) → list_any (is_at (site_cmp s)) new ≡ cond (is_at (site_cmp site) s) true (list_any (is_at (site_cmp s)) old) →
-    has_site new s ≡ same_site s site || has_site old s
+pub inserted : (old new : List Site) (site s : Site)
+    → list_any (is_at (site_cmp s)) new ≡ cond (is_at (site_cmp site) s) true (list_any (is_at (site_cmp s)) old)
+    → has_site new s ≡ same_site s site || has_site old s
 inserted old new site s e =
-    sym (keys_have new s) ∙ e ∙ ap₂ (λ b c. cond b true c) (cmp-is_eq site s ∙ same_site-sym site s) (keys_have old s) ∙ one_or (same_site s site) (has_site old s)
+    sym (keys_have new s) ∙ e
+    ∙ ap₂ (λ b c. cond b true c) (cmp-is_eq site s ∙ same_site-sym site s) (keys_have old s)
+    ∙ one_or (same_site s site) (has_site old s)
 
 is_less : (a b : Site) → site_cmp a b ≡ Less → site_before a b ≡ true
 is_less a b e = sym (cmp-is_lt a b) ∙ ap is_lt e
@@ -69,18 +74,20 @@ pub keys_ascend : (sites : List Site) → IsStrictlySortedBy site_cmp sites → 
 keys_ascend [] h = refl
 keys_ascend (a ∷ []) h = refl
 keys_ascend (a ∷ b ∷ rest) h =
-    true_both (is_less a b (sorted_head site_cmp a (b ∷ rest) h).0) (keys_ascend (b ∷ rest) (sorted_tail site_cmp a (b ∷ rest) h))
+    true_both (is_less a b (sorted_head site_cmp a (b ∷ rest) h).0)
+    (keys_ascend (b ∷ rest) (sorted_tail site_cmp a (b ∷ rest) h))
 
 -- ---- tables by sites
 
 -- a table has at a site what its list of entries has
-pub table_has : {X : Type 0} (entries : List (Site × X)) (s : Site) → lookup (is_at (site_cmp s)) entries ≡ lookup (same_site s) entries
+pub table_has : {X : Type 0} (entries : List (Site × X)) (s : Site)
+    → lookup (is_at (site_cmp s)) entries ≡ lookup (same_site s) entries
 table_has entries s = λ i. lookup (λ k. cmp-is_eq s k i) entries
 
 -- what a table has after one entry more
-pub table_updated : {X : Type 0} (old new : List (Site × X)) (site : Site) (v : Option X) →
-    ((q : Site) → lookup (is_at (site_cmp q)) new ≡ cond (is_at (site_cmp site) q) v (lookup (is_at (site_cmp q)) old)) →
-    (q : Site) → lookup (same_site q) new ≡ cond (same_site q site) v (lookup (same_site q) old)
+pub table_updated : {X : Type 0} (old new : List (Site × X)) (site : Site) (v : Option X)
+    → ((q : Site) → lookup (is_at (site_cmp q)) new ≡ cond (is_at (site_cmp site) q) v (lookup (is_at (site_cmp q)) old))
+    → (q : Site) → lookup (same_site q) new ≡ cond (same_site q site) v (lookup (same_site q) old)
 table_updated old new site v updates q =
     sym (table_has new q) ∙ updates q ∙ (λ i. cond ((cmp-is_eq site q ∙ same_site-sym site q) i) v (table_has old q i))
 
@@ -91,7 +98,10 @@ pub numbers_have : (numbers : List ℕ) (n : ℕ) → list_any (is_at (nat_cmp n
 numbers_have numbers n = λ i. list_any (λ k. number-is_eq n k i) numbers
 
 -- what a set has after one number more
-pub number_inserted : (old new : List ℕ) (number n : ℕ) → list_any (is_at (nat_cmp n)) new ≡ cond (is_at (nat_cmp number) n) true (list_any (is_at (nat_cmp n)) old) →
-    list_any (nat_eq n) new ≡ nat_eq n number || list_any (nat_eq n) old
+pub number_inserted : (old new : List ℕ) (number n : ℕ)
+    → list_any (is_at (nat_cmp n)) new ≡ cond (is_at (nat_cmp number) n) true (list_any (is_at (nat_cmp n)) old)
+    → list_any (nat_eq n) new ≡ nat_eq n number || list_any (nat_eq n) old
 number_inserted old new number n e =
-    sym (numbers_have new n) ∙ e ∙ ap₂ (λ b c. cond b true c) (number-is_eq number n ∙ flipped number n) (numbers_have old n) ∙ one_or (nat_eq n number) (list_any (nat_eq n) old)
+    sym (numbers_have new n) ∙ e
+    ∙ ap₂ (λ b c. cond b true c) (number-is_eq number n ∙ flipped number n) (numbers_have old n)
+    ∙ one_or (nat_eq n number) (list_any (nat_eq n) old)

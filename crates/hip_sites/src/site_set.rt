@@ -54,10 +54,8 @@ impl SiteSet {
         ensures ok { OnOk result ((s : Site) → has_site self.new s ≡ (same_site s site || has_site self.old s)) }
         ensures err { OnErr result (self.new ≡ self.old) }
     {
-        match self.sites.insert(site) {
-            Ok(_) => Ok(()),
-            Err(_) => Err(NoMemory),
-        }
+        self.sites.insert(site)?;
+        Ok(())
     }
 
     /// Puts the sites of a list in.

@@ -5,4 +5,5 @@ use Rattle.hip_sites.proofs.passing.add_in_body.Given as goal
 abbrev pub invariant-each : goal.invariant-each
 invariant-each g l =
     let test = g.T.InstrTest.test l.test in
-    l.sites ++ passing_in_body test l.function l.block l.index (drop l.index l.body) ≡ l.initial.sites ++ passing_in_body test l.function l.block 0 l.body
+    l.sites ++ passing_in_body test l.function l.block l.index (drop l.index l.body)
+    ≡ l.initial.sites ++ passing_in_body test l.function l.block 0 l.body

@@ -1,12 +1,12 @@
 use Rattle.std.proofs.Common.{◌≡◌, ◌∙◌, ◌+◌, sym, ap, subst, cond, suc, arith}
 use Rattle.hip_crash.specs.Logging.{IsLogging}
 use Rattle.hip_crash.specs.declared.log.CrashLog.TheInside.{Inside}
-use Rattle.hip_crash.proofs.Logged.{image-small, logged-few, logged-same, event-same, event-within, taken-fit, count-fit, logged-next}
+use Rattle.hip_crash.proofs.Logged.{has_room, image-small, logged-same, event-same, event-within, taken-fit, count-fit, logged-next}
 use Rattle.hip_crash.proofs.log.CrashLog.advance.Goals as goal
 use Rattle.hip_crash.proofs.log.CrashLog.advance.Goals.{then-is_counted, else-is_counted}
 
-pub take_up-requires-clause-few : goal.take_up-requires-clause-few
-take_up-requires-clause-few c = logged-few c.self.inside c.self.invariant c.as_slice.result.now c.as_slice.ensures
+pub take_up-requires-clause-room : goal.take_up-requires-clause-room
+take_up-requires-clause-room c = has_room c.self.inside c.self.invariant c.as_slice.result.now c.as_slice.ensures
 
 pub invariant_of-self : goal.invariant_of-self
 invariant_of-self c = logged-same c.self.inside c.self.invariant c.as_slice.result.now c.as_slice.ensures c.take_up.new.self c.take_up.ensures.same c.take_up.ensures.within

@@ -11,21 +11,21 @@ parts-init c = record { low = omega (arith, c.max-first.ensures); waiting = wait
 
 pub push_in-requires-clause-low : goal.push_in-requires-clause-low
 push_in-requires-clause-low c =
-    let end : c.end_line-end.result ≤ length c.args.image.now / 64 = c.end_line-end.ensures.within (length c.args.image.now / 64) (omega (arith, c.requires.within, c.requires.whole)) in
-    omega (arith, end, c.parts-test.true, c.requires.small)
+    let end : c.end_line-end.result ≤ length c.args.image.now / 64 = c.end_line-end.ensures.within (length c.args.image.now / 64) (omega (arith, c.requires.within, c.requires.room.whole)) in
+    omega (arith, end, c.parts-test.true, c.requires.room.small)
 
 pub push_in-requires-clause-within : goal.push_in-requires-clause-within
 push_in-requires-clause-within c =
-    let end : c.end_line-end.result ≤ length c.args.image.now / 64 = c.end_line-end.ensures.within (length c.args.image.now / 64) (omega (arith, c.requires.within, c.requires.whole)) in
+    let end : c.end_line-end.result ≤ length c.args.image.now / 64 = c.end_line-end.ensures.within (length c.args.image.now / 64) (omega (arith, c.requires.within, c.requires.room.whole)) in
     omega (arith, end, c.parts-test.true)
 
 pub push_in-requires-clause-few : goal.push_in-requires-clause-few
 unfolding seen_at
 push_in-requires-clause-few c =
-    let end : c.end_line-end.result ≤ length c.args.image.now / 64 = c.end_line-end.ensures.within (length c.args.image.now / 64) (omega (arith, c.requires.within, c.requires.whole)) in
+    let end : c.end_line-end.result ≤ length c.args.image.now / 64 = c.end_line-end.ensures.within (length c.args.image.now / 64) (omega (arith, c.requires.within, c.requires.room.whole)) in
     room-left c.args.stored (now_at c.parts.self.lines c.args.image.now c.parts.line) (with_waiting c.parts.self.waiting c.parts.line (now_at c.parts.self.lines c.args.image.now c.parts.line)) (2 ^ 63)
     (seen-here c.args.stored (c.args.stored.offset / 64) c.end_line-end.result refl c.end_line-end.ensures.lines c.parts.self.waiting c.parts.line (now_at c.parts.self.lines c.args.image.now c.parts.line) c.parts.invariant.low c.parts-test.true c.parts.invariant.waiting)
-    (subst (λ (k : Kept). k.least + length k.later < 2 ^ 63) (sym (c.parts.invariant.same c.parts.line)) (c.requires.few c.parts.line (omega (arith, end, c.parts-test.true))))
+    (subst (λ (k : Kept). k.least + length k.later < 2 ^ 63) (sym (c.parts.invariant.same c.parts.line)) (c.requires.room.few c.parts.line (omega (arith, end, c.parts-test.true))))
 
 pub returns-in_err-push_in-clause-same : goal.returns-in_err-push_in-clause-same
 unfolding seen_at

@@ -6,7 +6,11 @@ use Rattle.hip_sites.proofs.SiteOrder.{keys_ascend}
 use Rattle.hip_sites.proofs.site_set.SiteSet.to_row.Goals as goal
 
 pub returns-in_err-sites-clause-ascending : goal.returns-in_err-sites-clause-ascending
-returns-in_err-sites-clause-ascending c = subst (λ (sites : List Site). is_ascending sites ≡ true) c.self.view_is (keys_ascend c.self.inside.sites.keys c.iter.ensures.ordered)
+returns-in_err-sites-clause-ascending c =
+    subst (λ (sites : List Site). is_ascending sites ≡ true) c.self.view_is
+    (keys_ascend c.self.inside.sites.keys c.iter.ensures.ordered)
 
 pub returns-clause-ascending : goal.returns-clause-ascending
-returns-clause-ascending c = subst (λ (sites : List Site). is_ascending sites ≡ true) c.self.view_is (keys_ascend c.self.inside.sites.keys c.iter.ensures.ordered)
+returns-clause-ascending c =
+    subst (λ (sites : List Site). is_ascending sites ≡ true) c.self.view_is
+    (keys_ascend c.self.inside.sites.keys c.iter.ensures.ordered)

@@ -7,3 +7,4 @@ pub mod Locally
 pub mod StoresTold
 pub mod MainPlace
 pub mod StartStands
+pub mod OpsTold

@@ -9,3 +9,4 @@ pub mod Within
 pub mod StoresTold
 pub mod MainPlace
 pub mod StartStands
+pub mod OpsTold

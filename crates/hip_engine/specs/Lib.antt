@@ -1,4 +1,4 @@
-pub mod Given
+pub mod OpsAhead
 pub mod Starting
 pub mod Running
 pub mod Quiet

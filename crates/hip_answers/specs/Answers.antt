@@ -128,6 +128,11 @@ pub record HasAnswered (table : Answer → Type 0) (begins : Bool) (old new : Ca
     (status : Status) : Type 0 where
   pub how : answered (outcome_of status) table begins old new s status
 
+-- what a command does on a run, once it has read its files: it answers by the table, and looks at no file
+abbrev pub AnswersOnRun : (Answer → Type 0) → Bool → Sinks → Status → Type 0
+AnswersOnRun table begins s status =
+    (old new : CabinetState) → HasMet false false old new → HasAnswered table begins old new s status
+
 -- ---- what is held back
 
 -- Out holds nothing back, unless the call ended in a write fault. `held` is how many bytes it holds back.

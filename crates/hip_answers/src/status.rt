@@ -55,7 +55,7 @@ pub enum Status {
         entry: u128,
         kind: MisfitKind,
     },
-    /// The trace has this number of entries, fewer than the one that was asked for, or entry 0 was asked for.
+    /// The trace has this number of entries, and none with the order's number, which is 0 or greater than that.
     NoEntry {
         entries: u128,
     },

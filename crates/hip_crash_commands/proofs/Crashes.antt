@@ -1,7 +1,7 @@
 -- Images that are picked, and the runs that begin with them, as answers.
 use Rattle.std.proofs.Common.{◌≡◌, ℕ, true, List, Err, inl, inr, refl, subst}
 use Rattle.std.specs.Prelude.{Result}
-use Rattle.hip_answers.specs.Answers.{PutsLine, Refused, Sinks, outcome_of}
+use Rattle.hip_answers.specs.Answers.{AnswersOnRun, PutsLine, Refused, Sinks, outcome_of}
 use Rattle.hip_answers.specs.Laws as answers
 use Rattle.hip_answers.specs.declared.status.Status.{Status}
 use Rattle.hip_crash.specs.Picks.{IsRefusal}
@@ -21,7 +21,6 @@ use Rattle.hip_runs.specs.State.{State}
 use Rattle.hip_runs.specs.declared.input.Input.{Input}
 use Rattle.hip_runs.specs.declared.report.Findings.{Findings}
 use Rattle.hip_runs.specs.Seen.{Seen}
-use Rattle.hip_trace_loading.specs.Runs.{AnswersOnRun}
 
 -- ---- images
 

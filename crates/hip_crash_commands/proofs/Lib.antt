@@ -3,4 +3,3 @@ pub mod Answered
 pub mod Crashes
 pub mod Faults
 pub mod OneCrash
-pub mod Recorded

@@ -1,14 +1,13 @@
 ghost use Rattle.std.specs.Prelude.{◌≡◌, true};
-ghost use Rattle.hip_answers.specs.Answers.{HasAnswered, IsDelivered, sinks};
+ghost use Rattle.hip_answers.specs.Answers.{AnswersOnRun, HasAnswered, IsDelivered, sinks};
 ghost use Rattle.hip_crash_commands.specs.Crash.{CrashAnswers, CrashTexts};
 ghost use Rattle.hip_crash_commands.specs.Images.{HasEntries};
 ghost use Rattle.hip_runs.specs.Validity.{IsValid};
-ghost use Rattle.hip_trace_loading.specs.Runs.{AnswersOnRun};
 
 use crate::picking::image_at;
-use crate::recording::put_trace;
 use crate::refusal::status_of_image;
 use hip_answers::{Status, refuse};
+use hip_commands::put_trace;
 use hip_io::{Cabinet, Sink};
 use hip_picks::Pick;
 use hip_runs::Input;

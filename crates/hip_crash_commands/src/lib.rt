@@ -5,7 +5,6 @@ mod advancing;
 mod command;
 mod laws;
 mod picking;
-mod recording;
 mod refusal;
 
 pub use command::crash_file;

@@ -8,7 +8,7 @@ use hip_program_files::Failure;
 /// Why no crash image is picked.
 #[derive(Clone, Copy, Debug, PartialEq, Eq)]
 pub enum ImageRefusal {
-    /// The trace has this number of entries, and none of the number that was asked for.
+    /// The trace has this number of entries, and none with the order's number.
     NoEntry { entries: u128 },
     /// This is how the first of the picks fails that does; never out of memory.
     BadPick { refusal: PickRefusal },

@@ -4,7 +4,6 @@ use Rattle.std.proofs.lemmas.List.{map-append}
 use Rattle.std.proofs.lemmas.List.Folds.{list_any-append}
 use Rattle.hip_tree.specs.declared.instr.Instr.{Instr}
 use Rattle.hip_tree.specs.declared.instr.Operand.{Operand}
-use Rattle.hip_tree.specs.declared.program.Function.{Function}
 use Rattle.hip_repairs.specs.Repaired.{Marked, inserts, is_call_of, instrs_of, clwb_name, sfence_name, pmem_flush_name, line_flush, range_flush, the_fence}
 use Rattle.hip_insertions.specs.Walk.{grown, noted, with_functions}
 use Rattle.hip_insertions.specs.declared.body.Body.{Body}

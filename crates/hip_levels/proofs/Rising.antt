@@ -1,4 +1,4 @@
--- What it is that a rule raises its variable.
+-- What it means that a rule raises its variable.
 use Rattle.std.proofs.Common.{◌≡◌, ◌≢◌, inl, inr, ℕ, zero, suc, ◌+◌, ◌<◌, ◌≤◌, Bool, true, false, cond, nat_eq, nat_lt, List, [], ◌∷◌, length, get_or, refl, sym, ap, ◌∙◌, subst, arith, ltb-true}
 use Rattle.std.specs.Prelude.{slice_set}
 use Rattle.std.proofs.lemmas.Bool.Decides.{nat_tests}
@@ -91,7 +91,7 @@ has_at [] k d lt = absurd (omega arith)
 has_at (x ∷ rules) zero d lt = inl refl
 has_at (x ∷ rules) (suc k) d lt = inr (has_at rules k d (omega arith))
 
--- the first so many rules are met
+-- the first n rules are met
 pub record FirstMet (levels : List ℕ) (rules : List Rule) (n : ℕ) : Type 0 where
   pub each : (k : ℕ) (d : Rule) → k < n → k < length rules → reached levels (get_or rules k d).least ≤ at levels (get_or rules k d).variable
 
@@ -114,7 +114,7 @@ next_met levels rules n r first here met = record { each = λ k d lt there. go k
         let r_here : r ≡ get_or rules k d = sym (here d (omega arith)) ∙ ap (λ j. get_or rules j d) same in
         subst (λ (y : Rule). reached levels y.least ≤ at levels y.variable) r_here met
 
--- Rules are tried one after another: some variable has risen, or the first so many are met and nothing has changed.
+-- Rules are tried one after another: some variable has risen, or the first n are met and nothing has changed.
 abbrev pub so_far : Bool → List ℕ → List ℕ → List Rule → ℕ → Type 0
 so_far true old new rules n = room new < room old
 so_far false old new rules n = (new ≡ old) × FirstMet old rules n

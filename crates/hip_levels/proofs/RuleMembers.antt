@@ -38,7 +38,7 @@ module _ (P : Program) where
     of_end r h =
         from_block r (append-right (flat_map (phi_rules P g) block.phis) (flat_map (instr_rules P g) block.body ++ end_rules P g block.end) r (append-right (flat_map (instr_rules P g) block.body) (end_rules P g block.end) r h))
 
-  -- What has to be shown of each rule, by where it comes from.
+  -- What a proof shows of each rule, by where the rule comes from.
   pub record RuleCases (Q : Rule → Type 0) : Type 0 where
     pub instr : (g b k : ℕ) (fn : Function) (block : Block) (i : Instr) → IsBlockAt P g b fn block → slice_get block.body k ≡ Some i → (r : Rule) → In r (instr_rules P g i) → Q r
     pub phi : (g b k : ℕ) (fn : Function) (block : Block) (p : Phi) → IsBlockAt P g b fn block → slice_get block.phis k ≡ Some p → (r : Rule) → In r (phi_rules P g p) → Q r

@@ -44,7 +44,7 @@ unfoldable pub round : List Rule → Assignment → Assignment
 round [] A = A
 round (r ∷ rs) A = round rs (raised r A)
 
--- n rounds, one after another, from an assignment on
+-- n rounds, one after another, the first of them on this assignment
 unfoldable pub rounds : ℕ → List Rule → Assignment → Assignment
 rounds zero rs A = A
 rounds (suc n) rs A = round rs (rounds n rs A)

@@ -1,4 +1,5 @@
-//! Levels of pointers, as the greatest addresses that they can hold, and the stores that by them never lie in the region.
+//! Levels of pointers, which bound the addresses that they hold, and the stores that never lie in the region, by these
+//! levels.
 #![tactic(auto)]
 
 mod constants;

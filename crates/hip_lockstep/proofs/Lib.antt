@@ -2,3 +2,4 @@ pub mod Headers
 pub mod Meets
 pub mod Going
 pub mod Rooms
+pub mod Quietly

@@ -32,13 +32,13 @@ module _ (P : Program) (I : Input) (sound : IsSound P) (valid : IsValid P I) (sh
       let counted = length-trace P I n in
       omega (arith, few, counted, same)
 
-  -- the region ends below 2^64
-  pub within : I.base + length I.image < 2 ^ 64
-  within =
-      let high = valid.base.high in
-      let image = valid.image in
-      let region = sound.sizes.region in
-      omega (arith, high, image, region)
+-- the region ends below 2^64
+pub within : (P : Program) (I : Input) → IsSound P → IsValid P I → I.base + length I.image < 2 ^ 64
+within P I sound valid =
+    let high = valid.base.high in
+    let image = valid.image in
+    let region = sound.sizes.region in
+    omega (arith, high, image, region)
 
 module _ (P : Program) (I : Input) (sound : IsSound P) (valid : IsValid P I) (bounded : (n : ℕ) → IsBounded P I n) where
   -- the number of entries before the first step

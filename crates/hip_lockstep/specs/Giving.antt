@@ -1,11 +1,15 @@
 -- What one more entry of a header gives.
-use Rattle.std.specs.Prelude.{◌≡◌, ℕ, ℤ, Bool, true, false, List, Option, Some, None, Result, Ok, Err}
+use Rattle.std.specs.Prelude.{◌≡◌, ℕ, ℤ, Bool, true, false, List, [], Option, Some, None, Result, Ok, Err}
 use Rattle.hip_tree.specs.declared.program.Program.{Program}
 use Rattle.hip_run_traces.specs.Headers.{with_entry, with_line, with_number}
 use Rattle.hip_runs.specs.declared.input.Input.{Input}
 use Rattle.hip_trace.specs.declared.entry.Entry.{Entry}
 use Rattle.hip_types.specs.declared.memory.NoMemory.{NoMemory}
 use Rattle.hip_lockstep.specs.declared.given.Given.{Given}
+
+-- no INPUT or IMAGE entry has given anything
+abbrev pub IsEmpty : Given → Type 0
+IsEmpty g = (g.numbers ≡ []) × (g.image.items ≡ [])
 
 -- the input that a header has given so far; its initial bytes go up to the end of the last IMAGE's cache line
 abbrev pub input_of : Given → Input

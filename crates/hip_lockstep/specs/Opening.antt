@@ -31,7 +31,7 @@ pub record HasBase (P : Program) (start : CabinetState) (r : ReaderState) (s : C
     pub starts : valid_limit (Some first) ≡ Some limit
     pub registers : valid_base P (Some second) ≡ Some base
 
--- Valid entries of a header were read, which gave so much.
+-- Valid entries of a header were read, which gave this input so far.
 pub record HasGiven (P : Program) (start : CabinetState) (r : ReaderState) (s : CabinetState) (given : Input)
     (count : ℕ) : Type 0 where
   pub entries : List Entry
@@ -41,13 +41,13 @@ pub record HasGiven (P : Program) (start : CabinetState) (r : ReaderState) (s : 
 
 -- All valid entries of a header were read, and one entry after them.
 pub record HasAllGiven (P : Program) (start : CabinetState) (r : ReaderState) (s : CabinetState) (given : Input)
-    (behind : Lockstep) : Type 0 where
+    (lockstep : Lockstep) : Type 0 where
   pub entries : List Entry
-  pub read : HasReadEntries start r s (entries ++ behind.next ∷ [])
-  pub counted : behind.entries ≡ length entries
+  pub read : HasReadEntries start r s (entries ++ lockstep.next ∷ [])
+  pub counted : lockstep.entries ≡ length entries
   pub header : (more : List (Option Entry))
-      → header P (told entries ++ more) ≡ header_from P given behind.entries more
-  pub ends : with_entry P given (Some behind.next) ≡ None
+      → header P (told entries ++ more) ≡ header_from P given lockstep.entries more
+  pub ends : with_entry P given (Some lockstep.next) ≡ None
 
 -- The header was read, which gives the input, and one entry after it.
 pub record HasHeader (P : Program) (start : CabinetState) (r : ReaderState) (s : CabinetState) (begun : Begun) : Type 0
@@ -74,7 +74,7 @@ ReadsBase P start r s limit (Err refusal) = Refuses P r start s refusal
 abbrev pub ReadsValues : Program → CabinetState → ReaderState → CabinetState → Input
     → Result Lockstep ReplayRefusal
     → Type 0
-ReadsValues P start r s given (Ok behind) = HasAllGiven P start r s given behind
+ReadsValues P start r s given (Ok lockstep) = HasAllGiven P start r s given lockstep
 ReadsValues P start r s given (Err refusal) = Refuses P r start s refusal
 
 -- the input that the header gives, or the cause why there is none

@@ -44,10 +44,8 @@ impl Given {
         if !self.image.is_empty() || self.numbers.len() as u64 >= MOST_NUMBERS {
             return Ok(false);
         }
-        match self.numbers.push(number) {
-            Ok(()) => Ok(true),
-            Err(_) => Err(NoMemory),
-        }
+        self.numbers.push(number)?;
+        Ok(true)
     }
 
     fn take_line(
@@ -67,10 +65,8 @@ impl Given {
         if !has_line(self.image.len() as u64, size, offset) || !some_byte(bytes.as_slice()) {
             return Ok(false);
         }
-        match put_line(&mut self.image, offset as usize, bytes.as_slice()) {
-            Ok(()) => Ok(true),
-            Err(_) => Err(NoMemory),
-        }
+        put_line(&mut self.image, offset as usize, bytes.as_slice())?;
+        Ok(true)
     }
 
     // The input, in which the bytes after the last line are 0.
@@ -86,15 +82,13 @@ impl Given {
             numbers,
             mut image,
         } = self;
-        match lengthen(&mut image, size as usize) {
-            Ok(()) => Ok(Input {
-                base,
-                image: Row::from_vec(image),
-                numbers,
-                limit,
-            }),
-            Err(_) => Err(NoMemory),
-        }
+        lengthen(&mut image, size as usize)?;
+        Ok(Input {
+            base,
+            image: Row::from_vec(image),
+            numbers,
+            limit,
+        })
     }
 }
 
@@ -110,10 +104,8 @@ fn lengthen(image: &mut Vec<u8>, len: usize) -> Result<(), NoMemory>
     requires { length image.old.items ≤ len }
     ensures { OnOk result (image.new.items ≡ image.old.items ++ zeros (len - length image.old.items)) }
 {
-    match image.resize(len, 0) {
-        Ok(()) => Ok(()),
-        Err(_) => Err(NoMemory),
-    }
+    image.resize(len, 0)?;
+    Ok(())
 }
 
 // Puts a cache line at an offset after the bytes, with bytes of 0 between.
@@ -122,12 +114,7 @@ fn put_line(image: &mut Vec<u8>, offset: usize, line: &[u8]) -> Result<(), NoMem
     ensures { OnOk result
         (image.new.items ≡ image.old.items ++ (zeros (offset - length image.old.items) ++ line.now)) }
 {
-    match lengthen(image, offset) {
-        Ok(()) => {}
-        Err(_) => return Err(NoMemory),
-    }
-    match image.extend_from_slice(line) {
-        Ok(()) => Ok(()),
-        Err(_) => Err(NoMemory),
-    }
+    lengthen(image, offset)?;
+    image.extend_from_slice(line)?;
+    Ok(())
 }

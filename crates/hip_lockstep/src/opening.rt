@@ -5,7 +5,7 @@ ghost use Rattle.hip_globals.specs.Addresses.{region_size};
 ghost use Rattle.hip_io.specs.Cabinets.{CabinetState};
 ghost use Rattle.hip_tree.specs.declared.program.Program.{Program};
 ghost use Rattle.hip_run_traces.specs.Headers.{valid_base, valid_limit};
-ghost use Rattle.hip_lockstep.specs.Giving.{input_of};
+ghost use Rattle.hip_lockstep.specs.Giving.{IsEmpty, input_of};
 ghost use Rattle.hip_lockstep.specs.Opening.{HasBase, HasGiven, HasLimit, ReadsBase, ReadsHeader, ReadsLimit, ReadsValues};
 ghost use Rattle.hip_trace.specs.declared.refusal.Progress.TheVariants.{Reading};
 
@@ -116,8 +116,7 @@ fn read_values<C: Cabinet>(
     requires reading { reader.old.progress ≡ Reading }
     requires current { IsTrue (C.state cabinet.old).is_current }
     requires size { size ≡ region_size checked.now }
-    requires numbers { given.old.numbers ≡ [] }
-    requires image { given.old.image.items ≡ [] }
+    requires empty { IsEmpty given.old }
     ensures read { (start : CabinetState) →
         HasGiven checked.now start reader.old (C.state cabinet.old) (input_of given.old) 2 →
         ReadsValues checked.now start reader.new (C.state cabinet.new) (input_of given.new) result }

@@ -2,7 +2,7 @@
 use Rattle.std.proofs.Common.{◌≡◌, ℕ, false, List, length, Option, Err, inl, inr, refl, sym, ap, ◌∙◌, subst}
 use Rattle.std.proofs.lemmas.List.{length-map}
 use Rattle.std.specs.List.{All}
-use Rattle.hip_answers.specs.Answers.{Answer, Finishes, HasAnswered, PutsLine, Refused, Sinks, outcome_of}
+use Rattle.hip_answers.specs.Answers.{Answer, AnswersOnRun, Finishes, HasAnswered, PutsLine, Refused, Sinks, outcome_of}
 use Rattle.hip_answers.specs.Laws as answers
 use Rattle.hip_answers.specs.declared.status.Status.{Status}
 use Rattle.hip_answers.specs.declared.status.Status.TheVariants as statuses
@@ -34,7 +34,6 @@ use Rattle.hip_answers.specs.declared.refusal.TraceFileRefusal.TheVariants as tr
 use Rattle.hip_repairs.specs.CloneNumbers.{clone_numbers}
 use Rattle.hip_repairs.specs.Direct.{direct}
 use Rattle.hip_repairs.specs.declared.plan.CloneOf.{CloneOf}
-use Rattle.hip_trace_loading.specs.Runs.{AnswersOnRun}
 
 -- ---- a trace that is none
 

@@ -1,6 +1,6 @@
 ghost use Rattle.std.specs.List.{All};
 ghost use Rattle.std.specs.Prelude.{◌≡◌, ℕ, false, List, Option, length};
-ghost use Rattle.hip_answers.specs.Answers.{HasAnswered, IsDelivered, sinks};
+ghost use Rattle.hip_answers.specs.Answers.{AnswersOnRun, HasAnswered, IsDelivered, sinks};
 ghost use Rattle.hip_io.specs.declared.cabinet.NamedFile.{NamedFile};
 ghost use Rattle.hip_many_commands.specs.Asking.{AreAsked};
 ghost use Rattle.hip_many_commands.specs.Many.{HasRepairedMany, ManyAnswers};
@@ -8,7 +8,6 @@ ghost use Rattle.hip_repairing.specs.Making.{IsRepairForAll};
 ghost use Rattle.hip_many_commands.specs.Runs.{AreRunsOf, TracedRun, plans_of, reports_of};
 ghost use Rattle.hip_repair_answers.specs.Cured.{IsCuredBy};
 ghost use Rattle.hip_repairs.specs.Direct.{direct};
-ghost use Rattle.hip_trace_loading.specs.Runs.{AnswersOnRun};
 
 use crate::loading::{AllAsked, ask_all};
 use crate::notes::put_notes;

@@ -14,14 +14,14 @@ use hip_trace_loading::load_trace;
 use hip_types::{NoMemory, Row, Text};
 use std::alloc::Global;
 
-/// What a run asks for: the plan for it, and how many reports it has.
+/// The plan for a run, and how many reports it has.
 #[derive(Drop)]
 pub(crate) struct Asked {
     pub plan: Plan,
     pub reports: usize,
 }
 
-/// What runs ask for: the plan for each, and how many reports they have together.
+/// The plan for each of many runs, and how many reports they have together.
 #[derive(Drop)]
 pub(crate) struct AllAsked {
     pub plans: Row<Plan>,
@@ -37,17 +37,12 @@ fn ask<C: Cabinet>(
 ) -> Result<Asked, Failure<TraceFileRefusal>>
     ensures { Asks checked.now name.now (C.state cabinet.old) (C.state cabinet.new) result }
 {
-    let replayed = match load_trace(alloc, checked, cabinet, name) {
-        Ok(replayed) => replayed,
-        Err(failure) => return Err(failure),
-    };
-    match plan(alloc, checked, &replayed.findings) {
-        Ok(plan) => Ok(Asked {
-            plan,
-            reports: replayed.findings.reports().len(),
-        }),
-        Err(_) => Err(Failure::NoMemory),
-    }
+    let replayed = load_trace(alloc, checked, cabinet, name)?;
+    let plan = plan(alloc, checked, &replayed.findings)?;
+    Ok(Asked {
+        plan,
+        reports: replayed.findings.reports().len(),
+    })
 }
 
 /// How many reports runs have together, with those of one run more.
@@ -74,10 +69,7 @@ pub(crate) fn ask_all<C: Cabinet>(
         match ask(alloc, checked, cabinet, traces[index].as_str()) {
             Ok(asked) => {
                 reports = added(reports, asked.reports);
-                match plans.push(asked.plan) {
-                    Ok(()) => {}
-                    Err(_) => return Err(Failure::NoMemory),
-                }
+                plans.push(asked.plan)?;
             }
             Err(failure) => return Err(numbered(index as u64 + 1, failure)),
         }

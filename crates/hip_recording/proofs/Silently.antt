@@ -1,10 +1,10 @@
 -- Over silent steps a run goes on, and has printed what it had printed.
-use Rattle.std.proofs.Common.{◌≡◌, ℕ, ◌+◌, ◌<◌, true, None, sym, ap, ◌∙◌, subst, arith}
+use Rattle.std.proofs.Common.{◌≡◌, ℕ, ◌+◌, ◌<◌, true, None, ap, ◌∙◌, subst, arith}
 use Rattle.hip_tree.specs.declared.program.Program.{Program}
 use Rattle.hip_engine.specs.Laws.SilentLaws.{still_going}
 use Rattle.hip_engine.specs.Laws.SilentLaws as laws
 use Rattle.hip_engine.specs.Silent.{ComesToPrint, GoesSilently, is_silent}
-use Rattle.hip_lockstep.proofs.Going.{IsGoing, IsTold, fewer, goes_on, here, steps_ahead}
+use Rattle.hip_lockstep.proofs.Going.{IsGoing, IsTold, fewer, here, steps_ahead}
 use Rattle.hip_runs.specs.Outputs.{ending_by}
 use Rattle.hip_runs.specs.Seen.{Seen, after_step}
 use Rattle.hip_runs.specs.Step.{event, run}

@@ -20,7 +20,7 @@ use Rattle.hip_trace.specs.declared.entry.Entry.{Entry}
 use Rattle.hip_recording.proofs.Deliveries.{all_of_both, delivers, fails_to_deliver, part_of_both}
 use Rattle.hip_recording.specs.Delivery.{EndsOutOfMemory}
 use Rattle.hip_engine.specs.Quiet.{ComesTo}
-use Rattle.hip_recording.proofs.Quietly.{event_there, goes_quietly, same_trace}
+use Rattle.hip_recording.proofs.Quietly.{event_there, goes_there, trace_there}
 use Rattle.hip_lockstep.proofs.Going.{IsGoing, IsTold, ending_next, goes_on, taken_next}
 use Rattle.hip_lockstep.specs.declared.ended.Ended.{Ended}
 use Rattle.hip_recording.specs.declared.refusal.RecordRefusal.{RecordRefusal}
@@ -127,8 +127,8 @@ module _ {P : Program} {I : Input} {m : Seen} {old mid : SinkState} (told : IsTo
   -- before the step that has the event
   before_event : IsRecording P I c.before old mid
   before_event = record {
-    on = goes_quietly is.on c.quiet;
-    written = subst (λ es. AppendsAll old mid (lines_of es)) (sym (same_trace is.on c.quiet)) is.written;
+    on = goes_there told is.on c;
+    written = subst (λ es. AppendsAll old mid (lines_of es)) (sym (trace_there told is.on c)) is.written;
   }
 
   pub failed_next : (new : SinkState) → AppendsPrefix mid new (lines_of (entry_list (entry_of_event e))) → HasFailedRecording P I old new
@@ -140,18 +140,18 @@ module _ {P : Program} {I : Input} {m : Seen} {old mid : SinkState} (told : IsTo
 
   pub recorded_last : (new : SinkState) (ending : Ending) (n count : ℕ) → ending_by e ≡ Some ending → AppendsAll mid new (lines_of (entry_list (entry_of_event e))) → n ≡ length (trace P I m.taken) → count ≡ length (entry_list (entry_of_event e)) → HasPutTrace P I old new (record { ending = ending; entries = n + count })
   recorded_last new ending n count ends put all one =
-      recorded told before_event e new ending n count (event_there told is.on c) ends put (all ∙ ap length (sym (same_trace is.on c.quiet))) one
+      recorded told before_event e new ending n count (event_there told is.on c) ends put (all ∙ ap length (sym (trace_there told is.on c))) one
 
 module _ {P : Program} {I : Input} {m next : Seen} {e : Event} (told : IsTold P I) (on : IsGoing P I m) (c : ComesTo m next e) (n count : ℕ) (all : n ≡ length (trace P I m.taken)) (one : count ≡ length (entry_list (entry_of_event e))) where
   all_before : n ≡ length (trace P I c.before.taken)
-  all_before = all ∙ ap length (sym (same_trace on c.quiet))
+  all_before = all ∙ ap length (sym (trace_there told on c))
 
   pub count_fits_next : ((k : ℕ) → CountsFit P I k) → n + count < 2 ^ 128
-  count_fits_next fit = count_fits told (goes_quietly on c.quiet) e n count (event_there told on c) all_before one fit
+  count_fits_next fit = count_fits told (goes_there told on c) e n count (event_there told on c) all_before one fit
 
   pub counted_next : n + count ≡ length (trace P I next.taken)
   counted_next =
-      counted_on told (goes_quietly on c.quiet) e n count (event_there told on c) all_before one
+      counted_on told (goes_there told on c) e n count (event_there told on c) all_before one
       ∙ ap (λ (s : Seen). length (trace P I s.taken)) (sym c.step)
 
 -- nothing was written

@@ -1,13 +1,11 @@
--- The steps of a machine, and a tracker that notes them.
-use Rattle.std.specs.Prelude.{◌≡◌, true}
-use Rattle.hip_report.specs.Tracking.{HasNoted, Tracked}
-use Rattle.hip_runs.specs.Seen.{Seen, state_of}
-use Rattle.hip_runs.specs.Step.{has_ended}
+-- A machine whose steps begin.
+use Rattle.std.specs.Prelude.{◌≡◌, ℕ, length}
+use Rattle.hip_run_traces.specs.Traces.{header_of}
+use Rattle.hip_runs.specs.Seen.{Seen}
+use Rattle.hip_runs.specs.Validity.{IsValid}
 
--- The same run has ended, and the tracker, whose header stays, has noted all its steps.
-pub record HasEnded (m m' : Seen) (old new : Tracked) : Type 0 where
-  pub program : m'.program ≡ m.program
-  pub input : m'.input ≡ m.input
-  pub ended : has_ended (state_of m') ≡ true
-  pub noted : HasNoted new m'
-  pub header : new.header ≡ old.header
+-- The machine's input is valid, it took no step, and its trace has this many entries, those of the header.
+pub record IsAtStart (m : Seen) (entries : ℕ) : Type 0 where
+  pub valid : IsValid m.program m.input
+  pub fresh : m.taken ≡ 0
+  pub counted : entries ≡ length (header_of m.input)

@@ -1,12 +1,13 @@
-ghost use Rattle.std.specs.Prelude.{◌≡◌, OnOk, length};
+ghost use Rattle.std.specs.Prelude.{◌≡◌, OnOk};
 ghost use Rattle.hip_io.specs.Sinks.{AppendsAll, SinkState};
+ghost use Rattle.hip_report.specs.Noting.{IsOver};
 ghost use Rattle.hip_report.specs.Tracking.{HasNoted};
 ghost use Rattle.hip_run_traces.specs.Traces.{header_of};
 ghost use Rattle.hip_runs.specs.Validity.{IsValid};
 ghost use Rattle.hip_trace.specs.Texts.{lines_of};
 ghost use Rattle.hip_recording.specs.Delivery.{HoldsNothing};
 ghost use Rattle.hip_recording.specs.Recording.{PutsTrace, Records};
-ghost use Rattle.hip_recording.specs.Steps.{HasEnded};
+ghost use Rattle.hip_recording.specs.Steps.{IsAtStart};
 
 use crate::delivery::out_of_memory;
 use crate::refusal::RecordRefusal;
@@ -71,9 +72,7 @@ fn record_steps<'a, S: Sink>(
     header: u128,
     out: &mut S,
 ) -> Result<Recorded, RecordRefusal>
-    requires valid { IsValid machine.old.program machine.old.input }
-    requires fresh { machine.old.taken ≡ 0 }
-    requires counted { header ≡ length (header_of machine.old.input) }
+    requires { IsAtStart machine.old header }
     ensures records { (start : SinkState) → AppendsAll start (S.state out.old) (lines_of (header_of machine.old.input)) →
         Records machine.old.program machine.old.input start (S.state out.new) result }
     ensures delivered { HoldsNothing result (S.held out.new) }
@@ -105,14 +104,12 @@ fn put_noted<'a, S: Sink>(
     header: u128,
     out: &mut S,
 ) -> Result<Ended, RecordRefusal>
-    requires valid { IsValid machine.old.program machine.old.input }
-    requires fresh { machine.old.taken ≡ 0 }
-    requires counted { header ≡ length (header_of machine.old.input) }
+    requires start { IsAtStart machine.old header }
     requires noted { HasNoted tracker.old machine.old }
     ensures trace { (start : SinkState) → AppendsAll start (S.state out.old) (lines_of (header_of machine.old.input)) →
         PutsTrace machine.old.program machine.old.input start (S.state out.new) result }
     ensures delivered { HoldsNothing result (S.held out.new) }
-    ensures ended { OnOk result (HasEnded machine.old machine.new tracker.old tracker.new) }
+    ensures ended { OnOk result (IsOver machine.old machine.new tracker.old tracker.new) }
 {
     match note_entries(machine, tracker, header, out) {
         Ok(ended) => match out.deliver() {
@@ -124,20 +121,19 @@ fn put_noted<'a, S: Sink>(
     }
 }
 
-// Takes the steps of a run after its header, notes them, and writes their entries.
+// Goes from event to event of a run after its header, notes the steps, and writes the entries of the events. No other
+// step has one.
 fn note_entries<'a, S: Sink>(
     machine: &mut Machine<'a>,
     tracker: &mut Tracker<'a>,
     mut entries: u128,
     out: &mut S,
 ) -> Result<Ended, RecordRefusal>
-    requires valid { IsValid machine.old.program machine.old.input }
-    requires fresh { machine.old.taken ≡ 0 }
-    requires counted { entries ≡ length (header_of machine.old.input) }
+    requires start { IsAtStart machine.old entries }
     requires noted { HasNoted tracker.old machine.old }
     ensures trace { (start : SinkState) → AppendsAll start (S.state out.old) (lines_of (header_of machine.old.input)) →
         PutsTrace machine.old.program machine.old.input start (S.state out.new) result }
-    ensures ended { OnOk result (HasEnded machine.old machine.new tracker.old tracker.new) }
+    ensures ended { OnOk result (IsOver machine.old machine.new tracker.old tracker.new) }
 {
     runs_end();
     runs_are_bounded();
@@ -146,7 +142,7 @@ fn note_entries<'a, S: Sink>(
     let program = machine.checked().program();
     let _most = longest(program);
     'steps: loop {
-        let event = match tracker.advance(machine) {
+        let event = match tracker.next_event(machine) {
             Ok(event) => event,
             Err(_) => return Err(RecordRefusal::NoMemory),
         };

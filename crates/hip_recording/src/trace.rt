@@ -1,10 +1,11 @@
-ghost use Rattle.std.specs.Prelude.{◌≡◌, length};
+ghost use Rattle.std.specs.Prelude.{◌≡◌};
 ghost use Rattle.hip_io.specs.Sinks.{AppendsAll, SinkState};
 ghost use Rattle.hip_run_traces.specs.Traces.{header_of};
 ghost use Rattle.hip_runs.specs.Validity.{IsValid};
 ghost use Rattle.hip_trace.specs.Texts.{lines_of};
 ghost use Rattle.hip_recording.specs.Delivery.{HoldsNothing};
 ghost use Rattle.hip_recording.specs.Recording.{PutsTrace};
+ghost use Rattle.hip_recording.specs.Steps.{IsAtStart};
 
 use crate::delivery::out_of_memory;
 use crate::refusal::RecordRefusal;
@@ -56,9 +57,7 @@ fn put_steps<'a, S: Sink>(
     header: u128,
     out: &mut S,
 ) -> Result<Ended, RecordRefusal>
-    requires valid { IsValid runner.old.program runner.old.input }
-    requires fresh { runner.old.taken ≡ 0 }
-    requires counted { header ≡ length (header_of runner.old.input) }
+    requires { IsAtStart runner.old header }
     ensures trace { (start : SinkState) → AppendsAll start (S.state out.old) (lines_of (header_of runner.old.input)) →
         PutsTrace runner.old.program runner.old.input start (S.state out.new) result }
     ensures delivered { HoldsNothing result (S.held out.new) }
@@ -79,9 +78,7 @@ fn put_entries<'a, S: Sink>(
     mut entries: u128,
     out: &mut S,
 ) -> Result<Ended, RecordRefusal>
-    requires valid { IsValid runner.old.program runner.old.input }
-    requires fresh { runner.old.taken ≡ 0 }
-    requires counted { entries ≡ length (header_of runner.old.input) }
+    requires { IsAtStart runner.old entries }
     ensures { (start : SinkState) → AppendsAll start (S.state out.old) (lines_of (header_of runner.old.input)) →
         PutsTrace runner.old.program runner.old.input start (S.state out.new) result }
 {

@@ -1,6 +1,6 @@
 -- What was written of the reports, as an answer of `check`.
 use Rattle.std.proofs.Common.{false, length, refl}
-use Rattle.hip_answers.specs.Answers.{Answer, Finishes, PutsLine, Sinks}
+use Rattle.hip_answers.specs.Answers.{Answer, AnswersOnRun, Finishes, PutsLine, Sinks}
 use Rattle.hip_answers.specs.Laws.{cut_out, finished}
 use Rattle.hip_answers.specs.declared.status.Status.{Status}
 use Rattle.hip_answers.specs.declared.status.Status.TheVariants as statuses
@@ -13,7 +13,6 @@ use Rattle.hip_report_lines.specs.Counts.{check_counts}
 use Rattle.hip_report_lines.specs.Reports.{report_lines}
 use Rattle.hip_runs.specs.declared.input.Input.{Input}
 use Rattle.hip_runs.specs.declared.report.Findings.{Findings}
-use Rattle.hip_trace_loading.specs.Runs.{AnswersOnRun}
 
 module _ (P : Program) (I : Input) (found : Findings) (s : Sinks) where
   -- the answer of `check`: the reports, and on notes how many they are

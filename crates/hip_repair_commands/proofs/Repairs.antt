@@ -1,6 +1,6 @@
 -- What was written of a repaired program, as an answer of `repair`.
 use Rattle.std.proofs.Common.{ℕ, false, List, length, refl, ap, ◌∙◌}
-use Rattle.hip_answers.specs.Answers.{Answer, Finishes, PutsLine, Sinks}
+use Rattle.hip_answers.specs.Answers.{Answer, AnswersOnRun, Finishes, PutsLine, Sinks}
 use Rattle.hip_answers.specs.Laws.{cut_out, finished}
 use Rattle.hip_answers.specs.declared.status.Status.{Status}
 use Rattle.hip_answers.specs.declared.status.Status.TheVariants as statuses
@@ -20,7 +20,6 @@ use Rattle.hip_repairs.specs.declared.plan.Plan.{Plan}
 use Rattle.hip_report_lines.specs.Counts.{repair_counts}
 use Rattle.hip_runs.specs.declared.input.Input.{Input}
 use Rattle.hip_runs.specs.declared.report.Findings.{Findings}
-use Rattle.hip_trace_loading.specs.Runs.{AnswersOnRun}
 
 module _ (P : Program) (I : Input) (found : Findings) (repair : Repair) (is : IsRepairFor P found repair)
     (cured : IsCured P I found) (s : Sinks) where

@@ -1,7 +1,7 @@
 -- What was recorded of the repaired program's run, as an answer of `rerun`.
 use Rattle.std.proofs.Common.{◌≡◌, true, List, ◌++◌, length, refl, ap, ◌∙◌, subst}
 use Rattle.std.proofs.lemmas.Grind.{flat_map-append}
-use Rattle.hip_answers.specs.Answers.{Answer, Finishes, PutsLine, Sinks, WritesFront}
+use Rattle.hip_answers.specs.Answers.{Answer, AnswersOnRun, Finishes, PutsLine, Sinks, WritesFront}
 use Rattle.hip_answers.specs.Laws.{cut_out, finished, ran_out_later}
 use Rattle.hip_answers.specs.declared.status.Status.{Status}
 use Rattle.hip_answers.specs.declared.status.Status.TheVariants as statuses
@@ -21,7 +21,6 @@ use Rattle.hip_runs.specs.declared.input.Input.{Input}
 use Rattle.hip_runs.specs.declared.report.Findings.{Findings}
 use Rattle.hip_trace.specs.Texts.{line_of, lines_of}
 use Rattle.hip_trace.specs.declared.entry.Entry.{Entry}
-use Rattle.hip_trace_loading.specs.Runs.{AnswersOnRun}
 
 abbrev pub answer : Findings → List Entry → Findings → Answer
 answer found trace after =

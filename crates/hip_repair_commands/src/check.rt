@@ -1,9 +1,8 @@
 //! `check`: the reports of a run.
 
 ghost use Rattle.std.specs.Prelude.{◌≡◌, false};
-ghost use Rattle.hip_answers.specs.Answers.{HasAnswered, IsDelivered, sinks};
+ghost use Rattle.hip_answers.specs.Answers.{AnswersOnRun, HasAnswered, IsDelivered, sinks};
 ghost use Rattle.hip_repair_answers.specs.Answers.{CheckAnswers, HasChecked};
-ghost use Rattle.hip_trace_loading.specs.Runs.{AnswersOnRun};
 
 use hip_answers::{Status, finish, refuse};
 use hip_io::{Cabinet, Put, Sink};

@@ -1,12 +1,11 @@
 //! `rerun`: the trace of the repaired program's run, on the input of a trace of the program's.
 
 ghost use Rattle.std.specs.Prelude.{◌≡◌, true};
-ghost use Rattle.hip_answers.specs.Answers.{HasAnswered, IsDelivered, sinks};
+ghost use Rattle.hip_answers.specs.Answers.{AnswersOnRun, HasAnswered, IsDelivered, sinks};
 ghost use Rattle.hip_repair_answers.specs.Answers.{HasRerun, RerunAnswers};
 ghost use Rattle.hip_repairing.specs.Making.{IsRepairFor};
 ghost use Rattle.hip_runs.specs.Found.Marks.{IsFound};
 ghost use Rattle.hip_runs.specs.Validity.{IsValid};
-ghost use Rattle.hip_trace_loading.specs.Runs.{AnswersOnRun};
 
 use hip_answers::{Status, finish, refuse};
 use hip_io::{Cabinet, Sink};

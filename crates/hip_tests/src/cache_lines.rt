@@ -22,7 +22,7 @@ enum Call {
     Flush { offset: u64 },
     FlushRange { offset: u64, count: u64 },
     Fence,
-    /// What is not durable among so many bytes from the start.
+    /// What is not durable among the first bytes.
     NotDurable { among: u64, bytes: &'static [Bytes] },
 }
 
@@ -43,7 +43,7 @@ fn assert_bytes(rt: &impl Abort, found: &[LooseByte], bytes: &[Bytes]) {
     assert!(rt; found.len() == at);
 }
 
-/// One call on so many lines.
+/// One call on this many lines.
 fn make_call(rt: &impl Abort, alloc: Global, lines: &mut Lines, count: u64, call: Call)
     requires count { length lines.old.lines ≡ count }
     requires few { count ≤ 1048576 }
@@ -76,7 +76,7 @@ fn make_call(rt: &impl Abort, alloc: Global, lines: &mut Lines, count: u64, call
     }
 }
 
-/// The calls in turn, on so many lines.
+/// The calls in turn, on this many lines.
 fn make_calls(rt: &impl Abort, alloc: Global, count: u64, calls: &[Call])
     requires { count ≤ 1048576 }
 {

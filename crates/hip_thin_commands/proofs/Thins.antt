@@ -1,6 +1,6 @@
 -- What was written of a repaired program, as an answer of `thin`.
 use Rattle.std.proofs.Common.{◌≡◌, ℕ, false, List, length, refl, sym, ap, ◌∙◌}
-use Rattle.hip_answers.specs.Answers.{Answer, Finishes, PutsLine, Sinks}
+use Rattle.hip_answers.specs.Answers.{Answer, AnswersOnRun, Finishes, PutsLine, Sinks}
 use Rattle.hip_answers.specs.Laws.{cut_out, finished}
 use Rattle.hip_answers.specs.declared.status.Status.{Status}
 use Rattle.hip_answers.specs.declared.status.Status.TheVariants as statuses
@@ -22,7 +22,6 @@ use Rattle.hip_repairing.specs.Spared.{spared_count}
 use Rattle.hip_thin_commands.specs.Thin.{HasThinned, IsThinned, thin_counts, thinned_for}
 use Rattle.hip_repairing.specs.Making.{IsThinnedFor}
 use Rattle.hip_repairing.specs.declared.thinning.Thinned.{Thinned}
-use Rattle.hip_trace_loading.specs.Runs.{AnswersOnRun}
 use Rattle.hip_sound.specs.Sound.{IsSound}
 
 -- a plan has each of its own sites

@@ -1,13 +1,12 @@
 //! `thin`: the repaired program, for the trace of one of its runs, whose clones do not flush the low stores.
 
 ghost use Rattle.std.specs.Prelude.{◌≡◌, false};
-ghost use Rattle.hip_answers.specs.Answers.{HasAnswered, IsDelivered, sinks};
+ghost use Rattle.hip_answers.specs.Answers.{AnswersOnRun, HasAnswered, IsDelivered, sinks};
 ghost use Rattle.hip_io.specs.Sinks.{Writes};
 ghost use Rattle.hip_runs.specs.Found.Marks.{IsFound};
 ghost use Rattle.hip_runs.specs.Validity.{IsValid};
 ghost use Rattle.hip_thin_commands.specs.Thin.{HasThinned, ThinAnswers, thin_counts};
 ghost use Rattle.hip_repairing.specs.Making.{IsThinnedFor};
-ghost use Rattle.hip_trace_loading.specs.Runs.{AnswersOnRun};
 
 use crate::laws::thins_cure;
 use hip_answers::{Status, finish, refuse};

@@ -19,7 +19,7 @@ entry:
 }
 ";
 
-/// Asserts that `repair` refuses this program for this reason, told from the colon or the number of the line on, and
+/// Asserts that `repair` refuses this program for this reason, given from the colon or the number of the line on, and
 /// writes nothing else.
 pub fn assert_refused(rt: &impl Abort, alloc: Global, program: &str, why: &str) {
     let files = &[("a", program), ("b", ONE_STORE_TRACE)];
@@ -28,7 +28,7 @@ pub fn assert_refused(rt: &impl Abort, alloc: Global, program: &str, why: &str) 
     assert_outcome(rt, &outcome, 5, "", notes.as_str(), program);
 }
 
-/// Asserts the refusal of each program where these items stand before it, and a `main` that does nothing behind it.
+/// Asserts the refusal of each program where these items stand before it, and a `main` that does nothing after it.
 pub fn assert_refused_before_main(
     rt: &impl Abort,
     alloc: Global,
@@ -42,7 +42,7 @@ pub fn assert_refused_before_main(
     }
 }
 
-/// Programs that stand alone, each with its line of notes behind `hippo: program`.
+/// Programs that stand alone, each with its line of notes after `hippo: program`.
 const WHOLE_PROGRAMS: &[RefusedProgram] = &[
     RefusedProgram {
         program: "",

@@ -169,7 +169,7 @@ fn output_is_cut_where_it_fails(rt: HostRuntime) {
     }
 }
 
-/// The output is whole and the notes are not: the line of the write fault is tried behind them.
+/// The output is whole and the notes are not: the line of the write fault is tried after them.
 #[test]
 fn notes_are_cut_where_they_fail(rt: HostRuntime) {
     let files = &[("a", THREE_LINES)];

@@ -1,7 +1,7 @@
 -- How the answer of a command that loads a run follows from its stages.
 use Rattle.std.specs.Prelude.{ℕ, Bool, List}
 use Rattle.std.proofs.Common.{inl, inr}
-use Rattle.hip_answers.specs.Answers.{Answer, HasAnswered, Sinks}
+use Rattle.hip_answers.specs.Answers.{Answer, AnswersOnRun, HasAnswered, Sinks}
 use Rattle.hip_answers.specs.Laws.{answered_by}
 use Rattle.hip_answers.specs.declared.status.Status.{Status}
 use Rattle.hip_io.specs.Cabinets.{CabinetState}
@@ -9,7 +9,7 @@ use Rattle.hip_tree.specs.declared.program.Program.{Program}
 use Rattle.hip_answers.specs.RunAnswers.{TraceAnswers}
 use Rattle.hip_runs.specs.declared.input.Input.{Input}
 use Rattle.hip_runs.specs.declared.report.Findings.{Findings}
-use Rattle.hip_trace_loading.specs.Runs.{AnswersOnRun, HasLoadedRun, LacksRun}
+use Rattle.hip_trace_loading.specs.Runs.{HasLoadedRun, LacksRun}
 use Rattle.hip_trace_loading.specs.declared.run.LoadedRun.{LoadedRun}
 
 module _ (Texts : Program → Input → Findings → Answer → Type 0) {old new : CabinetState} {p t : List ℕ} where

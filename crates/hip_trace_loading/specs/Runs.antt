@@ -1,12 +1,11 @@
 -- What loading a program and the trace of one of its runs answers.
-use Rattle.std.specs.Prelude.{ℕ, ◌≡◌, ◌⊎◌, Bool, false, List, Result, Ok, Err}
-use Rattle.hip_answers.specs.Answers.{Answer, HasAnswered, Sinks, sinks}
+use Rattle.std.specs.Prelude.{ℕ, ◌≡◌, ◌⊎◌, Bool, List, Result, Ok, Err}
+use Rattle.hip_answers.specs.Answers.{Answer, HasAnswered, sinks}
 use Rattle.hip_answers.specs.Programs.{IsUnloaded, IsUnread}
 use Rattle.hip_answers.specs.declared.status.Status.{Status}
 use Rattle.hip_io.specs.Cabinets.{CabinetState}
 use Rattle.hip_io.specs.Sinks.{SinkState}
 use Rattle.hip_program_files.specs.Loading.{IsProgramOf}
-use Rattle.hip_program_files.specs.Outside.{HasMet}
 use Rattle.hip_answers.specs.TraceFiles.{LacksTrace}
 use Rattle.hip_trace_loading.specs.Loading.{HasLoadedTrace}
 use Rattle.hip_trace_loading.specs.declared.run.LoadedRun.{LoadedRun}
@@ -32,8 +31,3 @@ LoadsRun program_name trace_name old new notes notes_new (Ok loaded) =
 LoadsRun program_name trace_name old new notes notes_new (Err status) =
     (begins : Bool) → (out : SinkState)
     → HasAnswered (LacksRun old new program_name trace_name) begins old new (sinks out out notes notes_new) status
-
--- what a command does on a run that is loaded: it answers by the table, and looks at no file
-abbrev pub AnswersOnRun : (Answer → Type 0) → Bool → Sinks → Status → Type 0
-AnswersOnRun table begins s status =
-    (old new : CabinetState) → HasMet false false old new → HasAnswered table begins old new s status

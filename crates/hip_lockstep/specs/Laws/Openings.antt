@@ -37,7 +37,7 @@ use Rattle.hip_lockstep.specs.declared.refusal.ReplayRefusal.{ReplayRefusal}
 use Rattle.hip_lockstep.specs.declared.refusal.ReplayRefusal.TheVariants as refusals
 use Rattle.hip_lockstep.specs.declared.steps.Lockstep.{Lockstep}
 
--- ---- a header of less than two entries
+-- ---- a header of fewer than two entries
 
 no_start : (P : Program) (es : List (Option Entry)) → behind_start P es None ≡ Stops 0
 no_start P [] = refl
@@ -69,10 +69,10 @@ pub both_valid : (P : Program) (e : Option Entry) (limit : ℕ) (x : Option Entr
 unfolding header
 both_valid P e limit x base es q b = ap (behind_start P (x ∷ es)) q ∙ ap (behind_register P limit es) b
 
-behind_told : (es : List Entry) (rest : List (Option Entry))
+after_told : (es : List Entry) (rest : List (Option Entry))
     → slice_get (told es ++ rest) (length es) ≡ slice_get rest 0
-behind_told [] rest = refl
-behind_told (e ∷ es) rest = behind_told es rest
+after_told [] rest = refl
+after_told (e ∷ es) rest = after_told es rest
 
 stops_here : (P : Program) (bytes : List ℕ) (es : List Entry) (rest : List (Option Entry)) (kind : MisfitKind)
     → spelled true bytes ≡ told es ++ rest → header P (told es ++ rest) ≡ Stops (length es)
@@ -80,10 +80,10 @@ stops_here : (P : Program) (bytes : List ℕ) (es : List Entry) (rest : List (Op
 stops_here P bytes es rest kind spells head s = record {
   here = subst (λ ps. MisfitBehind (header P ps) P true ps (length es + 1) kind) (sym spells)
       (subst (λ h. MisfitBehind h P true (told es ++ rest) (length es + 1) kind) (sym head)
-      (refl, subst (λ p. StopsAt true p kind) (sym (behind_told es rest)) s));
+      (refl, subst (λ p. StopsAt true p kind) (sym (after_told es rest)) s));
 }
 
--- the pieces of a front are all of the header, which has less than two
+-- the pieces of a front are all of the header, which has fewer than two
 all_of_header : (P : Program) (es : List Entry) (xs last : List (Option Entry))
     → ((ys zs : List (Option Entry)) → told es ≡ ys ++ zs → header P ys ≡ Stops (length ys))
     → told es ≡ xs ++ last → header P xs ≡ Stops (length xs)
@@ -271,9 +271,9 @@ module _ {P : Program} {start : CabinetState} {r : ReaderState} {s : CabinetStat
   room : length is.entries + 1 < 2 ^ 128
   room = subst (λ n. n + 1 < 2 ^ 128) is.counted few
 
-  header_behind : (e : Entry) (more : List (Option Entry))
+  header_after : (e : Entry) (more : List (Option Entry))
       → header P (told (is.entries ++ e ∷ []) ++ more) ≡ header_from P given count (Some e ∷ more)
-  header_behind e more =
+  header_after e more =
       ap (λ ps. header P (ps ++ more)) (told_append is.entries (e ∷ []))
       ∙ ap (header P) (append_assoc (told is.entries) (Some e ∷ []) more)
       ∙ is.header (Some e ∷ more)
@@ -286,7 +286,7 @@ module _ {P : Program} {start : CabinetState} {r : ReaderState} {s : CabinetStat
     read = next_read start s s' r r' is.entries e room is.read h;
     counted = ap (λ n. n + 1) is.counted ∙ sym (length-append is.entries (e ∷ []));
     header = λ more.
-        header_behind e more ∙ ap (go_on P given count (λ given'. header_from P given' (suc count) more)) q
+        header_after e more ∙ ap (go_on P given count (λ given'. header_from P given' (suc count) more)) q
         ∙ ap (λ n. header_from P next n more) (let one : suc count ≡ count + 1 = omega arith in one);
   }
 
@@ -320,23 +320,23 @@ first_given P start r s limit base h = record {
 
 -- all entries of the header were read, so that its input is known
 pub header_read : (P : Program) (start : CabinetState) (r : ReaderState) (s : CabinetState) (given : Input)
-    (behind : Lockstep) → HasAllGiven P start r s given behind
-    → HasHeader P start r s (record { input = filled P given; lockstep = behind })
-header_read P start r s given behind h =
-    let so = header_given_so P given h.entries behind.entries
-    (fit_front (told h.entries) (Some behind.next ∷ [])
-    (subst FitAll (told_append h.entries (behind.next ∷ [])) h.read.fit)) h.counted h.header in
+    (lockstep : Lockstep) → HasAllGiven P start r s given lockstep
+    → HasHeader P start r s (record { input = filled P given; lockstep = lockstep })
+header_read P start r s given lockstep h =
+    let so = header_given_so P given h.entries lockstep.entries
+    (fit_front (told h.entries) (Some lockstep.next ∷ [])
+    (subst FitAll (told_append h.entries (lockstep.next ∷ [])) h.read.fit)) h.counted h.header in
     record {
       valid = so.valid;
-      read = subst (λ es. HasReadEntries start r s (es ++ behind.next ∷ [])) so.are h.read;
+      read = subst (λ es. HasReadEntries start r s (es ++ lockstep.next ∷ [])) so.are h.read;
       counted = h.counted ∙ ap (λ es. length es) so.are;
-      header = told_map (λ bytes. IsRead bytes (h.entries ++ behind.next ∷ []) (ahead r s))
+      header = told_map (λ bytes. IsRead bytes (h.entries ++ lockstep.next ∷ []) (ahead r s))
           (λ bytes. header P (spelled true bytes)
           ≡ Gives (header_entries (filled P given)) (filled P given)) start.rest h.read.told
           (λ bytes at k.
-          let spells = spelled_next bytes h.entries behind.next (ahead r s) k in
-          ap (header P) spells.1 ∙ h.header (Some behind.next ∷ spells.0)
-          ∙ ap (go_on P given behind.entries (λ given'. header_from P given' (suc behind.entries) spells.0)) h.ends
+          let spells = spelled_next bytes h.entries lockstep.next (ahead r s) k in
+          ap (header P) spells.1 ∙ h.header (Some lockstep.next ∷ spells.0)
+          ∙ ap (go_on P given lockstep.entries (λ given'. header_from P given' (suc lockstep.entries) spells.0)) h.ends
           ∙ ap (λ n. Gives n (filled P given)) so.number);
     }
   where
@@ -497,14 +497,14 @@ first_given_at P start r s limit base numbers image h n i =
 
 -- the bytes go no further than the region
 pub image_within : {P : Program} {start : CabinetState} {r : ReaderState} {s : CabinetState} {given : Input}
-    {behind : Lockstep} → HasAllGiven P start r s given behind → length given.image ≤ region_size P
-image_within {P} {start} {r} {s} {given} {behind} h =
-    let valid = (header_read P start r s given behind h).valid in
+    {lockstep : Lockstep} → HasAllGiven P start r s given lockstep → length given.image ≤ region_size P
+image_within {P} {start} {r} {s} {given} {lockstep} h =
+    let valid = (header_read P start r s given lockstep h).valid in
     let whole = valid.image in
     let long = length-append given.image (zeros (region_size P - length given.image)) in
     let gap = length-zeros (region_size P - length given.image) in
     omega (arith, whole, long, gap)
 
-pub stopped_behind : {P : Program} {start : CabinetState} {r : ReaderState} {s : CabinetState} {given : Input}
-    {behind : Lockstep} → HasAllGiven P start r s given behind → HasStoppedReplay start s
-stopped_behind {P} {start} {r} {s} {given} {behind} h = stopped_after start r s (h.entries ++ behind.next ∷ []) h.read
+pub stopped_after_header : {P : Program} {start : CabinetState} {r : ReaderState} {s : CabinetState} {given : Input}
+    {lockstep : Lockstep} → HasAllGiven P start r s given lockstep → HasStoppedReplay start s
+stopped_after_header {P} {start} {r} {s} {given} {lockstep} h = stopped_after start r s (h.entries ++ lockstep.next ∷ []) h.read

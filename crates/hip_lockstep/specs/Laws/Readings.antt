@@ -75,8 +75,8 @@ module _ (bytes : List ℕ) (es : List Entry) (e : Entry) (piece : List ℕ) (sp
   told_one : told (es ++ e ∷ []) ≡ told es ++ Some e ∷ []
   told_one = told_append es (e ∷ [])
 
-  behind : (more : List (Option Entry)) → told es ++ (entry_of piece ∷ more) ≡ told (es ++ e ∷ []) ++ more
-  behind more =
+  after : (more : List (Option Entry)) → told es ++ (entry_of piece ∷ more) ≡ told (es ++ e ∷ []) ++ more
+  after more =
       ap (λ (o : Option Entry). told es ++ (o ∷ more)) spells ∙ sym (append_assoc (told es) (Some e ∷ []) more)
       ∙ ap (λ (ps : List (Option Entry)). ps ++ more) (sym told_one)
 
@@ -89,7 +89,7 @@ module _ (bytes : List ℕ) (es : List Entry) (e : Entry) (piece : List ℕ) (sp
         ∙ ap (λ (xs : List ℕ). text ++ xs) (append_assoc piece (separator ∷ []) more))
         ∙ h.spells w (piece ++ separator ∷ more)
         ∙ ap (λ (ps : List (Option Entry)). told es ++ ps) (spelled_first w piece separator more whole separates)
-        ∙ behind (spelled w more);
+        ∙ after (spelled w more);
   }
 
   at_end : (text left : List ℕ) → list_any is_separator piece ≡ false → is_nonempty piece ≡ true
@@ -98,7 +98,7 @@ module _ (bytes : List ℕ) (es : List Entry) (e : Entry) (piece : List ℕ) (sp
     none = none;
     spells =
         h.spells true piece ∙ ap (λ (ps : List (Option Entry)). told es ++ ps) (spelled_last piece whole some)
-        ∙ behind [] ∙ append-nil (told (es ++ e ∷ []));
+        ∙ after [] ∙ append-nil (told (es ++ e ∷ []));
     last = Some e ∷ [];
     front =
         told_one

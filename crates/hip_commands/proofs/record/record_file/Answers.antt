@@ -1,25 +1,9 @@
 use Rattle.hip_answers.specs.Answers.{sinks}
-use Rattle.hip_commands.proofs.Records.{has_recorded, ran_out, was_cut}
+use Rattle.hip_commands.proofs.Records.{of_record}
 use Rattle.hip_commands.proofs.record.record_file.Goals as goal
-
-pub returns-in-Ok-write_trace-clause-answered : goal.returns-in-Ok-write_trace-clause-answered
-returns-in-Ok-write_trace-clause-answered g c =
-    has_recorded c.in-Ok.checked c.in-Ok-first_input.input _ c.in-Ok.ensures.0 c.in-Ok.ensures.1 c.in-Ok-first_input.ensures.is
-    c.in-Ok-write_trace.ended c.status_of_ending.result c.put_ending-tried.result (g.N.Sink.state c.put_ending-tried.new.out) c.finish.result
-    c.in-Ok-write_trace.ensures.trace c.status_of_ending.ensures c.put_ending-tried.ensures c.finish.ensures
-
-pub returns-in-Err-WriteFault-clause-answered : goal.returns-in-Err-WriteFault-clause-answered
-returns-in-Err-WriteFault-clause-answered g c =
-    let s = sinks (g.S.Sink.state c.args.out.now) (g.S.Sink.state c.write_trace.new.out) (g.N.Sink.state c.args.notes.now) (g.N.Sink.state c.refuse-in-Err-WriteFault.new.notes) in
-    rw c.refuse-in-Err-WriteFault.ensures.status (was_cut c.in-Ok.checked c.in-Ok-first_input.input s c.in-Ok.ensures.0 c.in-Ok.ensures.1 c.in-Ok-first_input.ensures.is
-    (rw c.in-Err-WriteFault.field-0-is at c.in-Err-WriteFault.ensures.trace) c.refuse-in-Err-WriteFault.ensures.line)
 
 pub returns-clause-answered : goal.returns-clause-answered
 returns-clause-answered g c =
-    let s = sinks (g.S.Sink.state c.args.out.now) (g.S.Sink.state c.write_trace.new.out) (g.N.Sink.state c.args.notes.now) (g.N.Sink.state c.refuse-in-Err-NoMemory.new.notes) in
-    rw c.refuse-in-Err-NoMemory.ensures.status (ran_out c.in-Ok.checked c.in-Ok-first_input.input s c.in-Ok.ensures.0 c.in-Ok.ensures.1 c.in-Ok-first_input.ensures.is
-    (rw c.in-Err-NoMemory.field-0-is at c.in-Err-NoMemory.ensures.trace) c.refuse-in-Err-NoMemory.ensures.line)
-
-pub returns-clause-delivered : goal.returns-clause-delivered
-returns-clause-delivered g c = λ start fault.
-    rw c.in-Err-NoMemory.field-0-is at c.in-Err-NoMemory.ensures.delivered
+    let s = sinks (g.S.Sink.state c.args.out.now) (g.S.Sink.state c.put_trace.new.out) (g.N.Sink.state c.args.notes.now) (g.N.Sink.state c.put_trace.new.notes) in
+    of_record c.in-Ok.checked c.in-Ok-first_input.input s c.put_trace.result c.in-Ok.ensures.0 c.in-Ok.ensures.1 c.in-Ok-first_input.ensures.is
+    c.put_trace.ensures.answered

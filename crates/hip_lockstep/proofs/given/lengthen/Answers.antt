@@ -4,9 +4,9 @@ use Rattle.std.specs.Vec.{vec_len}
 use Rattle.hip_types.specs.Bytes.{zeros}
 use Rattle.hip_lockstep.proofs.given.lengthen.Goals as goal
 
-pub returns-in-Ok : goal.returns-in-Ok
+pub returns : goal.returns
 unfolding zeros
-returns-in-Ok c =
+returns c =
     let len : vec_len c.args.image.now ≡ length c.args.image.now.items = omega (arith, c.args.image.now.ok.0) in
-    c.in-Ok.ensures.items ∙ ap (λ n. take c.args.len c.args.image.now.items ++ replicate {A = ℕ} (c.args.len - n) 0) len
+    c.in_ok-resize.ensures.items ∙ ap (λ n. take c.args.len c.args.image.now.items ++ replicate {A = ℕ} (c.args.len - n) 0) len
     ∙ ap (λ xs. xs ++ replicate {A = ℕ} (c.args.len - length c.args.image.now.items) 0) (take_all c.args.len c.args.image.now.items c.requires)

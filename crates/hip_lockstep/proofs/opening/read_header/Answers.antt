@@ -1,6 +1,6 @@
 use Rattle.std.proofs.Common.{◌-◌, ◌≤◌, ◌++◌, length, sym, ap, ◌∙◌, subst}
 use Rattle.hip_types.specs.Bytes.{zeros}
-use Rattle.hip_lockstep.specs.Laws.Openings.{first_given_at, header_read, image_within, stopped_behind}
+use Rattle.hip_lockstep.specs.Laws.Openings.{first_given_at, header_read, image_within, stopped_after_header}
 use Rattle.hip_lockstep.specs.Giving.{input_of}
 use Rattle.hip_lockstep.specs.Opening.{HasHeader}
 use Rattle.hip_lockstep.proofs.opening.read_header.Goals as goal
@@ -40,4 +40,4 @@ returns-in-Err-fill-clause-read g c =
     let base = c.in-Ok-read_base.ensures.read (g.C.Cabinet.state c.args.cabinet.now) c.in-Ok.limit (c.in-Ok.ensures.read c.args.checked.now) in
     let all = c.in-Ok-read_values.ensures.read (g.C.Cabinet.state c.args.cabinet.now)
     (first_given_at c.args.checked.now (g.C.Cabinet.state c.args.cabinet.now) c.read_base.new.reader (g.C.Cabinet.state c.read_base.new.cabinet) c.in-Ok.limit c.in-Ok-read_base.base c.new.result c.new-2.result.items base c.new.ensures c.new-2.ensures.items) in
-    stopped_behind all
+    stopped_after_header all

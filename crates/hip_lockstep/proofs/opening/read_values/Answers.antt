@@ -7,7 +7,7 @@ use Rattle.hip_lockstep.specs.Opening.{HasAllGiven}
 use Rattle.hip_lockstep.proofs.opening.read_values.Goals as goal
 
 pub entries-init : goal.entries-init
-entries-init g c = begins_giving c.args.checked.now c.args.reader.now (g.C.Cabinet.state c.args.cabinet.now) (input_of c.args.given.now) c.requires.reading c.requires.current c.requires.numbers c.requires.image
+entries-init g c = begins_giving c.args.checked.now c.args.reader.now (g.C.Cabinet.state c.args.cabinet.now) (input_of c.args.given.now) c.requires.reading c.requires.current c.requires.empty.0 c.requires.empty.1
 
 pub returns-in-Err-clause-read : goal.returns-in-Err-clause-read
 returns-in-Err-clause-read g c = λ start h.

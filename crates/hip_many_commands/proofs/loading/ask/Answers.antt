@@ -1,21 +1,21 @@
 use Rattle.std.proofs.Common.{length, refl, ap, ◌∙◌}
 use Rattle.hip_many_commands.proofs.loading.ask.Goals as goal
 
-pub returns-in-Ok-plan : goal.returns-in-Ok-plan
-returns-in-Ok-plan g c = record {
+pub returns : goal.returns
+returns g c = record {
   run = record {
     name = c.args.name.now;
-    input = c.in-Ok.replayed.input;
-    found = c.in-Ok.replayed.findings;
+    input = c.in_ok-replayed.replayed.input;
+    found = c.in_ok-replayed.replayed.findings;
   };
   named = refl;
   is = record {
-    traced = c.in-Ok.ensures.0.traced;
-    valid = c.in-Ok.ensures.0.valid;
-    found_is = c.in-Ok.ensures.0.found;
+    traced = c.in_ok-replayed.ensures.0.traced;
+    valid = c.in_ok-replayed.ensures.0.valid;
+    found_is = c.in_ok-replayed.ensures.0.found;
   };
-  met = c.in-Ok.ensures.0.met;
-  fetches = c.in-Ok.ensures.1;
-  plan_is = c.in-Ok-plan.ensures.is;
+  met = c.in_ok-replayed.ensures.0.met;
+  fetches = c.in_ok-replayed.ensures.1;
+  plan_is = c.in_ok-plan.ensures.is;
   reports_are = c.len.ensures ∙ ap length c.reports.ensures;
 }

@@ -22,7 +22,7 @@ traces-init g c =
 
 pub traces-preserved : goal.traces-preserved
 traces-preserved g c = record {
-  asked = rw (c.in-Ok-push.ensures.ok, c.added-reports.ensures.sum) (asked_more c.traces.invariant.asked c.as_str.result.now c.traces-test.true
+  asked = rw (c.in_ok-push-in-Ok.ensures.ok, c.added-reports.ensures.sum) (asked_more c.traces.invariant.asked c.as_str.result.now c.traces-test.true
       (c.as_str.ensures ∙ c.index-traces-index.is ∙ get_or_default _ _ _ _ c.traces-test.true) (g.C.Cabinet.state c.ask.new.cabinet) c.in-Ok.asked c.in-Ok.ensures);
   few = let before = c.traces.invariant.few in let here = c.added-reports.ensures.few in omega (arith, before, here);
 }

@@ -1,4 +1,5 @@
-use Rattle.std.proofs.Common.{◌+◌, ◌<◌, ◌^◌, length, sym, ap, ◌∙◌, subst, arith}
+use Rattle.std.proofs.Common.{◌+◌, ◌<◌, ◌^◌, length, sym, ap, ◌∙◌, subst}
+use Rattle.hip_lockstep.proofs.Rooms.{within}
 use Rattle.hip_runs.specs.declared.input.Input.{Input}
 use Rattle.hip_run_traces.specs.Traces.{header_of}
 use Rattle.hip_io.specs.Sinks.{AppendsAll, AppendsPrefix}
@@ -9,16 +10,15 @@ use Rattle.hip_recording.proofs.record.record_whole.Goals as goal
 
 pub put_header-requires : goal.put_header-requires
 put_header-requires g c =
-    let valid = c.input.ensures.valid in
-    let sound = subst (λ p. IsSound p) c.checked.ensures c.program-program.ensures.sound in
-    let high = valid.base.high in
-    let image = valid.image in
-    let region = sound.sizes.region in
-    let within : c.args.machine.now.input.base + length c.args.machine.now.input.image < 2 ^ 64 = omega (arith, high, image, region) in
-    subst (λ (i : Input). i.base + length i.image < 2 ^ 64) (sym c.input.ensures.is) within
+    subst (λ (i : Input). i.base + length i.image < 2 ^ 64) (sym c.input.ensures.is)
+    (within c.args.machine.now.program c.args.machine.now.input (subst (λ p. IsSound p) c.checked.ensures c.program-program.ensures.sound) c.input.ensures.valid)
 
-pub record_steps-requires-clause-counted : goal.record_steps-requires-clause-counted
-record_steps-requires-clause-counted g c = c.in-Ok.ensures.count ∙ ap (λ (i : Input). length (header_of i)) c.input.ensures.is
+pub record_steps-requires : goal.record_steps-requires
+record_steps-requires g c = record {
+  valid = c.input.ensures.valid;
+  fresh = c.requires;
+  counted = c.in-Ok.ensures.count ∙ ap (λ (i : Input). length (header_of i)) c.input.ensures.is;
+}
 
 pub returns-in-Ok-clause-records : goal.returns-in-Ok-clause-records
 returns-in-Ok-clause-records g c =

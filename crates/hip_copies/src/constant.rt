@@ -56,8 +56,7 @@ fn gep_from(alloc: Global, gep: &ConstGep, base: Const) -> Result<Const, NoMemor
 fn copy_items(alloc: Global, items: &[TypedConst]) -> Result<Row<TypedConst>, NoMemory>
     ensures { IfOk result (λ all. all ≡ items.now) }
 {
-    let mut copies = Row::new(alloc);
-    copies.reserve(items.len())?;
+    let mut copies = Row::from_vec(Vec::with_capacity(alloc, items.len())?);
     for item in items {
         copies.push(copy_typed(alloc, item)?)?;
     }

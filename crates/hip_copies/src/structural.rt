@@ -123,8 +123,7 @@ fn push_copy<T: Structural>(alloc: Global, copies: &mut Row<T>, item: &T) -> Res
 
 impl<T: Structural> Structural for Row<T> {
     fn copy(&self, alloc: Global) -> Result<Row<T>, NoMemory> {
-        let mut copies = Row::new(alloc);
-        copies.reserve(self.len())?;
+        let mut copies = Row::from_vec(Vec::with_capacity(alloc, self.len())?);
         for item in self.as_slice() {
             push_copy(alloc, &mut copies, item)?;
         }

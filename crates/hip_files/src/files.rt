@@ -40,6 +40,7 @@ impl Cabinet for FileCabinet<'_> {
     ghost told = { λ c. tt };
 
     /// A file that the open call reports as absent is missing; every other failure is a fault.
+    #[inline(never)]
     fn fetch(&mut self, name: &str) -> Fetched {
         self.fetches = self.fetches.saturating_add(1);
         self.file = None;

@@ -11,7 +11,7 @@ ghost use Rattle.hip_parse.specs.Left.{left, Gives, Takes};
 
 use crate::error::ReadError;
 use crate::parser::Parser;
-use crate::parts::{Production, Repeated};
+use crate::parts::{Production, Repeated, fitted};
 use crate::words::{Scalars, Widths};
 use hip_grammar::{Fault, Keyword};
 use hip_tree::{Block, Case, Edge, End, Instr, Phi};
@@ -122,12 +122,12 @@ impl<'a> Parser<'a> {
         'more: while self.at_local() {
             let name = self.assigned(alloc)?;
             if !self.at_word(b"phi") {
-                return Ok((phis, Some(name)));
+                return Ok((fitted(phis), Some(name)));
             }
             let item = self.phi(alloc, name)?;
             phis.push(item)?;
         }
-        Ok((phis, None))
+        Ok((fitted(phis), None))
     }
 
     // ---- ends of blocks

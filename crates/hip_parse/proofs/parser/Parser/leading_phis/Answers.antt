@@ -19,7 +19,7 @@ returns-in_err-name c =
     rw (p.1, p.2) (head_ends (List ℕ) Phi is_local assigned.read (is_word (codes "phi")) (λ dest. (phi dest).read) assigned_some phi_within c.in_err-name.field-0.0 c.more.phis (left c.more.self) (left c.assigned.new.self) _ (sym c.at_local.ensures ∙ c.more-test.true) c.in_err-name.ensures c.more.invariant)
 
 pub returns-then-not-at_word : goal.returns-then-not-at_word
-returns-then-not-at_word c = leader_ends_at Fault (List ℕ) Phi is_local assigned.read (is_word (codes "phi")) (λ dest. (phi dest).read) assigned_some phi_within c.more.phis (left c.more.self) c.in_ok-name.name (left c.assigned.new.self) _ (sym c.at_local.ensures ∙ c.more-test.true) c.in_ok-name.ensures (sym c.at_word.ensures ∙ c.if-not-at_word.true) c.more.invariant
+returns-then-not-at_word c = rw c.fitted.ensures (leader_ends_at Fault (List ℕ) Phi is_local assigned.read (is_word (codes "phi")) (λ dest. (phi dest).read) assigned_some phi_within c.more.phis (left c.more.self) c.in_ok-name.name (left c.assigned.new.self) _ (sym c.at_local.ensures ∙ c.more-test.true) c.in_ok-name.ensures (sym c.at_word.ensures ∙ c.if-not-at_word.true) c.more.invariant)
 
 pub returns-in_err-item : goal.returns-in_err-item
 returns-in_err-item c =
@@ -36,4 +36,4 @@ pub more-preserved : goal.more-preserved
 more-preserved c = rw c.in_ok-push.ensures.ok (leader_goes_on Fault (List ℕ) Phi is_local assigned.read (is_word (codes "phi")) (λ dest. (phi dest).read) assigned_some phi_within c.more.phis (left c.more.self) c.in_ok-name.name (left c.assigned.new.self) c.in_ok-item.item (left c.phi.new.self) _ (sym c.at_local.ensures ∙ c.more-test.true) c.in_ok-name.ensures (sym c.at_word.ensures ∙ c.if-not-at_word.false) c.in_ok-item.ensures c.more.invariant)
 
 pub returns : goal.returns
-returns c = leaders_end Fault (List ℕ) Phi is_local assigned.read (is_word (codes "phi")) (λ dest. (phi dest).read) assigned_some phi_within c.more.phis (left c.more.self) _ (sym c.at_local.ensures ∙ c.more-test.false) c.more.invariant
+returns c = rw c.fitted-2.ensures (leaders_end Fault (List ℕ) Phi is_local assigned.read (is_word (codes "phi")) (λ dest. (phi dest).read) assigned_some phi_within c.more.phis (left c.more.self) _ (sym c.at_local.ensures ∙ c.more-test.false) c.more.invariant)

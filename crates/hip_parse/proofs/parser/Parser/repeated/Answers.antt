@@ -19,4 +19,4 @@ more-preserved g c =
     rw c.in_ok-push.ensures.ok (goes_on Fault _ _ _ (g.met.R.Repeated.some c.args.part) c.more.items (left c.more.self) c.in_ok-item.item (left c.read_next.new.parser) _ (sym c.is_next.ensures ∙ c.more-test.true) c.in_ok-item.ensures c.more.invariant)
 
 pub returns : goal.returns
-returns g c = is_done Fault _ _ _ (g.met.R.Repeated.some c.args.part) c.more.items (left c.more.self) _ (sym c.is_next.ensures ∙ c.more-test.false) c.more.invariant
+returns g c = rw c.fitted.ensures (is_done Fault _ _ _ (g.met.R.Repeated.some c.args.part) c.more.items (left c.more.self) _ (sym c.is_next.ensures ∙ c.more-test.false) c.more.invariant)

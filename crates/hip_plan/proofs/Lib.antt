@@ -1,6 +1,7 @@
 mod Calls
 mod Greatest
 mod Levels
+mod Limits
 mod Listed
 mod Numbers
 mod Places

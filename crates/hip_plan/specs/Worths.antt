@@ -1,13 +1,15 @@
 -- Worths as they are added up, and the greatest of them.
-use Rattle.std.specs.Prelude.{ℕ, ◌≡◌, Bool, true, false, cond, ◌&&◌, nat_eq, List, Option, Some, None, ℤ, pos, int_lt, unwrap_or}
+use Rattle.std.specs.Prelude.{ℕ, ◌≡◌, Bool, true, false, cond, not, ◌&&◌, nat_eq, List, [], ◌∷◌, Option, Some, None, ℤ, pos, int_lt, ◌≤ℤ◌, FitsSigned, unwrap_or}
+use Rattle.std.specs.Int.{w128}
 use Rattle.std.specs.Map.{lookup}
 use Rattle.hip_types.specs.declared.number.Scalar.{Scalar}
 use Rattle.hip_types.specs.declared.number.Scalar.TheVariants.{Int, Ptr}
 use Rattle.hip_tree.specs.declared.instr.Arg.{Arg}
 use Rattle.hip_tree.specs.Sites.{same_site}
 use Rattle.hip_tree.specs.declared.site.Site.{Site}
-use Rattle.hip_runs.specs.Found.Scores.{is_marked, worth_in, worth_of}
+use Rattle.hip_runs.specs.Found.Scores.{is_marked, worth, worth_in, worth_of}
 use Rattle.hip_runs.specs.declared.report.Mark.{Mark}
+use Rattle.hip_runs.specs.declared.report.Marks.{Marks}
 
 -- what a mark adds to the worth of an operand; nothing where it is of another operand
 abbrev pub added_by : List ℕ → Mark → Site → ℕ → ℤ
@@ -27,6 +29,17 @@ abbrev pub greatest : Option ℤ → ℤ → Option ℤ
 greatest None a = Some a
 greatest (Some b) a = Some (cond (int_lt b a) a b)
 
+-- ---- the limit of scores
+
+-- no operand has a worth above this one
+abbrev pub IsLimit : Marks → ℤ → Type 0
+IsLimit marks limit = (site : Site) (operand : ℕ) → worth marks site operand ≤ℤ limit
+
+-- whether there is a score, and it is not below the limit
+abbrev pub is_at_limit : Option ℤ → ℤ → Bool
+is_at_limit None limit = false
+is_at_limit (Some a) limit = not (int_lt a limit)
+
 -- ---- the table of worths
 
 -- a site, and the number of one of its pointer operands
@@ -45,3 +58,18 @@ worth_among entries key = unwrap_or (lookup (same_operand key) entries) (pos 0)
 pub record HasWorths (entries : List (OperandKey × ℤ)) (hit : List ℕ) (marks : List Mark) : Type 0 where
   pub worth : (site : Site) (operand : ℕ) →
       worth_among entries (site, operand) ≡ worth_in hit site operand marks (pos 0)
+
+-- the greater one of two numbers
+abbrev pub greater_one : ℤ → ℤ → ℤ
+greater_one a b = cond (int_lt a b) b a
+
+-- the greatest of a number and the worths in the table
+abbrev pub greatest_among : ℤ → List (OperandKey × ℤ) → ℤ
+greatest_among a [] = a
+greatest_among a (e ∷ es) = greatest_among (greater_one a e.1) es
+
+-- the table has the worths by these marks, and this is the greatest of them and of 0, which has 128 bits
+pub record IsTable (entries : List (OperandKey × ℤ)) (greatest : ℤ) (marks : Marks) : Type 0 where
+  pub worths : HasWorths entries marks.hit marks.pointed
+  pub is_greatest : greatest ≡ greatest_among (pos 0) entries
+  pub fits : FitsSigned w128 greatest

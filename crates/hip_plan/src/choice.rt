@@ -1,6 +1,7 @@
 ghost use Rattle.std.specs.Prelude.{◌≡◌, ◌≤◌};
 ghost use Rattle.hip_repairs.specs.Choice as spec;
 ghost use Rattle.hip_repairs.specs.Choice.{best_of, choice};
+ghost use Rattle.hip_plan.specs.Worths.{is_at_limit};
 
 use crate::scores::score_by;
 use crate::worths::Worths;
@@ -19,7 +20,18 @@ fn is_better(best: Option<i128>, score: Option<i128>) -> bool
     }
 }
 
-/// The best of level 0, whose score is given, and of the levels of the first `closed` calls.
+/// Whether a score cannot be exceeded where no worth is above a limit.
+fn is_at_limit(best: Option<i128>, limit: i128) -> bool
+    ensures { result ≡ is_at_limit best limit }
+{
+    match best {
+        Some(best) => best >= limit,
+        None => false,
+    }
+}
+
+/// The best of level 0, whose score is given, and of the levels of the first `closed` calls. It looks at no call after
+/// a score that none exceeds.
 fn best_level<W: Worths>(
     checked: &Checked,
     worths: &W,
@@ -30,10 +42,14 @@ fn best_level<W: Worths>(
     ensures { result ≡
         (best_of checked.now (W.found worths.now) (record { level = 0; score = store }) 1 closed calls.entry).level }
 {
+    let limit = worths.limit();
     let mut level = 0;
     let mut best = store;
     let mut left = calls;
     'each: for index in 0..closed {
+        if is_at_limit(best, limit) {
+            return level;
+        }
         let call = match left.next() {
             Some(call) => call,
             None => return level,

@@ -87,7 +87,8 @@ fn add_asked(
 /// The plan for what was found: in each list the sites of the program that some report needs, in ascending order. It
 /// suits the program if a run of the program found this.
 ///
-/// Time and memory are linear in the marks and the reports, but that sites are sorted.
+/// Memory is linear in the marks and the reports. So is the time, but that sites are sorted, and that a path is looked at
+/// from its store outward up to the first site whose score no score exceeds.
 pub fn plan(alloc: Global, checked: &Checked, findings: &SharedFindings) -> Result<Plan, NoMemory>
     ensures is { IfOk result (λ plan. plan ≡ plan_for checked.now findings.now) }
     ensures suits { IfOk result (λ plan. (I : Input) → IsFound checked.now I findings.now →

@@ -1,7 +1,7 @@
-ghost use Rattle.std.specs.Prelude.{◌≡◌, ℕ, nat_eq, IfOk};
+ghost use Rattle.std.specs.Prelude.{◌≡◌, ℕ, nat_eq, pos, IfOk};
 ghost use Rattle.std.specs.List.{list_any};
 ghost use Rattle.hip_runs.specs.Found.Scores.{is_marked};
-ghost use Rattle.hip_plan.specs.Worths.{HasWorths, worth_among};
+ghost use Rattle.hip_plan.specs.Worths.{HasWorths, greater_one, greatest_among, worth_among};
 
 use crate::worths::{Worths, worth_of};
 use hip_findings::SharedFindings;
@@ -19,6 +19,8 @@ type OperandKey = (Site, usize);
 pub struct WorthTable<'a> {
     found: &'a SharedFindings,
     worths: BTreeMap<OperandKey, i128>,
+    // The greatest worth, or 0, which is that of an operand without marks.
+    greatest: i128,
 }
 
 // By hand, so that each exit of a function that has a table is one call.
@@ -27,19 +29,20 @@ impl Drop for WorthTable<'_> {
         let WorthTable {
             found: _,
             worths: _,
+            greatest: _,
         } = self;
     }
 }
 
 impl<'a> Model for WorthTable<'a> {
     ghost use Rattle.hip_runs.specs.declared.report.Findings.{Findings};
-    ghost use Rattle.hip_plan.specs.Worths.{HasWorths};
+    ghost use Rattle.hip_plan.specs.Worths.{IsTable};
 
     ghost Value = { Findings };
 
     ghost view = { λ t. t.found.now };
 
-    ghost invariant = { λ t. HasWorths t.worths.entries t.found.now.marks.hit t.found.now.marks.pointed };
+    ghost invariant = { λ t. IsTable t.worths.entries t.greatest t.found.now.marks };
 }
 
 fn set_of(alloc: Global, numbers: &[usize]) -> Result<BTreeSet<usize>, NoMemory>
@@ -92,6 +95,23 @@ fn worths_of(
     Ok(worths)
 }
 
+fn greater_one(a: i128, b: i128) -> i128
+    ensures { result ≡ greater_one a b }
+{
+    if a < b { b } else { a }
+}
+
+/// The greatest worth in the table; 0 where none is above it.
+fn greatest_among(worths: &BTreeMap<OperandKey, i128>) -> i128
+    ensures { result ≡ greatest_among (pos 0) worths.now.entries }
+{
+    let mut greatest = 0i128;
+    'each: for (_, worth) in worths.iter() {
+        greatest = greater_one(greatest, *worth);
+    }
+    greatest
+}
+
 impl<'a> WorthTable<'a> {
     /// The table of a run's marks. It takes memory linear in the marks, and time linear but that operands are sorted.
     pub fn new(alloc: Global, found: &'a SharedFindings) -> Result<WorthTable<'a>, NoMemory>
@@ -99,7 +119,12 @@ impl<'a> WorthTable<'a> {
     {
         let marks = found.marks();
         let worths = worths_of(alloc, marks.hit.as_slice(), marks.pointed.as_slice())?;
-        Ok(WorthTable { found, worths })
+        let greatest = greatest_among(&worths);
+        Ok(WorthTable {
+            found,
+            worths,
+            greatest,
+        })
     }
 }
 
@@ -108,5 +133,9 @@ impl<'a> Worths for WorthTable<'a> {
 
     fn worth(&self, site: Site, operand: usize) -> i128 {
         worth_among(&self.worths, (site, operand))
+    }
+
+    fn limit(&self) -> i128 {
+        self.greatest
     }
 }

@@ -2,7 +2,7 @@ ghost use Rattle.std.specs.List.{list_any};
 ghost use Rattle.std.specs.Prelude.{◌≡◌, nat_eq, pos};
 ghost use Rattle.hip_runs.specs.Found.Scores as spec;
 ghost use Rattle.hip_runs.specs.Found.Scores.{worth, worth_in};
-ghost use Rattle.hip_plan.specs.Worths.{added_by};
+ghost use Rattle.hip_plan.specs.Worths.{IsLimit, added_by};
 ghost use Rattle.hip_runs.specs.declared.report.Findings.{Findings};
 
 use hip_findings::SharedFindings;
@@ -16,6 +16,10 @@ pub trait Worths {
     /// The worth of that pointer operand of a site: how many marked objects it pointed into, less how many others.
     fn worth(&self, site: Site, operand: usize) -> i128
         ensures { result ≡ worth (found self.now).marks site operand };
+
+    /// A number that no worth is above.
+    fn limit(&self) -> i128
+        ensures { IsLimit (found self.now).marks result };
 }
 
 /// Findings go through all their marks for each operand, and take no memory.
@@ -29,6 +33,10 @@ impl Worths for SharedFindings {
             site,
             operand,
         )
+    }
+
+    fn limit(&self) -> i128 {
+        self.marks().pointed.len() as i128
     }
 }
 

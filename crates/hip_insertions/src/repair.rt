@@ -191,7 +191,7 @@ impl Repair<'_> {
         ensures needed { OnOk result (needed.new ≡ noted needed.old
             (marked_blocks self.now.clones (wanted_in self.now) place.is_clone place.function 0 blocks.now)) }
     {
-        let mut repaired = Row::new(alloc);
+        let mut repaired = Row::from_vec(Vec::with_capacity(alloc, blocks.len())?);
         'each: for number in 0..blocks.len() {
             repaired.push(self.block(alloc, needed, place, number, &blocks[number])?)?;
         }

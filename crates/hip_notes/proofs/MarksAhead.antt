@@ -1,17 +1,11 @@
 -- The marks of the next instruction, operand by operand.
 use Rattle.std.proofs.Common.{◌≡◌, ◌⊎◌, inl, inr, ℕ, zero, suc, ◌+◌, ◌≤◌, Bool, true, false, cond, List, [], ◌∷◌, ◌++◌, append_assoc, append-nil, length, drop, Option, Some, None, option_map, slice_get, refl, sym, ap, ap₂, ◌∙◌, subst, arith}
-use Rattle.std.specs.Prelude.{is_some}
 use Rattle.hip_tree.specs.Sites.{instr_of}
-use Rattle.std.specs.List.{flat_map}
-use Rattle.hip_types.specs.declared.number.Scalar.{Scalar}
-use Rattle.hip_sound.specs.Numbering.{function_number}
-use Rattle.hip_tree.specs.declared.instr.Arg.{Arg}
-use Rattle.hip_tree.specs.declared.instr.Instr.TheVariants.{Call}
 use Rattle.hip_tree.specs.declared.instr.Instr.{Instr}
 use Rattle.hip_tree.specs.declared.instr.Operand.{Operand}
 use Rattle.hip_tree.specs.declared.program.Program.{Program}
 use Rattle.hip_tree.specs.declared.site.Site.{Site}
-use Rattle.hip_runs.specs.Found.Marks.{code_marks, frame_marks, mark_of, operand_marks, pointer_arg, pointer_operands}
+use Rattle.hip_runs.specs.Found.Marks.{code_marks, frame_marks, mark_of, operand_marks, pointer_operands}
 use Rattle.hip_runs.specs.Found.Objects.{object_at}
 use Rattle.hip_runs.specs.Laws.HistoryLaws.{instr_at_place}
 use Rattle.hip_runs.specs.Laws.Members.{get_drop}
@@ -146,12 +140,14 @@ module _ (P : Program) (I : Input) (s : State) (site : Site) (n : IsNext P s sit
       ∙ sym (ap (λ r. marks_to P I s site count ++ From count r) (drop_all Ops count h))
       ∙ to_here count ∙ sym ahead_is
 
--- ---- how many pointer operands there are
+  -- where no pointer is left
+  pub all_before : (k : ℕ) → pointer_of P I s k ≡ None → marks_to P I s site k ≡ marks_ahead P I s
+  all_before k none = all_ahead k (few k Ops (sym (pointer_is k) ∙ none))
+    where
+      no_value : (o : Operand) → option_map (value_of P.globals I.base n.frame.registers) (Some o) ≡ None → ⊥
+      no_value o e = let z : ⊥ = cc in z
 
-pub few_operands : (P : Program) (i : Instr) (dest : Option (List ℕ)) (ret : Option Scalar) (callee : List ℕ) (args : List Arg) → i ≡ Call dest ret callee args → (n : ℕ) → length (flat_map pointer_arg args) ≤ n
-    → length (pointer_operands P i) ≤ n
-few_operands P i dest ret callee args e n h = subst (λ (j : Instr). length (pointer_operands P j) ≤ n) (sym e) (go (is_some (function_number P callee)))
-  where
-    go : (t : Bool) → length (cond t (flat_map pointer_arg args) []) ≤ n
-    go true = h
-    go false = omega arith
+      few : (j : ℕ) (os : List Operand) → option_map (value_of P.globals I.base n.frame.registers) (slice_get os j) ≡ None → length os ≤ j
+      few j [] e = omega arith
+      few zero (o ∷ os) e = absurd (no_value o e)
+      few (suc j) (o ∷ os) e = let le = few j os e in omega (arith, le)

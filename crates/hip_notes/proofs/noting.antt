@@ -2,6 +2,5 @@ pub mod Assembled
 pub mod CallSteps
 pub mod CallsInside
 pub mod LooseSteps
-pub mod PlainSteps
 pub mod Steps
 pub mod Still

@@ -6,4 +6,3 @@ pub mod Standing
 pub mod MarkKeys
 pub mod Noted
 pub mod Sights
-pub mod Plain

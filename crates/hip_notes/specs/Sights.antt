@@ -3,7 +3,7 @@ use Rattle.std.specs.Prelude.{◌≡◌, ℕ, zero, suc, Bool, true, false, cond
 use Rattle.hip_types.specs.Distinct.{met}
 use Rattle.hip_tree.specs.declared.program.Program.{Program}
 use Rattle.hip_tree.specs.declared.site.Site.{Site}
-use Rattle.hip_runs.specs.Found.Marks.{frame_marks, mark_of, same_mark}
+use Rattle.hip_runs.specs.Found.Marks.{frame_marks, mark_of, same_mark, unless_ended}
 use Rattle.hip_runs.specs.Found.Objects.{object_at}
 use Rattle.hip_runs.specs.State.{State}
 use Rattle.hip_runs.specs.Step.{has_ended}
@@ -36,6 +36,10 @@ marks_to P I s site (suc k) = marks_to P I s site k ++ mark_at P I s site k
 -- to marks that were met, these add what those add
 abbrev pub AddAlike : List Mark → List Mark → List Mark → Type 0
 AddAlike met_before these those = met same_mark met_before these ≡ met same_mark met_before those
+
+-- unless a step with this event ends the run, these marks add what those add
+abbrev pub AddUnlessEnded : Event → List Mark → List Mark → List Mark → Type 0
+AddUnlessEnded e met_before these those = AddAlike met_before (unless_ended e these) (unless_ended e those)
 
 -- whether a step with this event does nothing that is noted: it is quiet or prints
 abbrev pub is_still : Event → Bool

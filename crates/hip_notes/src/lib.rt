@@ -1,7 +1,6 @@
 //! What is kept of a run for its reports and marks, step by step, and the laws by which it gives what the run finds.
 #![tactic(auto)]
 
-mod ahead;
 mod calls;
 mod checks;
 mod forget;
@@ -10,7 +9,6 @@ mod notes;
 mod pending;
 mod region;
 
-pub use ahead::{Ahead, NOTHING, ahead_at};
 pub use marks::{globals_of, is_recent, marks_of, meet_global};
 pub use notes::{Moment, Notes};
 pub use region::Region;

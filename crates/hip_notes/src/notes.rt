@@ -1,4 +1,4 @@
-ghost use Rattle.std.specs.Prelude.{◌≡◌, ◌⊎◌, ℕ, ◌+◌, ◌-◌, ◌*◌, ◌/◌, ◌≤◌, ◌<◌, ◌^◌, [], ◌∷◌, ◌++◌, Some, None, cond, true, length, map, take, drop, option_map, IfOk, OnOk};
+ghost use Rattle.std.specs.Prelude.{◌≡◌, ◌⊎◌, ℕ, ◌+◌, ◌-◌, ◌*◌, ◌/◌, ◌≤◌, ◌<◌, ◌^◌, [], ◌∷◌, ◌++◌, Some, None, cond, true, length, map, nat_le, take, drop, option_map, IfOk, OnOk};
 ghost use Rattle.hip_lines.specs.Line.{has_bytes};
 ghost use Rattle.hip_lines.specs.Parts.{loose_from};
 ghost use Rattle.hip_types.specs.Distinct.{met};
@@ -42,8 +42,6 @@ pub struct Notes {
     pub header: u128,
     pub steps: u128,
     pub entries: u128,
-    // The number of next steps that are known to be at plain places, unless the run ends.
-    pub plain: usize,
     // The step of the last fence.
     pub fence: Option<u128>,
     // The calls that stand, and their births, the outermost one first.
@@ -66,7 +64,6 @@ impl Notes {
         ensures header { IfOk result (λ notes. notes.header ≡ header) }
         ensures steps { IfOk result (λ notes. notes.steps ≡ 0) }
         ensures entries { IfOk result (λ notes. notes.entries ≡ header) }
-        ensures plain { IfOk result (λ notes. notes.plain ≡ 0) }
         ensures fence { IfOk result (λ notes. notes.fence ≡ None) }
         ensures calls { IfOk result (λ notes. notes.calls ≡ []) }
         ensures births { IfOk result (λ notes. notes.births.items ≡ []) }
@@ -84,7 +81,6 @@ impl Notes {
             header,
             steps: 0,
             entries: header,
-            plain: 0,
             fence: None,
             calls,
             births: Vec::new(alloc),
@@ -269,19 +265,24 @@ impl Notes {
         self.steps += 1;
     }
 
-    /// Drops the notes that no loose byte needs, when there are twice as many stores as were kept last. So the cost of a
-    /// look is spread over as many stores, and memory does not grow with the steps.
+    /// Whether there are twice as many stores as were kept last.
     #[inline(always)]
+    pub fn are_many(&self) -> bool
+        ensures { result ≡ nat_le self.now.enough (length self.now.pending.stores.items) }
+    {
+        self.pending.stores.len() >= self.enough
+    }
+
+    /// Drops the notes that no loose byte needs. Where this waits until there are many, the cost of a look is spread over
+    /// as many stores, and memory does not grow with the steps.
     pub fn forget(&mut self, alloc: Global, region: &Region<'_>)
         requires region { IsWhole region.now }
         requires order { AreInOrder self.old.pending }
         ensures kept { IsForgotten region.now.lines.now.lines region.now.size self.old.pending self.new.pending }
         ensures rest { self.new ≡ record self.old { pending = self.new.pending; enough = self.new.enough } }
     {
-        if self.pending.stores.len() >= self.enough {
-            forget_in(alloc, &mut self.pending, region.lines, region.size);
-            self.enough = enough_for(self.pending.stores.len());
-        }
+        forget_in(alloc, &mut self.pending, region.lines, region.size);
+        self.enough = enough_for(self.pending.stores.len());
     }
 }
 

@@ -16,7 +16,6 @@ use Rattle.hip_runs.specs.declared.input.Input.{Input}
 use Rattle.hip_runs.specs.Seen.{Seen, after_step}
 use Rattle.hip_engine.specs.Quiet.{ComesTo}
 use Rattle.hip_notes.specs.MarkKeys.{AreMet, mark_of, WereHit}
-use Rattle.hip_notes.specs.Plain.{AreTracked}
 use Rattle.hip_notes.specs.Noted.{AreNoted}
 use Rattle.hip_notes.specs.Pending.{lines_of, StoresAscend}
 use Rattle.hip_notes.specs.Standing.{IsLooseAt, Tells}
@@ -37,10 +36,10 @@ tells_none P I header notes lines e h = record {
   kept = λ b k x l. absurd (none_loose P I b k x l);
 }
 
-nothing_noted : (c : Notes) → c.header ≤ 2 ^ 64 → c.steps ≡ 0 → c.entries ≡ c.header → c.fence ≡ None → c.calls ≡ [] → c.births.items ≡ [] → c.pending.stores.items ≡ []
+pub blank : (c : Notes) → c.header ≤ 2 ^ 64 → c.steps ≡ 0 → c.entries ≡ c.header → c.fence ≡ None → c.calls ≡ [] → c.births.items ≡ [] → c.pending.stores.items ≡ []
     → ((j : ℕ) → lines_of c.pending.lines j ≡ None) → c.marks.keys ≡ [] → AreMet [] c.recent.items → c.hit.keys ≡ [] → WereHit [] c.flags.items → c.reports ≡ [] → (P : Program) (I : Input) → AreNoted P I 0 c
 unfolding run last_fence pointed hit reports
-nothing_noted c h steps entries fence calls births stores lines marks recent hits flags rs P I = record {
+blank c h steps entries fence calls births stores lines marks recent hits flags rs P I = record {
   steps = steps;
   counted = refl;
   entries = λ e. entries ∙ e;
@@ -55,13 +54,6 @@ nothing_noted c h steps entries fence calls births stores lines marks recent hit
   hit = hits;
   flags = subst (λ hs. WereHit hs c.flags.items) (sym hits) flags;
   reports = λ e. rs;
-}
-
-pub blank : (c : Notes) → c.header ≤ 2 ^ 64 → c.steps ≡ 0 → c.entries ≡ c.header → c.plain ≡ 0 → c.fence ≡ None → c.calls ≡ [] → c.births.items ≡ [] → c.pending.stores.items ≡ []
-    → ((j : ℕ) → lines_of c.pending.lines j ≡ None) → c.marks.keys ≡ [] → AreMet [] c.recent.items → c.hit.keys ≡ [] → WereHit [] c.flags.items → c.reports ≡ [] → (P : Program) (I : Input) → AreTracked P I 0 c
-blank c h steps entries plain fence calls births stores lines marks recent hits flags rs P I = record {
-  noted = nothing_noted c h steps entries fence calls births stores lines marks recent hits flags rs P I;
-  plain = λ lt. absurd (omega (arith, plain, lt));
 }
 
 -- ---- the source and the machine
@@ -84,23 +76,23 @@ event_in_run m m' e c = record {
   input = ap (λ (x : Seen). x.input) c.step ∙ ap (λ (x : Seen). x.input) c.quiet.is;
 }
 
-notes_of : (o : Option Source) (m m' : Seen) (c : Notes) → IsSource o m → longest m.program < 2 ^ 64 → IsInRun m m' → AreTracked m'.program m'.input m'.taken c → NotesOf o c
+notes_of : (o : Option Source) (m m' : Seen) (c : Notes) → IsSource o m → longest m.program < 2 ^ 64 → IsInRun m m' → AreNoted m'.program m'.input m'.taken c → NotesOf o c
 notes_of None m m' c s short e h = absurd s
 notes_of (Some s) m m' c is short e h =
     let p : m'.program ≡ s.checked.now = e.program ∙ sym is.0 in
     let i : m'.input ≡ s.input.now = e.input ∙ sym is.1 in (
-      subst (λ k. AreTracked s.checked.now s.input.now k c) (sym h.noted.steps) (subst (λ (x : Input). AreTracked s.checked.now x m'.taken c) i (subst (λ (x : Program). AreTracked x m'.input m'.taken c) p h)),
+      subst (λ k. AreNoted s.checked.now s.input.now k c) (sym h.steps) (subst (λ (x : Input). AreNoted s.checked.now x m'.taken c) i (subst (λ (x : Program). AreNoted x m'.input m'.taken c) p h)),
       subst (λ (x : Program). longest x < 2 ^ 64) (sym is.0) short,
     )
 
-seen_is : (o : Option Source) (m m' : Seen) (c : Notes) → IsSource o m → IsInRun m m' → AreTracked m'.program m'.input m'.taken c → seen_in o c.steps ≡ Some m'
+seen_is : (o : Option Source) (m m' : Seen) (c : Notes) → IsSource o m → IsInRun m m' → AreNoted m'.program m'.input m'.taken c → seen_in o c.steps ≡ Some m'
 seen_is None m m' c s e h = absurd s
 seen_is (Some s) m m' c is e h =
     let p : s.checked.now ≡ m'.program = is.0 ∙ sym e.program in
     let i : s.input.now ≡ m'.input = is.1 ∙ sym e.input in
     ap (λ (x : Program). Some (record { program = x; input = s.input.now; taken = c.steps })) p
     ∙ ap (λ (x : Input). Some (record { program = m'.program; input = x; taken = c.steps })) i
-    ∙ ap (λ k. Some (record { program = m'.program; input = m'.input; taken = k })) h.noted.steps
+    ∙ ap (λ k. Some (record { program = m'.program; input = m'.input; taken = k })) h.steps
 
-pub has_notes : (o : Option Source) (m m' : Seen) (c : Notes) → IsSource o m → longest m.program < 2 ^ 64 → IsInRun m m' → AreTracked m'.program m'.input m'.taken c → HasNotes o c m'
+pub has_notes : (o : Option Source) (m m' : Seen) (c : Notes) → IsSource o m → longest m.program < 2 ^ 64 → IsInRun m m' → AreNoted m'.program m'.input m'.taken c → HasNotes o c m'
 has_notes o m m' c s short e h = record { notes = notes_of o m m' c s short e h; seen = seen_is o m m' c s e h }

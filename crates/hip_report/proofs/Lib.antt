@@ -2,3 +2,4 @@ pub mod Blank
 pub mod Noted
 pub mod Stepping
 pub mod Locally
+pub mod Sighted

@@ -33,11 +33,10 @@ use Rattle.hip_engine.specs.Quiet.{GoesQuietly, after_steps, next_event}
 use Rattle.hip_engine.proofs.Quietly.{one_step, steps_then}
 use Rattle.hip_notes.specs.MarkKeys.{mark_of}
 use Rattle.hip_notes.specs.Noted.{AreNoted}
-use Rattle.hip_notes.specs.Plain.{AreTracked}
 use Rattle.hip_notes.specs.Sights.{is_still, marks_ahead}
 use Rattle.hip_notes.specs.declared.notes.Notes.{Notes}
 use Rattle.hip_notes.proofs.noting.Assembled.{few_at}
-use Rattle.hip_notes.proofs.noting.PlainSteps.{ahead_tracked}
+use Rattle.hip_notes.proofs.MarksAtHand.{unless_alike}
 use Rattle.hip_notes.proofs.noting.Still.{still_noted}
 
 -- ---- the instruction of a local action
@@ -175,44 +174,40 @@ next_step P I n = refl
 
 -- the notes after some local steps more
 abbrev pub passed : Notes → ℕ → Notes
-passed c k = record c { steps = c.steps + k; plain = c.plain - k }
+passed c k = record c { steps = c.steps + k }
 
-tracked_next : (P : Program) (I : Input) (n : ℕ) → IsLocal (record { program = P; input = I; taken = n }) → (c : Notes) → AreTracked P I n c → AreTracked P I (suc n) (passed c 1)
-tracked_next P I n h c t =
+noted_next : (P : Program) (I : Input) (n : ℕ) → IsLocal (record { program = P; input = I; taken = n }) → (c : Notes) → AreNoted P I n c → AreNoted P I (suc n) (passed c 1)
+noted_next P I n h c t =
     let s = run P I n in
     let going = goes_on P I s h.quiet in
     let depth = ap (λ (x : State). length x.frames) (next_step P I n) ∙ keeps_depth P I s h.top h.below h.frames h.action in
     let marks = no_marks P I s h.top h.below h.frames h.action going in
-    let noted : AreNoted P I (suc n) (record c { steps = c.steps + 1 }) =
-    still_noted P I n going (stack_is_shaped P I n).is.calls c (record c { steps = c.steps + 1 }) t.noted (ap is_still h.quiet) depth
-    (ap (met same_mark (map mark_of c.marks.keys)) (sym marks)) refl in
-    ahead_tracked P I n c.plain (c.plain - 1) events.Quiet (sym h.quiet) (record c { steps = c.steps + 1 }) noted t.plain (λ lt. (refl, omega (arith, lt), refl))
+    still_noted P I n going (stack_is_shaped P I n).is.calls c (passed c 1) t (ap is_still h.quiet) depth
+    (unless_alike (event P I s) (map mark_of c.marks.keys) [] (marks_ahead P I s) (ap (met same_mark (map mark_of c.marks.keys)) (sym marks))) refl
 
-module _ (m m' : Seen) (k : ℕ) (p : PassesLocally m k m') (c : Notes) (t : AreTracked m.program m.input m.taken c) where
-  tracked_after : (j : ℕ) → ((n : ℕ) → n < j → IsLocal (after_steps m n)) → AreTracked m.program m.input (m.taken + j) (passed c j)
-  tracked_after zero h =
+module _ (m m' : Seen) (k : ℕ) (p : PassesLocally m k m') (c : Notes) (t : AreNoted m.program m.input m.taken c) where
+  noted_after : (j : ℕ) → ((n : ℕ) → n < j → IsLocal (after_steps m n)) → AreNoted m.program m.input (m.taken + j) (passed c j)
+  noted_after zero h =
       let steps : c.steps ≡ c.steps + 0 = omega arith in
-      let plain : c.plain ≡ c.plain - 0 = omega arith in
-      let same : c ≡ passed c 0 = ap (λ i. record c { steps = i }) steps ∙ ap (λ i. record c { steps = c.steps + 0; plain = i }) plain in
-      subst (λ i. AreTracked m.program m.input i (passed c 0)) (let e : m.taken ≡ m.taken + 0 = omega arith in e)
-      (subst (λ (x : Notes). AreTracked m.program m.input m.taken x) same t)
-  tracked_after (suc j) h =
+      let same : c ≡ passed c 0 = ap (λ i. record c { steps = i }) steps in
+      subst (λ i. AreNoted m.program m.input i (passed c 0)) (let e : m.taken ≡ m.taken + 0 = omega arith in e)
+      (subst (λ (x : Notes). AreNoted m.program m.input m.taken x) same t)
+  noted_after (suc j) h =
       let steps : c.steps + j + 1 ≡ c.steps + suc j = omega arith in
-      let plain : c.plain - j - 1 ≡ c.plain - suc j = omega arith in
-      let same : passed (passed c j) 1 ≡ passed c (suc j) = ap (λ i. record c { steps = i; plain = c.plain - j - 1 }) steps ∙ ap (λ i. record c { steps = c.steps + suc j; plain = i }) plain in
-      subst (λ i. AreTracked m.program m.input i (passed c (suc j))) (let e : suc (m.taken + j) ≡ m.taken + suc j = omega arith in e)
-      (subst (λ (x : Notes). AreTracked m.program m.input (suc (m.taken + j)) x) same
-      (tracked_next m.program m.input (m.taken + j) (h j (omega arith)) (passed c j) (tracked_after j (λ n lt. h n (omega (arith, lt))))))
+      let same : passed (passed c j) 1 ≡ passed c (suc j) = ap (λ i. record c { steps = i }) steps in
+      subst (λ i. AreNoted m.program m.input i (passed c (suc j))) (let e : suc (m.taken + j) ≡ m.taken + suc j = omega arith in e)
+      (subst (λ (x : Notes). AreNoted m.program m.input (suc (m.taken + j)) x) same
+      (noted_next m.program m.input (m.taken + j) (h j (omega arith)) (passed c j) (noted_after j (λ n lt. h n (omega (arith, lt))))))
 
   -- the notes follow
-  pub tracked_passed : AreTracked m'.program m'.input m'.taken (passed c k)
-  tracked_passed = subst (λ (x : Seen). AreTracked x.program x.input x.taken (passed c k)) (sym p.is) (tracked_after k p.local)
+  pub noted_passed : AreNoted m'.program m'.input m'.taken (passed c k)
+  noted_passed = subst (λ (x : Seen). AreNoted x.program x.input x.taken (passed c k)) (sym p.is) (noted_after k p.local)
 
   -- the steps can be counted
   pub passed_few : IsBounded m.program m.input (m.taken + k) → m.input.limit ≤ 2 ^ 40 → longest m.program < 2 ^ 64 → c.steps + k < 2 ^ 128
   passed_few bounded limit short =
-      let few = few_at m.program m.input (m.taken + k) (passed c k) (tracked_after k p.local).noted bounded limit short in
-      let taken = t.noted.steps in
+      let few = few_at m.program m.input (m.taken + k) (passed c k) (noted_after k p.local) bounded limit short in
+      let taken = t.steps in
       omega (arith, few, taken)
 
 -- local steps have no event

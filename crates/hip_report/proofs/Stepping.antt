@@ -5,16 +5,13 @@ use Rattle.hip_tree.specs.declared.program.Program.{Program}
 use Rattle.hip_runs.specs.Found.Objects.{global_at, object_at, or_else, slot_at, slot_in}
 use Rattle.hip_runs.specs.Seen.{after_step, Seen, state_of}
 use Rattle.hip_runs.specs.State.{Frame, Slot}
-use Rattle.hip_runs.specs.Step.{event, has_ended, run}
+use Rattle.hip_runs.specs.Step.{has_ended}
 use Rattle.hip_runs.specs.declared.event.Event.{Event}
-use Rattle.hip_runs.specs.declared.event.Event.TheVariants as events
 use Rattle.hip_runs.specs.declared.event.Object.{Object}
 use Rattle.hip_runs.specs.declared.event.Object.TheVariants as objects
-use Rattle.hip_notes.specs.Noted.{AreNoted}
-use Rattle.hip_notes.specs.Plain.{AreTracked, IsPlainFor}
 use Rattle.hip_notes.specs.declared.notes.Notes.{Notes}
-use Rattle.hip_notes.proofs.noting.PlainSteps.{ahead_tracked}
-use Rattle.hip_report.specs.Stepping.{HasPassed, HasTaken, StandsBefore, Tracks, global_of}
+use Rattle.hip_report.specs.Stepping.{HasStepped, HasTaken, StandsBefore, global_of}
+use Rattle.hip_notes.specs.Noted.{AreNoted}
 use Rattle.hip_report.specs.declared.sight.Sight.{Sight}
 
 pub has_taken : (m m' : Seen) (e : Event) (c : Notes) (sight : Sight) → m' ≡ after_step m → has_ended (state_of m) ≡ false
@@ -25,31 +22,24 @@ has_taken m m' e c sight step going h =
     (subst (λ t. HasTaken (record m { taken = cond t m.taken (suc m.taken) }) e c sight) (sym going)
     (omega arith, subst (λ i. StandsBefore m.program m.input i e c sight) (sym back) h))
 
-pub has_passed : (m m' : Seen) (e : Event) (c : Notes) → m' ≡ after_step m → e ≡ event m.program m.input (state_of m) → Tracks m c → 0 < c.plain
-    → HasPassed m' e c
-has_passed m m' e c step is t some =
-    let going : has_ended (state_of m) ≡ false = (t.noted.plain some).going some in
-    let here : HasPassed (record m { taken = suc m.taken }) e c = record {
-      taken = omega arith;
-      noted = subst (λ i. AreTracked m.program m.input i c) (sym back) t.noted;
-      short = t.short;
-      plain = some;
-      event = is ∙ ap (λ i. event m.program m.input (run m.program m.input i)) (sym back);
-    } in
-    subst (λ (x : Seen). HasPassed x e c) (sym step)
-    (subst (λ b. HasPassed (record m { taken = cond b m.taken (suc m.taken) }) e c) (sym going) here)
-  where
-    back : suc m.taken - 1 ≡ m.taken
-    back = omega arith
+-- where the run goes on, the machine has taken a step
+pub taken_by : (m : Seen) (e : Event) (c : Notes) (sight : Sight) → HasStepped m e c sight → sight.ended ≡ false → HasTaken m e c sight
+taken_by m e c sight h on =
+    let going = sym h.sees.ended ∙ on in
+    has_taken h.before m e c sight h.takes.step going (record {
+      noted = h.tracks.noted;
+      short = h.tracks.short;
+      going = going;
+      seen = h.takes.event;
+      sees = h.sees;
+    })
 
--- the notes of a machine that has taken a step, of which so many plain places are next
-pub tracked_then : (m m' : Seen) (count k : ℕ) (e : Event) (c : Notes) → m' ≡ after_step m → has_ended (state_of m) ≡ false → e ≡ event m.program m.input (state_of m)
-    → AreNoted m'.program m'.input m'.taken c → (0 < count → IsPlainFor m.program (state_of m) count)
-    → (0 < k → (e ≡ events.Quiet) × (0 < count) × (k ≡ count - 1)) → AreTracked m'.program m'.input m'.taken (record c { plain = k })
-tracked_then m m' count k e c step going is noted known after =
-    let next : m' ≡ record m { taken = suc m.taken } = step ∙ ap (λ t. record m { taken = cond t m.taken (suc m.taken) }) going in
-    subst (λ (x : Seen). AreTracked x.program x.input x.taken (record c { plain = k })) (sym next)
-    (ahead_tracked m.program m.input m.taken count k e is c (subst (λ (x : Seen). AreNoted x.program x.input x.taken c) next noted) known after)
+-- where the run has ended, the notes stay
+pub stays_noted : (m : Seen) (e : Event) (c : Notes) (sight : Sight) → HasStepped m e c sight → sight.ended ≡ true → AreNoted m.program m.input m.taken c
+stays_noted m e c sight h off =
+    let ended = sym h.sees.ended ∙ off in
+    let same : m ≡ h.before = h.takes.step ∙ ap (λ t. record h.before { taken = cond t h.before.taken (suc h.before.taken) }) ended in
+    subst (λ (x : Seen). AreNoted x.program x.input x.taken c) (sym same) h.tracks.noted
 
 -- ---- the global that an object is
 

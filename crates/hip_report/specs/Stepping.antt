@@ -12,8 +12,7 @@ use Rattle.hip_runs.specs.declared.event.Object.TheVariants as objects
 use Rattle.hip_runs.specs.declared.input.Input.{Input}
 use Rattle.hip_notes.specs.MarkKeys.{mark_of}
 use Rattle.hip_notes.specs.Noted.{AreNoted}
-use Rattle.hip_notes.specs.Plain.{AreTracked, IsPlainFor}
-use Rattle.hip_notes.specs.Sights.{AddAlike, marks_ahead}
+use Rattle.hip_notes.specs.Sights.{AddUnlessEnded, marks_ahead}
 use Rattle.hip_notes.specs.declared.notes.Notes.{Notes}
 use Rattle.hip_report.specs.declared.sight.Sight.{Sight}
 use Rattle.hip_report.specs.declared.sight.Target.{Target}
@@ -25,7 +24,7 @@ pub record TakesStep (old new : Seen) (e : Event) : Type 0 where
 
 -- The notes are those of the steps of a machine, whose program has no block of 2^64 instructions.
 pub record Tracks (m : Seen) (c : Notes) : Type 0 where
-  pub noted : AreTracked m.program m.input m.taken c
+  pub noted : AreNoted m.program m.input m.taken c
   pub short : longest m.program < 2 ^ 64
 
 -- ---- what is seen before a step
@@ -45,8 +44,7 @@ pub record Sees (P : Program) (I : Input) (s : State) (c : Notes) (sight : Sight
   pub ended : sight.ended ≡ has_ended s
   pub site : sight.site ≡ next_site P s
   pub depth : sight.depth ≡ length s.frames
-  pub plain : 0 < sight.plain → IsPlainFor P s sight.plain
-  pub marks : AddAlike (map mark_of c.marks.keys) sight.pointed.marks (marks_ahead P I s)
+  pub marks : AddUnlessEnded (event P I s) (map mark_of c.marks.keys) sight.pointed.marks (marks_ahead P I s)
   pub last : TellsGlobal P I sight.pointed.last
 
 -- ---- a step that a machine has taken
@@ -64,10 +62,9 @@ pub record StandsBefore (P : Program) (I : Input) (n : ℕ) (e : Event) (c : Not
 abbrev pub HasTaken : Seen → Event → Notes → Sight → Type 0
 HasTaken m e c sight = (0 < m.taken) × StandsBefore m.program m.input (m.taken - 1) e c sight
 
--- A machine has taken a step with this event at a plain place, before which the notes were these.
-pub record HasPassed (m : Seen) (e : Event) (c : Notes) : Type 0 where
-  pub taken : 0 < m.taken
-  pub noted : AreTracked m.program m.input (m.taken - 1) c
-  pub short : longest m.program < 2 ^ 64
-  pub plain : 0 < c.plain
-  pub event : e ≡ event m.program m.input (run m.program m.input (m.taken - 1))
+-- A machine stood where the notes were these and this was seen, and has taken a step with this event, unless it had ended.
+pub record HasStepped (m : Seen) (e : Event) (c : Notes) (sight : Sight) : Type 0 where
+  pub before : Seen
+  pub takes : TakesStep before m e
+  pub tracks : Tracks before c
+  pub sees : Sees before.program before.input (state_of before) c sight

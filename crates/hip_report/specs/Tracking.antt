@@ -4,7 +4,7 @@ use Rattle.hip_tree.specs.declared.program.Program.{Program}
 use Rattle.hip_runs.specs.Ends.{longest}
 use Rattle.hip_runs.specs.declared.input.Input.{Input}
 use Rattle.hip_runs.specs.Seen.{Seen}
-use Rattle.hip_notes.specs.Plain.{AreTracked}
+use Rattle.hip_notes.specs.Noted.{AreNoted}
 use Rattle.hip_notes.specs.declared.notes.Notes.{Notes}
 use Rattle.hip_report.specs.declared.tracker.Source.{Source}
 use Rattle.hip_report.specs.declared.tracker.Tracker.TheInside.{Inside}
@@ -44,8 +44,8 @@ tracked_of t = record { header = t.notes.header; noted = seen_in t.source t.note
 
 -- the notes are those of the run that was noted, or of any run's first state
 abbrev pub NotesOf : Option Source → Notes → Type 0
-NotesOf None c = (P : Program) → (I : Input) → AreTracked P I 0 c
-NotesOf (Some s) c = AreTracked s.checked.now s.input.now c.steps c × (longest s.checked.now < 2 ^ 64)
+NotesOf None c = (P : Program) → (I : Input) → AreNoted P I 0 c
+NotesOf (Some s) c = AreNoted s.checked.now s.input.now c.steps c × (longest s.checked.now < 2 ^ 64)
 
 -- the source is that of a machine
 abbrev pub IsSource : Option Source → Seen → Type 0

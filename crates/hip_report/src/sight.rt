@@ -1,18 +1,13 @@
-ghost use Rattle.std.specs.Prelude.{◌≡◌, ◌≤◌, ◌<◌, ◌++◌, ◌∷◌, [], None, Some, length, map, IfOk, OnOk};
-ghost use Rattle.hip_tree.specs.Sites.{instr_of};
-ghost use Rattle.hip_tree.specs.declared.instr.Instr.{Instr as Code};
-ghost use Rattle.hip_tree.specs.declared.program.Program.{Program as Whole};
-ghost use Rattle.hip_tree.specs.declared.site.Site.{Site as Place};
-ghost use Rattle.hip_runs.specs.Found.Marks.{pointer_operands};
+ghost use Rattle.std.specs.Prelude.{◌≡◌, ◌+◌, ◌++◌, ◌∷◌, [], None, Some, map, IfOk, OnOk};
+ghost use Rattle.hip_engine.specs.Quiet.{next_event};
 ghost use Rattle.hip_runs.specs.Found.Objects.{global_at, object_at};
 ghost use Rattle.hip_runs.specs.Seen.{next_site, state_of};
 ghost use Rattle.hip_notes.specs.MarkKeys.{AreMet, mark_of};
-ghost use Rattle.hip_notes.specs.Plain.{IsPlainFor};
-ghost use Rattle.hip_notes.specs.Sights.{AddAlike, mark_at, marks_ahead, marks_to};
+ghost use Rattle.hip_notes.specs.Sights.{AddAlike, AddUnlessEnded, mark_by, marks_ahead};
 ghost use Rattle.hip_report.specs.Stepping.{Sees, TellsGlobal, global_of};
 
 use hip_cache::Machine;
-use hip_notes::{Ahead, NOTHING, Notes, ahead_at, is_recent};
+use hip_notes::{Notes, is_recent};
 use hip_runs::{Mark, Object};
 use hip_tree::Site;
 use hip_types::{NoMemory, Row};
@@ -40,8 +35,6 @@ pub struct Sight {
     pub ended: bool,
     pub site: Option<Site>,
     pub depth: usize,
-    // The number of plain places that are next.
-    pub plain: usize,
     pub pointed: Pointed,
 }
 
@@ -52,55 +45,52 @@ pub fn look(alloc: Global, notes: &Notes, machine: &Machine<'_>) -> Result<Sight
     ensures { IfOk result (λ s. Sees machine.now.program machine.now.input (state_of machine.now) notes.now s) }
 {
     let site = machine.site();
-    let ahead = ahead_of(machine, site);
-    let pointed = pointed_by(alloc, notes, machine, site, ahead)?;
+    let pointed = pointed_by(alloc, notes, machine, site)?;
     Ok(Sight {
         ended: machine.ending().is_some(),
         site,
         depth: machine.depth(),
-        plain: ahead.plain,
         pointed,
     })
 }
 
-// What is ahead at the next instruction, if there is one.
-#[inline(always)]
-fn ahead_of(machine: &Machine<'_>, site: Option<Site>) -> Ahead
-    requires { site ≡ next_site machine.now.program (state_of machine.now) }
-    ensures plain { 0 < result.plain → IsPlainFor machine.now.program (state_of machine.now) result.plain }
-    ensures operands { (s : Place) → (P : Whole) → (i : Code) → site ≡ Some s
-        → instr_of machine.now.program s ≡ Some i → length (pointer_operands P i) ≤ result.operands }
-{
-    match site {
-        Some(site) => ahead_at(machine.checked().program(), site),
-        None => NOTHING,
-    }
-}
-
-// What the pointer operands of the next step point into, where this is ahead. A plain place has none.
+// What the pointer operands of the next step point into.
 #[inline(always)]
 fn pointed_by(
     alloc: Global,
     notes: &Notes,
     machine: &Machine<'_>,
     site: Option<Site>,
-    ahead: Ahead,
 ) -> Result<Pointed, NoMemory>
     requires known { AreMet (map mark_of notes.now.marks.keys) notes.now.recent.items }
     requires site { site ≡ next_site machine.now.program (state_of machine.now) }
-    requires plain { 0 < ahead.plain → IsPlainFor machine.now.program (state_of machine.now) ahead.plain }
-    requires operands { (s : Place) → (P : Whole) → (i : Code) → site ≡ Some s
-        → instr_of machine.now.program s ≡ Some i → length (pointer_operands P i) ≤ ahead.operands }
-    ensures marks { IfOk result (λ pointed. AddAlike (map mark_of notes.now.marks.keys) pointed.marks
-        (marks_ahead machine.now.program machine.now.input (state_of machine.now))) }
+    ensures marks { IfOk result (λ pointed. AddUnlessEnded (next_event machine.now) (map mark_of notes.now.marks.keys)
+        pointed.marks (marks_ahead machine.now.program machine.now.input (state_of machine.now))) }
     ensures last { IfOk result (λ pointed. TellsGlobal machine.now.program machine.now.input pointed.last) }
 {
-    if ahead.plain > 0 {
-        return Ok(nothing_pointed(alloc));
-    }
     match site {
-        Some(site) => first_pointed(alloc, notes, machine, site, ahead.operands),
         None => Ok(nothing_pointed(alloc)),
+        Some(site) => pointed_from(alloc, notes, machine, site),
+    }
+}
+
+// What those of the instruction at a site point into. Of a store the op gives the only one; for a call the tree is read.
+#[inline(always)]
+fn pointed_from(
+    alloc: Global,
+    notes: &Notes,
+    machine: &Machine<'_>,
+    site: Site,
+) -> Result<Pointed, NoMemory>
+    requires known { AreMet (map mark_of notes.now.marks.keys) notes.now.recent.items }
+    requires site { next_site machine.now.program (state_of machine.now) ≡ Some site }
+    ensures marks { IfOk result (λ pointed. AddUnlessEnded (next_event machine.now) (map mark_of notes.now.marks.keys)
+        pointed.marks (marks_ahead machine.now.program machine.now.input (state_of machine.now))) }
+    ensures last { IfOk result (λ pointed. TellsGlobal machine.now.program machine.now.input pointed.last) }
+{
+    match machine.store_ahead() {
+        Some(store) => pointed_at(alloc, notes, machine, site, store.addr),
+        None => all_pointed(alloc, notes, machine, site),
     }
 }
 
@@ -115,59 +105,92 @@ fn nothing_pointed(alloc: Global) -> Pointed
     }
 }
 
-// What the first operands point into.
+// What one pointer operand of this value points into.
 #[inline(always)]
-fn first_pointed(
+fn pointed_at(
     alloc: Global,
     notes: &Notes,
     machine: &Machine<'_>,
     site: Site,
-    count: usize,
+    addr: u64,
 ) -> Result<Pointed, NoMemory>
     requires { AreMet (map mark_of notes.now.marks.keys) notes.now.recent.items }
     ensures marks { IfOk result (λ pointed. AddAlike (map mark_of notes.now.marks.keys) pointed.marks
-        (marks_to machine.now.program machine.now.input (state_of machine.now) site count)) }
+        (mark_by machine.now.program machine.now.input (state_of machine.now) site 0 (Some addr))) }
     ensures last { IfOk result (λ pointed. TellsGlobal machine.now.program machine.now.input pointed.last) }
 {
     let mut pointed = nothing_pointed(alloc);
-    'operands: for operand in 0..count {
-        push_operand(notes, machine, site, operand, &mut pointed)?;
-    }
+    push_operand(notes, machine, site, 0, addr, &mut pointed)?;
     Ok(pointed)
 }
 
+// What all pointer operands of the next instruction point into. Its site is given.
+fn all_pointed(
+    alloc: Global,
+    notes: &Notes,
+    machine: &Machine<'_>,
+    site: Site,
+) -> Result<Pointed, NoMemory>
+    requires known { AreMet (map mark_of notes.now.marks.keys) notes.now.recent.items }
+    requires site { next_site machine.now.program (state_of machine.now) ≡ Some site }
+    ensures marks { IfOk result (λ pointed. AddAlike (map mark_of notes.now.marks.keys) pointed.marks
+        (marks_ahead machine.now.program machine.now.input (state_of machine.now))) }
+    ensures last { IfOk result (λ pointed. TellsGlobal machine.now.program machine.now.input pointed.last) }
+{
+    let mut pointed = nothing_pointed(alloc);
+    let mut operand = 0;
+    'operands: loop {
+        match machine.pointer(operand) {
+            None => return Ok(pointed),
+            Some(addr) => {
+                push_operand(notes, machine, site, operand, addr, &mut pointed)?;
+                let next = next_number(operand)?;
+                operand = next;
+            }
+        }
+    }
+}
+
+// The number after this one. There is no memory for an instruction with as many operands.
+#[inline(always)]
+fn next_number(operand: usize) -> Result<usize, NoMemory>
+    ensures { IfOk result (λ next. next ≡ operand + 1) }
+{
+    match operand.checked_add(1) {
+        Some(next) => Ok(next),
+        None => Err(NoMemory),
+    }
+}
+
+// Adds what a pointer operand of this number and value points into.
 #[inline(always)]
 fn push_operand(
     notes: &Notes,
     machine: &Machine<'_>,
     site: Site,
     operand: usize,
+    addr: u64,
     pointed: &mut Pointed,
 ) -> Result<(), NoMemory>
-    requires known { AreMet (map mark_of notes.now.marks.keys) notes.now.recent.items }
-    requires last { TellsGlobal machine.now.program machine.now.input pointed.old.last }
+    requires { AreMet (map mark_of notes.now.marks.keys) notes.now.recent.items }
     ensures marks { OnOk result (AddAlike (map mark_of notes.now.marks.keys) pointed.new.marks
-        (pointed.old.marks ++ mark_at machine.now.program machine.now.input (state_of machine.now) site operand)) }
+        (pointed.old.marks ++ mark_by machine.now.program machine.now.input (state_of machine.now) site operand
+        (Some addr))) }
     ensures last { OnOk result (TellsGlobal machine.now.program machine.now.input pointed.new.last) }
 {
-    match machine.pointer(operand) {
+    let target = target_at(machine, addr);
+    pointed.last = Some(target);
+    match target.object {
         None => Ok(()),
-        Some(addr) => {
-            let target = target_at(machine, addr);
-            pointed.last = Some(target);
-            match target.object {
-                None => Ok(()),
-                Some(object) => push_mark(
-                    notes,
-                    Mark {
-                        site,
-                        operand,
-                        object,
-                    },
-                    &mut pointed.marks,
-                ),
-            }
-        }
+        Some(object) => push_mark(
+            notes,
+            Mark {
+                site,
+                operand,
+                object,
+            },
+            &mut pointed.marks,
+        ),
     }
 }
 

@@ -5,12 +5,13 @@ ghost use Rattle.hip_runs.specs.Found.Marks.{IsFound};
 ghost use Rattle.hip_runs.specs.Step.{event, has_ended, header_entries};
 ghost use Rattle.hip_runs.specs.Seen.{after_step, state_of};
 ghost use Rattle.hip_notes.specs.MarkKeys.{mark_of};
-ghost use Rattle.hip_notes.specs.Plain.{AreTracked};
+ghost use Rattle.hip_notes.specs.Noted.{AreNoted};
 ghost use Rattle.hip_report.specs.Passing.{StopsShort};
 ghost use Rattle.hip_report.specs.Stepping.{TakesStep};
 ghost use Rattle.hip_report.specs.Tracking.{HasNoted, HasNotes, IsSource, MayAdvance, MayNote};
 
 use crate::passing::{is_quiet, pass_locally};
+use crate::sight::look;
 use crate::step::note_step;
 use hip_cache::Machine;
 use hip_findings::SharedFindings;
@@ -145,7 +146,7 @@ fn marks_in(alloc: Global, notes: &Notes) -> Result<Marks, NoMemory>
 #[inline(always)]
 fn begin<'a>(source: &mut Option<Source<'a>>, notes: &Notes, machine: &Machine<'a>)
     requires { MayNote source.old notes.now machine.now }
-    ensures noted { AreTracked machine.now.program machine.now.input machine.now.taken notes.now }
+    ensures noted { AreNoted machine.now.program machine.now.input machine.now.taken notes.now }
     ensures short { longest machine.now.program < 2 ^ 64 }
     ensures source { IsSource source.new machine.now }
 {
@@ -178,7 +179,10 @@ fn advance_in<'a>(
     ensures err { OnErr result ((machine.new ≡ machine.old) ⊎ (machine.new ≡ after_step machine.old)) }
 {
     begin(source, notes, machine);
-    note_step(alloc, notes, machine)
+    let sight = look(alloc, notes, machine)?;
+    let event = machine.step()?;
+    note_step(alloc, notes, &sight, event, machine)?;
+    Ok(event)
 }
 
 // Takes a machine's steps up to the next event and notes them.
@@ -197,7 +201,9 @@ fn next_event_in<'a>(
     begin(source, notes, machine);
     'steps: loop {
         pass_locally(notes, machine);
-        let event = note_step(alloc, notes, machine)?;
+        let sight = look(alloc, notes, machine)?;
+        let event = machine.step()?;
+        note_step(alloc, notes, &sight, event, machine)?;
         if !is_quiet(event) {
             return Ok(event);
         }

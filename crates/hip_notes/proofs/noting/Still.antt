@@ -22,10 +22,9 @@ use Rattle.hip_runs.specs.declared.report.Mark.{Mark}
 use Rattle.hip_runs.specs.Seen.{next_site}
 use Rattle.hip_notes.specs.MarkKeys.{AreMet, WereHit, mark_of}
 use Rattle.hip_notes.specs.Noted.{AreNoted, Follows, Reported, births_after, calls_after}
-use Rattle.hip_notes.specs.Sights.{AddAlike, is_still, leaves, marks_ahead}
+use Rattle.hip_notes.specs.Sights.{AddUnlessEnded, is_still, leaves, marks_ahead}
 use Rattle.hip_notes.specs.declared.notes.Notes.{Notes}
 use Rattle.hip_notes.proofs.noting.Assembled.{Did, assembled, first_frame}
-use Rattle.hip_notes.proofs.MarksAtHand.{unless_alike}
 
 abbrev none_of : (A : Type 0) → List A
 none_of A = []
@@ -123,15 +122,15 @@ no_marks (events.Persist l s) = refl
 no_marks events.Fence = refl
 no_marks (events.Assert a m) = refl
 
-nothing_marked : (e : Event) (before ahead : List Mark) → AddAlike before [] ahead → before ≡ met same_mark before (unless_ended e ahead)
-nothing_marked e before ahead a = sym (ap (met same_mark before) (no_marks e)) ∙ unless_alike e before [] ahead a
+nothing_marked : (e : Event) (before ahead : List Mark) → AddUnlessEnded e before [] ahead → before ≡ met same_mark before (unless_ended e ahead)
+nothing_marked e before ahead a = sym (ap (met same_mark before) (no_marks e)) ∙ a
 
 -- ---- the notes
 
 -- where no notes but the counts are changed
 pub left_noted : (P : Program) (I : Input) (n : ℕ) → has_ended (run P I n) ≡ false → have_calls (run P I n).frames → (c c' : Notes) → AreNoted P I n c
     → leaves (event P I (run P I n)) ≡ true → length (run P I (suc n)).frames ≡ length (run P I n).frames
-    → AddAlike (map mark_of c.marks.keys) [] (marks_ahead P I (run P I n))
+    → AddUnlessEnded (event P I (run P I n)) (map mark_of c.marks.keys) [] (marks_ahead P I (run P I n))
     → c' ≡ record c { steps = c.steps + 1; entries = cond (has_entry (event P I (run P I n))) (c.entries + 1) c.entries; fence = cond (fences (event P I (run P I n))) (Some c.steps) c.fence }
     → AreNoted P I (suc n) c'
 left_noted P I n going shaped c c' h left depth alike is =
@@ -156,7 +155,7 @@ left_noted P I n going shaped c c' h left depth alike is =
 
 pub still_noted : (P : Program) (I : Input) (n : ℕ) → has_ended (run P I n) ≡ false → have_calls (run P I n).frames → (c c' : Notes) → AreNoted P I n c
     → is_still (event P I (run P I n)) ≡ true → length (run P I (suc n)).frames ≡ length (run P I n).frames
-    → AddAlike (map mark_of c.marks.keys) [] (marks_ahead P I (run P I n)) → c' ≡ record c { steps = c.steps + 1 } → AreNoted P I (suc n) c'
+    → AddUnlessEnded (event P I (run P I n)) (map mark_of c.marks.keys) [] (marks_ahead P I (run P I n)) → c' ≡ record c { steps = c.steps + 1 } → AreNoted P I (suc n) c'
 still_noted P I n going shaped c c' h still depth alike is =
     left_noted P I n going shaped c c' h (still_leaves (event P I (run P I n)) still) depth alike (is ∙ still_counted (event P I (run P I n)) still c)
 
@@ -166,7 +165,7 @@ pub calls_noted : (P : Program) (I : Input) (n : ℕ) → has_ended (run P I n) 
     → c'.calls ≡ calls_after (length (run P I n).frames) (length (run P I (suc n)).frames) c.steps (next_site P (run P I n)) c.calls
     → c'.births.items ≡ births_after (length (run P I n).frames) (length (run P I (suc n)).frames) c.steps (next_site P (run P I n)) c.births.items
     → c' ≡ record c { calls = c'.calls; births = c'.births }
-    → AddAlike (map mark_of c.marks.keys) [] (marks_ahead P I (run P I n)) → c'' ≡ record c' { steps = c'.steps + 1 } → AreNoted P I (suc n) c''
+    → AddUnlessEnded (event P I (run P I n)) (map mark_of c.marks.keys) [] (marks_ahead P I (run P I n)) → c'' ≡ record c' { steps = c'.steps + 1 } → AreNoted P I (suc n) c''
 calls_noted P I n going shaped c c' c'' h still calls births rest alike is =
     let e = event P I (run P I n) in
     let left = still_leaves e still in
@@ -180,7 +179,7 @@ calls_noted P I n going shaped c c' c'' h still calls births rest alike is =
       calls = calls;
       births = births;
       r3 = rest;
-      marks = nothing_marked e (map mark_of c'.marks.keys) (marks_ahead P I (run P I n)) (subst (λ x. AddAlike (map mark_of x.keys) [] (marks_ahead P I (run P I n))) same_marks alike);
+      marks = nothing_marked e (map mark_of c'.marks.keys) (marks_ahead P I (run P I n)) (subst (λ x. AddUnlessEnded e (map mark_of x.keys) [] (marks_ahead P I (run P I n))) same_marks alike);
       known = subst (λ (x : Notes). AreMet (map mark_of x.marks.keys) x.recent.items) (sym rest) h.recent;
       r4 = refl;
       hits = nothing_hit e left P I c'.hit.keys;

@@ -8,9 +8,8 @@ use Rattle.hip_runs.specs.Laws.Found.FoundLaws.{mark_same, met-append, same_mark
 use Rattle.hip_runs.specs.declared.event.Event.{Event}
 use Rattle.hip_runs.specs.declared.event.Event.TheVariants as events
 use Rattle.hip_runs.specs.declared.report.Mark.{Mark}
-use Rattle.hip_notes.specs.MarkKeys.{AreMet, mark_of}
+use Rattle.hip_notes.specs.MetMarks.{AreMet}
 use Rattle.hip_notes.specs.Sights.{AddAlike}
-use Rattle.hip_notes.specs.declared.marks.MarkKey.{MarkKey}
 
 -- what was met adds nothing
 pub met_known : {A : Type 0} (same : A → A → Bool) (xs : List A) (y : A) → list_any (same y) xs ≡ true → met same xs (y ∷ []) ≡ xs
@@ -39,22 +38,22 @@ unless_alike (events.Assert a m) before xs ys h = h
 
 -- ---- what is at hand after a mark was met
 
-pub met_at_hand : (before after : List Mark) (recent recent' : List (Option MarkKey)) (key : MarkKey) → AreMet before recent
-    → after ≡ met same_mark before (mark_of key ∷ [])
-    → ((i : ℕ) → (k : MarkKey) → slice_get recent' i ≡ Some (Some k) → (k ≡ key) ⊎ (slice_get recent i ≡ Some (Some k)))
+pub met_at_hand : (before after : List Mark) (recent recent' : List (Option Mark)) (mark : Mark) → AreMet before recent
+    → after ≡ met same_mark before (mark ∷ [])
+    → ((i : ℕ) → (m : Mark) → slice_get recent' i ≡ Some (Some m) → (m ≡ mark) ⊎ (slice_get recent i ≡ Some (Some m)))
     → AreMet after recent'
-met_at_hand before after recent recent' key known is h i k e = by (h i k e)
+met_at_hand before after recent recent' mark known is h i m e = by (h i m e)
   where
-    all : list_any (same_mark (mark_of k)) (met same_mark before (mark_of key ∷ [])) ≡ true → list_any (same_mark (mark_of k)) after ≡ true
-    all q = ap (list_any (same_mark (mark_of k))) is ∙ q
+    all : list_any (same_mark m) (met same_mark before (mark ∷ [])) ≡ true → list_any (same_mark m) after ≡ true
+    all q = ap (list_any (same_mark m)) is ∙ q
 
-    by : (k ≡ key) ⊎ (slice_get recent i ≡ Some (Some k)) → list_any (same_mark (mark_of k)) after ≡ true
-    by (inl same) = all (met-second same_mark-equivalence (mark_of k) before (mark_of key ∷ []) (or_first _ _ (mark_same (mark_of k) (mark_of key) (ap mark_of same))))
-    by (inr q) = all (met-first same_mark-equivalence (mark_of k) before (mark_of key ∷ []) (known i k q))
+    by : (m ≡ mark) ⊎ (slice_get recent i ≡ Some (Some m)) → list_any (same_mark m) after ≡ true
+    by (inl same) = all (met-second same_mark-equivalence m before (mark ∷ []) (or_first _ _ (mark_same m mark same)))
+    by (inr q) = all (met-first same_mark-equivalence m before (mark ∷ []) (known i m q))
 
-pub at_hand_adds : (before ms : List Mark) (recent : List (Option MarkKey)) (m : Mark) → AreMet before recent
-    → (i : ℕ) × (k : MarkKey) × (slice_get recent i ≡ Some (Some k)) × (mark_of k ≡ m) → AddAlike before ms (ms ++ m ∷ [])
-at_hand_adds before ms recent m known h = known_adds before ms m (ap (λ (x : Mark). list_any (same_mark x) before) (sym h.3) ∙ known h.0 h.1 h.2)
+pub at_hand_adds : (before ms : List Mark) (recent : List (Option Mark)) (m : Mark) → AreMet before recent
+    → (i : ℕ) × (slice_get recent i ≡ Some (Some m)) → AddAlike before ms (ms ++ m ∷ [])
+at_hand_adds before ms recent m known h = known_adds before ms m (known h.0 m h.1)
 
 -- ---- globals
 

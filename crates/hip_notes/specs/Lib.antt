@@ -3,6 +3,6 @@ pub mod Pending
 pub mod Regions
 pub mod Checking
 pub mod Standing
-pub mod MarkKeys
+pub mod MetMarks
 pub mod Noted
 pub mod Sights

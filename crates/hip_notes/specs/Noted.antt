@@ -24,7 +24,7 @@ use Rattle.hip_runs.specs.declared.input.Input.{Input}
 use Rattle.hip_notes.specs.CallPaths.{births_of}
 use Rattle.hip_notes.specs.Checking.{group_from, reports_told}
 use Rattle.hip_notes.specs.declared.checks.Group.{Group}
-use Rattle.hip_notes.specs.MarkKeys.{AreMet, mark_of, WereHit}
+use Rattle.hip_notes.specs.MetMarks.{AreMet, WereHit}
 use Rattle.hip_notes.specs.Pending.{first_after, FlushesAscend, lines_of, with_flush, with_store}
 use Rattle.hip_notes.specs.Standing.{Tells}
 use Rattle.hip_notes.specs.declared.notes.Notes.{Notes}
@@ -45,8 +45,8 @@ pub record AreNoted (P : Program) (I : Input) (n : ℕ) (c : Notes) : Type 0 whe
   pub calls : c.calls ≡ levels_of (run P I n).frames
   pub births : c.births.items ≡ births_of (levels_of (run P I n).frames)
   pub pending : Tells P I n c.header c.pending.stores.items (lines_of c.pending.lines)
-  pub marks : map mark_of c.marks.keys ≡ pointed P I n
-  pub recent : AreMet (map mark_of c.marks.keys) c.recent.items
+  pub marks : c.marks.keys ≡ pointed P I n
+  pub recent : AreMet c.marks.keys c.recent.items
   pub hit : c.hit.keys ≡ hit P I n
   pub flags : WereHit c.hit.keys c.flags.items
   pub reports : c.header ≡ header_entries I → c.reports ≡ reports P I n

@@ -1,57 +1,19 @@
-ghost use Rattle.std.specs.Prelude.{◌≡◌, ◌⊎◌, ℕ, ◌∷◌, ◌++◌, [], map, nat_eq, slice_get, Some, None, true, IfOk, OnOk};
+ghost use Rattle.std.specs.Prelude.{◌≡◌, ◌⊎◌, ℕ, ◌∷◌, ◌++◌, [], nat_eq, slice_get, Some, true, IfOk, OnOk};
 ghost use Rattle.hip_types.specs.Distinct.{met};
 ghost use Rattle.hip_runs.specs.Found.Marks.{same_mark};
-ghost use Rattle.hip_notes.specs.MarkKeys.{AreMet, mark_of, object_of, WereHit};
-ghost use Rattle.hip_notes.specs.declared.marks.MarkKey.{MarkKey as Key};
+ghost use Rattle.hip_notes.specs.MetMarks.{AreMet, WereHit};
+ghost use Rattle.hip_runs.specs.declared.report.Mark.{Mark as Met};
 
-use hip_runs::{Mark, Object};
-use hip_tree::Site;
+use hip_runs::Mark;
 use hip_types::{NoMemory, Row};
 use indexmap::IndexSet;
 use std::alloc::Global;
-
-/// A mark, in numbers that are hashed.
-#[derive(Clone, Copy, PartialEq, Eq, Hash)]
-pub struct MarkKey {
-    pub function: usize,
-    pub block: usize,
-    pub index: usize,
-    pub operand: usize,
-    pub object: ObjectKey,
-}
-
-#[derive(Clone, Copy, PartialEq, Eq, Hash)]
-pub enum ObjectKey {
-    Global(usize),
-    Slot(usize, usize, usize),
-}
-
-fn key_of(mark: Mark) -> MarkKey
-    ensures { mark_of result ≡ mark }
-{
-    MarkKey {
-        function: mark.site.function,
-        block: mark.site.block,
-        index: mark.site.index,
-        operand: mark.operand,
-        object: object_key(mark.object),
-    }
-}
-
-fn object_key(object: Object) -> ObjectKey
-    ensures { object_of result ≡ object }
-{
-    match object {
-        Object::Global(number) => ObjectKey::Global(number),
-        Object::Slot(site) => ObjectKey::Slot(site.function, site.block, site.index),
-    }
-}
 
 /// How many marks are kept at hand.
 const RECENT: usize = 256;
 
 /// No mark at hand.
-pub fn none_recent(alloc: Global) -> Result<Vec<Option<MarkKey>>, NoMemory>
+pub fn none_recent(alloc: Global) -> Result<Vec<Option<Mark>>, NoMemory>
     ensures { IfOk result (λ recent. AreMet [] recent.items) }
 {
     let mut recent = Vec::new(alloc);
@@ -63,79 +25,82 @@ pub fn none_recent(alloc: Global) -> Result<Vec<Option<MarkKey>>, NoMemory>
 
 // Where a mark is kept at hand: marks of an operand at one place, those of operands near one another at several.
 #[inline(always)]
-fn place_of(key: MarkKey) -> usize {
-    let block = key.block.wrapping_mul(8).wrapping_add(key.index);
-    let function = key.function.wrapping_mul(64).wrapping_add(key.operand);
+fn place_of(mark: Mark) -> usize {
+    let block = mark
+        .site
+        .block
+        .wrapping_mul(8)
+        .wrapping_add(mark.site.index);
+    let function = mark
+        .site
+        .function
+        .wrapping_mul(64)
+        .wrapping_add(mark.operand);
     block.wrapping_add(function) % RECENT
 }
 
 /// Whether a mark is among the recent ones.
 #[inline(always)]
-pub fn is_recent(recent: &[Option<MarkKey>], mark: Mark) -> bool
-    ensures { result ≡ true → (i : ℕ) × (k : Key) × (slice_get recent.now i ≡ Some (Some k))
-        × (mark_of k ≡ mark) }
+pub fn is_recent(recent: &[Option<Mark>], mark: Mark) -> bool
+    ensures { result ≡ true → (i : ℕ) × (slice_get recent.now i ≡ Some (Some mark)) }
 {
-    let key = key_of(mark);
-    match recent.get(place_of(key)) {
-        Some(known) => is_key(*known, key),
+    match recent.get(place_of(mark)) {
+        Some(known) => is_mark(*known, mark),
         None => false,
     }
 }
 
-fn is_key(known: Option<MarkKey>, key: MarkKey) -> bool
-    ensures { result ≡ true → (k : Key) × (known ≡ Some k) × (mark_of k ≡ mark_of key) }
+fn is_mark(known: Option<Mark>, mark: Mark) -> bool
+    ensures { result ≡ true → known ≡ Some mark }
 {
     match known {
-        Some(known) => known == key,
+        Some(known) => known == mark,
         None => false,
     }
 }
 
 // Keeps a mark at hand, in the place of another.
-fn keep_recent(recent: &mut Vec<Option<MarkKey>>, key: MarkKey)
-    ensures { (i : ℕ) → (k : Key) → slice_get recent.new.items i ≡ Some (Some k)
-        → (k ≡ key) ⊎ (slice_get recent.old.items i ≡ Some (Some k)) }
+fn keep_recent(recent: &mut Vec<Option<Mark>>, mark: Mark)
+    ensures { (i : ℕ) → (m : Met) → slice_get recent.new.items i ≡ Some (Some m)
+        → (m ≡ mark) ⊎ (slice_get recent.old.items i ≡ Some (Some m)) }
 {
-    match recent.get_mut(place_of(key)) {
-        Some(known) => *known = Some(key),
+    match recent.get_mut(place_of(mark)) {
+        Some(known) => *known = Some(mark),
         None => {}
     }
 }
 
 /// Appends a mark to those that were met, unless it is one of them.
 pub fn meet_mark(
-    marks: &mut IndexSet<MarkKey>,
-    recent: &mut Vec<Option<MarkKey>>,
+    marks: &mut IndexSet<Mark>,
+    recent: &mut Vec<Option<Mark>>,
     mark: Mark,
 ) -> Result<(), NoMemory>
-    requires { AreMet (map mark_of marks.old.keys) recent.old.items }
-    ensures marks { OnOk result (map mark_of marks.new.keys
-        ≡ met same_mark (map mark_of marks.old.keys) (mark ∷ [])) }
-    ensures known { OnOk result (AreMet (map mark_of marks.new.keys) recent.new.items) }
+    requires { AreMet marks.old.keys recent.old.items }
+    ensures marks { OnOk result (marks.new.keys ≡ met same_mark marks.old.keys (mark ∷ [])) }
+    ensures known { OnOk result (AreMet marks.new.keys recent.new.items) }
 {
-    let key = key_of(mark);
-    meet_key(marks, key)?;
-    keep_recent(recent, key);
+    insert(marks, mark)?;
+    keep_recent(recent, mark);
     Ok(())
 }
 
-fn meet_key(marks: &mut IndexSet<MarkKey>, key: MarkKey) -> Result<(), NoMemory>
-    ensures { OnOk result (map mark_of marks.new.keys
-        ≡ met same_mark (map mark_of marks.old.keys) (mark_of key ∷ [])) }
+fn insert(marks: &mut IndexSet<Mark>, mark: Mark) -> Result<(), NoMemory>
+    ensures { OnOk result (marks.new.keys ≡ met same_mark marks.old.keys (mark ∷ [])) }
 {
-    let _is_new = marks.insert(key)?;
+    let _is_new = marks.insert(mark)?;
     Ok(())
 }
 
 /// Notes the marks of a step that was taken.
 pub fn note_marks(
-    marks: &mut IndexSet<MarkKey>,
-    recent: &mut Vec<Option<MarkKey>>,
+    marks: &mut IndexSet<Mark>,
+    recent: &mut Vec<Option<Mark>>,
     ahead: &[Mark],
 ) -> Result<(), NoMemory>
-    requires { AreMet (map mark_of marks.old.keys) recent.old.items }
-    ensures marks { OnOk result (map mark_of marks.new.keys ≡ met same_mark (map mark_of marks.old.keys) ahead.now) }
-    ensures known { OnOk result (AreMet (map mark_of marks.new.keys) recent.new.items) }
+    requires { AreMet marks.old.keys recent.old.items }
+    ensures marks { OnOk result (marks.new.keys ≡ met same_mark marks.old.keys ahead.now) }
+    ensures known { OnOk result (AreMet marks.new.keys recent.new.items) }
 {
     'each: for mark in ahead {
         meet_mark(marks, recent, *mark)?;
@@ -203,14 +168,11 @@ fn set_flag(flags: &mut Vec<bool>, number: usize)
 }
 
 /// The marks, in the order in which they were met.
-pub fn marks_of(alloc: Global, marks: &IndexSet<MarkKey>) -> Result<Row<Mark>, NoMemory>
-    ensures { IfOk result (λ row. row ≡ map mark_of marks.now.keys) }
+pub fn marks_of(alloc: Global, marks: &IndexSet<Mark>) -> Result<Row<Mark>, NoMemory>
+    ensures { IfOk result (λ row. row ≡ marks.now.keys) }
 {
-    let mut row = Row::new(alloc);
-    'each: for key in marks.iter() {
-        row.push(mark_of(*key))?;
-    }
-    Ok(row)
+    let met: Vec<Mark> = marks.iter().copied().collect(alloc)?;
+    Ok(Row::from_vec(met))
 }
 
 /// The numbers, in the order in which they were met.
@@ -219,31 +181,4 @@ pub fn globals_of(alloc: Global, hit: &IndexSet<usize>) -> Result<Row<usize>, No
 {
     let numbers: Vec<usize> = hit.iter().copied().collect(alloc)?;
     Ok(Row::from_vec(numbers))
-}
-
-fn mark_of(key: MarkKey) -> Mark
-    ensures { result ≡ mark_of key }
-{
-    Mark {
-        site: Site {
-            function: key.function,
-            block: key.block,
-            index: key.index,
-        },
-        operand: key.operand,
-        object: object_of(key.object),
-    }
-}
-
-fn object_of(key: ObjectKey) -> Object
-    ensures { result ≡ object_of key }
-{
-    match key {
-        ObjectKey::Global(number) => Object::Global(number),
-        ObjectKey::Slot(function, block, index) => Object::Slot(Site {
-            function,
-            block,
-            index,
-        }),
-    }
 }

@@ -6,7 +6,7 @@ ghost use Rattle.hip_runs.specs.Found.Marks.{same_mark, unless_ended};
 ghost use Rattle.hip_runs.specs.Found.Reports.{checked_range};
 ghost use Rattle.hip_runs.specs.StoredParts.Since.{fences};
 ghost use Rattle.hip_runs.specs.Step.{has_entry};
-ghost use Rattle.hip_notes.specs.MarkKeys.{AreMet, mark_of, WereHit};
+ghost use Rattle.hip_notes.specs.MetMarks.{AreMet, WereHit};
 ghost use Rattle.hip_notes.specs.Noted.{EndsBelow, FlushedAt, Follows, IsForgotten, Reported, births_after, calls_after};
 ghost use Rattle.hip_notes.specs.Pending.{AreInOrder, lines_of};
 ghost use Rattle.hip_notes.specs.Regions.{IsWhole};
@@ -14,7 +14,7 @@ ghost use Rattle.hip_notes.specs.Regions.{IsWhole};
 use crate::calls::Calls;
 use crate::checks::{Check, check_range};
 use crate::forget::forget_in;
-use crate::marks::{MarkKey, none_recent, note_marks};
+use crate::marks::{none_recent, note_marks};
 use crate::pending::{FlushNote, Pending, StoreNote};
 use crate::region::Region;
 use hip_findings::SharedReports;
@@ -51,8 +51,8 @@ pub struct Notes {
     // The number of pending stores at which the tracker looks again for notes to drop.
     pub enough: usize,
     // The marks and the globals that were met, and two small tables that recognise repeats without a look-up.
-    pub marks: IndexSet<MarkKey>,
-    pub recent: Vec<Option<MarkKey>>,
+    pub marks: IndexSet<Mark>,
+    pub recent: Vec<Option<Mark>>,
     pub hit: IndexSet<usize>,
     pub flags: Vec<bool>,
     pub reports: SharedReports,
@@ -233,10 +233,10 @@ impl Notes {
     /// Notes the marks of a step with this event.
     #[inline(always)]
     pub fn note_marks(&mut self, event: Event, ahead: &[Mark]) -> Result<(), NoMemory>
-        requires { AreMet (map mark_of self.old.marks.keys) self.old.recent.items }
-        ensures marks { OnOk result (map mark_of self.new.marks.keys ≡ met same_mark (map mark_of self.old.marks.keys)
+        requires { AreMet self.old.marks.keys self.old.recent.items }
+        ensures marks { OnOk result (self.new.marks.keys ≡ met same_mark self.old.marks.keys
             (unless_ended event ahead.now)) }
-        ensures known { OnOk result (AreMet (map mark_of self.new.marks.keys) self.new.recent.items) }
+        ensures known { OnOk result (AreMet self.new.marks.keys self.new.recent.items) }
         ensures rest { OnOk result (self.new ≡ record self.old { marks = self.new.marks; recent = self.new.recent }) }
     {
         match event {

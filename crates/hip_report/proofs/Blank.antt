@@ -15,7 +15,7 @@ use Rattle.hip_runs.specs.declared.event.Event.{Event}
 use Rattle.hip_runs.specs.declared.input.Input.{Input}
 use Rattle.hip_runs.specs.Seen.{Seen, after_step}
 use Rattle.hip_engine.specs.Quiet.{ComesTo}
-use Rattle.hip_notes.specs.MarkKeys.{AreMet, mark_of, WereHit}
+use Rattle.hip_notes.specs.MetMarks.{AreMet, WereHit}
 use Rattle.hip_notes.specs.Noted.{AreNoted}
 use Rattle.hip_notes.specs.Pending.{lines_of, StoresAscend}
 use Rattle.hip_notes.specs.Standing.{IsLooseAt, Tells}
@@ -49,8 +49,8 @@ blank c h steps entries fence calls births stores lines marks recent hits flags 
   calls = calls;
   births = births;
   pending = tells_none P I c.header c.pending.stores.items (lines_of c.pending.lines) stores lines;
-  marks = ap (map mark_of) marks;
-  recent = subst (λ ms. AreMet (map mark_of ms) c.recent.items) (sym marks) recent;
+  marks = marks;
+  recent = subst (λ ms. AreMet ms c.recent.items) (sym marks) recent;
   hit = hits;
   flags = subst (λ hs. WereHit hs c.flags.items) (sym hits) flags;
   reports = λ e. rs;

@@ -31,7 +31,6 @@ use Rattle.hip_runs.specs.declared.input.Input.{Input}
 use Rattle.hip_engine.specs.LocalSteps.{IsLocal, PassesLocally, is_local}
 use Rattle.hip_engine.specs.Quiet.{GoesQuietly, after_steps, next_event}
 use Rattle.hip_engine.proofs.Quietly.{one_step, steps_then}
-use Rattle.hip_notes.specs.MarkKeys.{mark_of}
 use Rattle.hip_notes.specs.Noted.{AreNoted}
 use Rattle.hip_notes.specs.Sights.{is_still, marks_ahead}
 use Rattle.hip_notes.specs.declared.notes.Notes.{Notes}
@@ -183,7 +182,7 @@ noted_next P I n h c t =
     let depth = ap (λ (x : State). length x.frames) (next_step P I n) ∙ keeps_depth P I s h.top h.below h.frames h.action in
     let marks = no_marks P I s h.top h.below h.frames h.action going in
     still_noted P I n going (stack_is_shaped P I n).is.calls c (passed c 1) t (ap is_still h.quiet) depth
-    (unless_alike (event P I s) (map mark_of c.marks.keys) [] (marks_ahead P I s) (ap (met same_mark (map mark_of c.marks.keys)) (sym marks))) refl
+    (unless_alike (event P I s) c.marks.keys [] (marks_ahead P I s) (ap (met same_mark c.marks.keys) (sym marks))) refl
 
 module _ (m m' : Seen) (k : ℕ) (p : PassesLocally m k m') (c : Notes) (t : AreNoted m.program m.input m.taken c) where
   noted_after : (j : ℕ) → ((n : ℕ) → n < j → IsLocal (after_steps m n)) → AreNoted m.program m.input (m.taken + j) (passed c j)

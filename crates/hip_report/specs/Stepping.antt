@@ -10,7 +10,6 @@ use Rattle.hip_runs.specs.declared.event.Event.{Event}
 use Rattle.hip_runs.specs.declared.event.Object.{Object}
 use Rattle.hip_runs.specs.declared.event.Object.TheVariants as objects
 use Rattle.hip_runs.specs.declared.input.Input.{Input}
-use Rattle.hip_notes.specs.MarkKeys.{mark_of}
 use Rattle.hip_notes.specs.Noted.{AreNoted}
 use Rattle.hip_notes.specs.Sights.{AddUnlessEnded, marks_ahead}
 use Rattle.hip_notes.specs.declared.notes.Notes.{Notes}
@@ -44,7 +43,7 @@ pub record Sees (P : Program) (I : Input) (s : State) (c : Notes) (sight : Sight
   pub ended : sight.ended ≡ has_ended s
   pub site : sight.site ≡ next_site P s
   pub depth : sight.depth ≡ length s.frames
-  pub marks : AddUnlessEnded (event P I s) (map mark_of c.marks.keys) sight.pointed.marks (marks_ahead P I s)
+  pub marks : AddUnlessEnded (event P I s) c.marks.keys sight.pointed.marks (marks_ahead P I s)
   pub last : TellsGlobal P I sight.pointed.last
 
 -- ---- a step that a machine has taken

@@ -2,7 +2,7 @@ ghost use Rattle.std.specs.Prelude.{◌≡◌, ◌+◌, ◌++◌, ◌∷◌, [],
 ghost use Rattle.hip_engine.specs.Quiet.{next_event};
 ghost use Rattle.hip_runs.specs.Found.Objects.{global_at, object_at};
 ghost use Rattle.hip_runs.specs.Seen.{next_site, state_of};
-ghost use Rattle.hip_notes.specs.MarkKeys.{AreMet, mark_of};
+ghost use Rattle.hip_notes.specs.MetMarks.{AreMet};
 ghost use Rattle.hip_notes.specs.Sights.{AddAlike, AddUnlessEnded, mark_by, marks_ahead};
 ghost use Rattle.hip_report.specs.Stepping.{Sees, TellsGlobal, global_of};
 
@@ -41,7 +41,7 @@ pub struct Sight {
 /// Looks at the next step. It allocates only for marks that may be new.
 #[inline(always)]
 pub fn look(alloc: Global, notes: &Notes, machine: &Machine<'_>) -> Result<Sight, NoMemory>
-    requires { AreMet (map mark_of notes.now.marks.keys) notes.now.recent.items }
+    requires { AreMet notes.now.marks.keys notes.now.recent.items }
     ensures { IfOk result (λ s. Sees machine.now.program machine.now.input (state_of machine.now) notes.now s) }
 {
     let site = machine.site();
@@ -62,9 +62,9 @@ fn pointed_by(
     machine: &Machine<'_>,
     site: Option<Site>,
 ) -> Result<Pointed, NoMemory>
-    requires known { AreMet (map mark_of notes.now.marks.keys) notes.now.recent.items }
+    requires known { AreMet notes.now.marks.keys notes.now.recent.items }
     requires site { site ≡ next_site machine.now.program (state_of machine.now) }
-    ensures marks { IfOk result (λ pointed. AddUnlessEnded (next_event machine.now) (map mark_of notes.now.marks.keys)
+    ensures marks { IfOk result (λ pointed. AddUnlessEnded (next_event machine.now) notes.now.marks.keys
         pointed.marks (marks_ahead machine.now.program machine.now.input (state_of machine.now))) }
     ensures last { IfOk result (λ pointed. TellsGlobal machine.now.program machine.now.input pointed.last) }
 {
@@ -82,9 +82,9 @@ fn pointed_from(
     machine: &Machine<'_>,
     site: Site,
 ) -> Result<Pointed, NoMemory>
-    requires known { AreMet (map mark_of notes.now.marks.keys) notes.now.recent.items }
+    requires known { AreMet notes.now.marks.keys notes.now.recent.items }
     requires site { next_site machine.now.program (state_of machine.now) ≡ Some site }
-    ensures marks { IfOk result (λ pointed. AddUnlessEnded (next_event machine.now) (map mark_of notes.now.marks.keys)
+    ensures marks { IfOk result (λ pointed. AddUnlessEnded (next_event machine.now) notes.now.marks.keys
         pointed.marks (marks_ahead machine.now.program machine.now.input (state_of machine.now))) }
     ensures last { IfOk result (λ pointed. TellsGlobal machine.now.program machine.now.input pointed.last) }
 {
@@ -114,8 +114,8 @@ fn pointed_at(
     site: Site,
     addr: u64,
 ) -> Result<Pointed, NoMemory>
-    requires { AreMet (map mark_of notes.now.marks.keys) notes.now.recent.items }
-    ensures marks { IfOk result (λ pointed. AddAlike (map mark_of notes.now.marks.keys) pointed.marks
+    requires { AreMet notes.now.marks.keys notes.now.recent.items }
+    ensures marks { IfOk result (λ pointed. AddAlike notes.now.marks.keys pointed.marks
         (mark_by machine.now.program machine.now.input (state_of machine.now) site 0 (Some addr))) }
     ensures last { IfOk result (λ pointed. TellsGlobal machine.now.program machine.now.input pointed.last) }
 {
@@ -131,9 +131,9 @@ fn all_pointed(
     machine: &Machine<'_>,
     site: Site,
 ) -> Result<Pointed, NoMemory>
-    requires known { AreMet (map mark_of notes.now.marks.keys) notes.now.recent.items }
+    requires known { AreMet notes.now.marks.keys notes.now.recent.items }
     requires site { next_site machine.now.program (state_of machine.now) ≡ Some site }
-    ensures marks { IfOk result (λ pointed. AddAlike (map mark_of notes.now.marks.keys) pointed.marks
+    ensures marks { IfOk result (λ pointed. AddAlike notes.now.marks.keys pointed.marks
         (marks_ahead machine.now.program machine.now.input (state_of machine.now))) }
     ensures last { IfOk result (λ pointed. TellsGlobal machine.now.program machine.now.input pointed.last) }
 {
@@ -172,8 +172,8 @@ fn push_operand(
     addr: u64,
     pointed: &mut Pointed,
 ) -> Result<(), NoMemory>
-    requires { AreMet (map mark_of notes.now.marks.keys) notes.now.recent.items }
-    ensures marks { OnOk result (AddAlike (map mark_of notes.now.marks.keys) pointed.new.marks
+    requires { AreMet notes.now.marks.keys notes.now.recent.items }
+    ensures marks { OnOk result (AddAlike notes.now.marks.keys pointed.new.marks
         (pointed.old.marks ++ mark_by machine.now.program machine.now.input (state_of machine.now) site operand
         (Some addr))) }
     ensures last { OnOk result (TellsGlobal machine.now.program machine.now.input pointed.new.last) }
@@ -211,8 +211,8 @@ pub fn target_at(machine: &Machine<'_>, addr: u64) -> Target
 // Appends a mark, unless it is among the recent ones.
 #[inline(always)]
 fn push_mark(notes: &Notes, mark: Mark, marks: &mut Row<Mark>) -> Result<(), NoMemory>
-    requires { AreMet (map mark_of notes.now.marks.keys) notes.now.recent.items }
-    ensures { OnOk result (AddAlike (map mark_of notes.now.marks.keys) marks.new (marks.old ++ mark ∷ [])) }
+    requires { AreMet notes.now.marks.keys notes.now.recent.items }
+    ensures { OnOk result (AddAlike notes.now.marks.keys marks.new (marks.old ++ mark ∷ [])) }
 {
     if is_recent(notes.recent.as_slice(), mark) {
         return Ok(());

@@ -5,7 +5,7 @@ ghost use Rattle.hip_runs.specs.Found.Marks.{event_hits};
 ghost use Rattle.hip_runs.specs.Found.Objects.{global_at};
 ghost use Rattle.hip_runs.specs.Seen.{state_of};
 ghost use Rattle.hip_runs.specs.StoredParts.Shown.{shown};
-ghost use Rattle.hip_notes.specs.MarkKeys.{WereHit};
+ghost use Rattle.hip_notes.specs.MetMarks.{WereHit};
 ghost use Rattle.hip_notes.specs.Noted.{AreNoted};
 ghost use Rattle.hip_notes.specs.Sights.{is_still};
 ghost use Rattle.hip_report.specs.Stepping.{HasStepped, HasTaken, TellsGlobal, global_of};

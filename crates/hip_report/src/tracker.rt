@@ -4,7 +4,6 @@ ghost use Rattle.hip_runs.specs.Ends.{longest};
 ghost use Rattle.hip_runs.specs.Found.Marks.{IsFound};
 ghost use Rattle.hip_runs.specs.Step.{event, has_ended, header_entries};
 ghost use Rattle.hip_runs.specs.Seen.{after_step, state_of};
-ghost use Rattle.hip_notes.specs.MarkKeys.{mark_of};
 ghost use Rattle.hip_notes.specs.Noted.{AreNoted};
 ghost use Rattle.hip_report.specs.Passing.{StopsShort};
 ghost use Rattle.hip_report.specs.Stepping.{TakesStep};
@@ -134,7 +133,7 @@ impl<'a> Tracker<'a> {
 
 // The marks of the run that is noted.
 fn marks_in(alloc: Global, notes: &Notes) -> Result<Marks, NoMemory>
-    ensures pointed { IfOk result (λ marks. marks.pointed ≡ map mark_of notes.now.marks.keys) }
+    ensures pointed { IfOk result (λ marks. marks.pointed ≡ notes.now.marks.keys) }
     ensures hit { IfOk result (λ marks. marks.hit ≡ notes.now.hit.keys) }
 {
     let pointed = marks_of(alloc, &notes.marks)?;

@@ -26,7 +26,7 @@ use Rattle.hip_runs.specs.Ends.{longest}
 use Rattle.hip_runs.specs.Laws.StepLaws.{has_frame}
 use Rattle.hip_runs.specs.Seen.{next_site}
 use Rattle.hip_notes.specs.CallPaths.{births_of}
-use Rattle.hip_notes.specs.MarkKeys.{AreMet, mark_of, WereHit}
+use Rattle.hip_notes.specs.MetMarks.{AreMet, WereHit}
 use Rattle.hip_notes.specs.Noted.{AreNoted, EndsBelow, Follows, Reported, births_after, calls_after}
 use Rattle.hip_notes.specs.Pending.{lines_of}
 use Rattle.hip_notes.specs.Noted.{IsForgotten}
@@ -65,8 +65,8 @@ pub record Did (P : Program) (I : Input) (c0 c1 c2 c3 c4 c5 c6 : Notes) (lines :
   pub calls : c3.calls ≡ calls_after before after c0.steps site c2.calls
   pub births : c3.births.items ≡ births_after before after c0.steps site c2.births.items
   pub r3 : c3 ≡ record c2 { calls = c3.calls; births = c3.births }
-  pub marks : map mark_of c4.marks.keys ≡ met same_mark (map mark_of c3.marks.keys) (unless_ended e ahead)
-  pub known : AreMet (map mark_of c4.marks.keys) c4.recent.items
+  pub marks : c4.marks.keys ≡ met same_mark c3.marks.keys (unless_ended e ahead)
+  pub known : AreMet c4.marks.keys c4.recent.items
   pub r4 : c4 ≡ record c3 { marks = c4.marks; recent = c4.recent }
   pub hits : c5.hit.keys ≡ met nat_eq c4.hit.keys (event_hits P I e)
   pub flags : WereHit c5.hit.keys c5.flags.items
@@ -185,8 +185,8 @@ module _ (P : Program) (I : Input) (n : ℕ) (going : has_ended (run P I n) ≡ 
         pending = subst (λ i. Tells P I (suc n) i c6.pending.stores.items (lines_of c6.pending.lines)) (sym header6)
             (subst (λ (p : Pending). Tells P I (suc n) c0.header p.stores.items (lines_of p.lines)) (sym pending6)
             (pending_next P I n going c0.header c1.pending c2.pending old h.counted (c0.entries + 1) c1.calls (λ x. ap (λ i. i + 1) (h.entries x)) calls1 f fs q follows_here));
-        marks = ap (λ x. map mark_of x.keys) marks6 ∙ d.marks ∙ marks_next P I n going (map mark_of c3.marks.keys) (ap (λ x. map mark_of x.keys) marks3 ∙ h.marks);
-        recent = subst (λ x. AreMet (map mark_of x.keys) c6.recent.items) (sym marks6) (subst (λ x. AreMet (map mark_of c4.marks.keys) x.items) (sym recent6) d.known);
+        marks = ap (λ x. x.keys) marks6 ∙ d.marks ∙ marks_next P I n going c3.marks.keys (ap (λ x. x.keys) marks3 ∙ h.marks);
+        recent = subst (λ x. AreMet x.keys c6.recent.items) (sym marks6) (subst (λ x. AreMet c4.marks.keys x.items) (sym recent6) d.known);
         flags = subst (λ x. WereHit x.keys c6.flags.items) (sym hit6) (subst (λ x. WereHit c5.hit.keys x.items) (sym flags6) d.flags);
         hit = ap (λ x. x.keys) hit6 ∙ d.hits ∙ hit_next P I n going c4.hit.keys (ap (λ x. x.keys) hit4 ∙ h.hit);
         reports = λ x. reports6 ∙ reports_next P I n going c0 h (sym header6 ∙ x) base region is_base is_region c1.reports (before E refl d.told);

@@ -20,7 +20,7 @@ use Rattle.hip_runs.specs.declared.event.Event.TheVariants as events
 use Rattle.hip_runs.specs.declared.input.Input.{Input}
 use Rattle.hip_runs.specs.declared.report.Mark.{Mark}
 use Rattle.hip_runs.specs.Seen.{next_site}
-use Rattle.hip_notes.specs.MarkKeys.{AreMet, WereHit, mark_of}
+use Rattle.hip_notes.specs.MetMarks.{AreMet, WereHit}
 use Rattle.hip_notes.specs.Noted.{AreNoted, Follows, Reported, births_after, calls_after}
 use Rattle.hip_notes.specs.Sights.{AddUnlessEnded, is_still, leaves, marks_ahead}
 use Rattle.hip_notes.specs.declared.notes.Notes.{Notes}
@@ -130,7 +130,7 @@ nothing_marked e before ahead a = sym (ap (met same_mark before) (no_marks e)) �
 -- where no notes but the counts are changed
 pub left_noted : (P : Program) (I : Input) (n : ℕ) → has_ended (run P I n) ≡ false → have_calls (run P I n).frames → (c c' : Notes) → AreNoted P I n c
     → leaves (event P I (run P I n)) ≡ true → length (run P I (suc n)).frames ≡ length (run P I n).frames
-    → AddUnlessEnded (event P I (run P I n)) (map mark_of c.marks.keys) [] (marks_ahead P I (run P I n))
+    → AddUnlessEnded (event P I (run P I n)) c.marks.keys [] (marks_ahead P I (run P I n))
     → c' ≡ record c { steps = c.steps + 1; entries = cond (has_entry (event P I (run P I n))) (c.entries + 1) c.entries; fence = cond (fences (event P I (run P I n))) (Some c.steps) c.fence }
     → AreNoted P I (suc n) c'
 left_noted P I n going shaped c c' h left depth alike is =
@@ -143,7 +143,7 @@ left_noted P I n going shaped c c' h left depth alike is =
       calls = same_calls (length (run P I n).frames) (length (run P I (suc n)).frames) depth c.steps (next_site P (run P I n)) c.calls;
       births = same_births (length (run P I n).frames) (length (run P I (suc n)).frames) depth c.steps (next_site P (run P I n)) c.births.items;
       r3 = refl;
-      marks = nothing_marked (event P I (run P I n)) (map mark_of c.marks.keys) (marks_ahead P I (run P I n)) alike;
+      marks = nothing_marked (event P I (run P I n)) c.marks.keys (marks_ahead P I (run P I n)) alike;
       known = h.recent;
       r4 = refl;
       hits = nothing_hit (event P I (run P I n)) left P I c.hit.keys;
@@ -155,7 +155,7 @@ left_noted P I n going shaped c c' h left depth alike is =
 
 pub still_noted : (P : Program) (I : Input) (n : ℕ) → has_ended (run P I n) ≡ false → have_calls (run P I n).frames → (c c' : Notes) → AreNoted P I n c
     → is_still (event P I (run P I n)) ≡ true → length (run P I (suc n)).frames ≡ length (run P I n).frames
-    → AddUnlessEnded (event P I (run P I n)) (map mark_of c.marks.keys) [] (marks_ahead P I (run P I n)) → c' ≡ record c { steps = c.steps + 1 } → AreNoted P I (suc n) c'
+    → AddUnlessEnded (event P I (run P I n)) c.marks.keys [] (marks_ahead P I (run P I n)) → c' ≡ record c { steps = c.steps + 1 } → AreNoted P I (suc n) c'
 still_noted P I n going shaped c c' h still depth alike is =
     left_noted P I n going shaped c c' h (still_leaves (event P I (run P I n)) still) depth alike (is ∙ still_counted (event P I (run P I n)) still c)
 
@@ -165,7 +165,7 @@ pub calls_noted : (P : Program) (I : Input) (n : ℕ) → has_ended (run P I n) 
     → c'.calls ≡ calls_after (length (run P I n).frames) (length (run P I (suc n)).frames) c.steps (next_site P (run P I n)) c.calls
     → c'.births.items ≡ births_after (length (run P I n).frames) (length (run P I (suc n)).frames) c.steps (next_site P (run P I n)) c.births.items
     → c' ≡ record c { calls = c'.calls; births = c'.births }
-    → AddUnlessEnded (event P I (run P I n)) (map mark_of c.marks.keys) [] (marks_ahead P I (run P I n)) → c'' ≡ record c' { steps = c'.steps + 1 } → AreNoted P I (suc n) c''
+    → AddUnlessEnded (event P I (run P I n)) c.marks.keys [] (marks_ahead P I (run P I n)) → c'' ≡ record c' { steps = c'.steps + 1 } → AreNoted P I (suc n) c''
 calls_noted P I n going shaped c c' c'' h still calls births rest alike is =
     let e = event P I (run P I n) in
     let left = still_leaves e still in
@@ -179,8 +179,8 @@ calls_noted P I n going shaped c c' c'' h still calls births rest alike is =
       calls = calls;
       births = births;
       r3 = rest;
-      marks = nothing_marked e (map mark_of c'.marks.keys) (marks_ahead P I (run P I n)) (subst (λ x. AddUnlessEnded e (map mark_of x.keys) [] (marks_ahead P I (run P I n))) same_marks alike);
-      known = subst (λ (x : Notes). AreMet (map mark_of x.marks.keys) x.recent.items) (sym rest) h.recent;
+      marks = nothing_marked e c'.marks.keys (marks_ahead P I (run P I n)) (subst (λ x. AddUnlessEnded e x.keys [] (marks_ahead P I (run P I n))) same_marks alike);
+      known = subst (λ (x : Notes). AreMet x.marks.keys x.recent.items) (sym rest) h.recent;
       r4 = refl;
       hits = nothing_hit e left P I c'.hit.keys;
       flags = subst (λ (x : Notes). WereHit x.hit.keys x.flags.items) (sym rest) h.flags;

@@ -1,6 +1,5 @@
 use Rattle.std.proofs.Common.{◌≡◌, suc, ◌+◌, ◌-◌, arith, length, map, refl, ap, ap₂, ◌∙◌, subst, sym}
 use Rattle.hip_runs.specs.Step.{event, run}
-use Rattle.hip_notes.specs.MarkKeys.{mark_of}
 use Rattle.hip_notes.specs.Noted.{AreNoted, births_after, calls_after}
 use Rattle.hip_notes.specs.Sights.{AddUnlessEnded, is_still, marks_ahead}
 use Rattle.hip_notes.specs.declared.notes.Notes.{Notes}
@@ -28,4 +27,4 @@ returns-clause-noted c =
     ∙ ap₂ (λ b a. births_after b a notes.steps c.args.sight.now.site notes.births.items) before.sees.depth count
     ∙ ap (λ s. births_after (length (run P I n).frames) (length (run P I (suc n)).frames) notes.steps s notes.births.items) before.sees.site)
     c.in_ok-note_calls.ensures.rest
-    (subst (λ ms. AddUnlessEnded (event P I (run P I n)) (map mark_of notes.marks.keys) ms (marks_ahead P I (run P I n))) c.requires.none before.sees.marks) refl)
+    (subst (λ ms. AddUnlessEnded (event P I (run P I n)) notes.marks.keys ms (marks_ahead P I (run P I n))) c.requires.none before.sees.marks) refl)

@@ -10,7 +10,7 @@ use Rattle.hip_runs.specs.declared.report.Mark.{Mark}
 use Rattle.std.specs.Prelude.{map}
 use Rattle.hip_types.specs.Distinct.{met}
 use Rattle.hip_runs.specs.Found.Marks.{same_mark, unless_ended}
-use Rattle.hip_notes.specs.MarkKeys.{AreMet, mark_of, WereHit}
+use Rattle.hip_notes.specs.MetMarks.{AreMet, WereHit}
 use Rattle.hip_notes.specs.Sights.{AddUnlessEnded, marks_ahead}
 use Rattle.hip_runs.specs.Seen.{next_site}
 use Rattle.hip_notes.specs.Noted.{AreNoted, EndsBelow}
@@ -74,9 +74,9 @@ forget-requires-clause-noted c =
       calls = c.in_ok-note_calls.ensures.calls;
       births = c.in_ok-note_calls.ensures.births;
       r3 = c.in_ok-note_calls.ensures.rest;
-      marks = c.in_ok-note_marks.ensures.marks ∙ ap (λ (ms : List Mark). met same_mark (map mark_of c.note_calls.new.self.marks.keys) (unless_ended c.args.seen ms)) c.as_slice.ensures
-          ∙ subst (λ (e : Event). AddUnlessEnded e (map mark_of c.note_calls.new.self.marks.keys) c.args.sight.now.pointed.marks (marks_ahead P I s)) (sym t.1.seen)
-          (subst (λ x. AddUnlessEnded (event P I s) (map mark_of x.keys) c.args.sight.now.pointed.marks (marks_ahead P I s)) (sym marks3) t.1.sees.marks);
+      marks = c.in_ok-note_marks.ensures.marks ∙ ap (λ (ms : List Mark). met same_mark c.note_calls.new.self.marks.keys (unless_ended c.args.seen ms)) c.as_slice.ensures
+          ∙ subst (λ (e : Event). AddUnlessEnded e c.note_calls.new.self.marks.keys c.args.sight.now.pointed.marks (marks_ahead P I s)) (sym t.1.seen)
+          (subst (λ x. AddUnlessEnded (event P I s) x.keys c.args.sight.now.pointed.marks (marks_ahead P I s)) (sym marks3) t.1.sees.marks);
       known = c.in_ok-note_marks.ensures.known;
       r4 = c.in_ok-note_marks.ensures.rest;
       hits = c.in_ok-note_hit.ensures.hit;
@@ -100,8 +100,8 @@ note_marks-requires c =
     let r1 = c.in_ok-note_check.ensures.rest in
     let r2 = c.in_ok-note_memory.ensures.rest in
     let r3 = c.in_ok-note_calls.ensures.rest in
-    subst (λ x. AreMet (map mark_of x.keys) c.note_calls.new.self.recent.items) (sym (ap (λ (x : Notes). x.marks) r3 ∙ ap (λ (x : Notes). x.marks) r2 ∙ ap (λ (x : Notes). x.marks) r1))
-    (subst (λ x. AreMet (map mark_of c.args.notes.now.marks.keys) x.items) (sym (ap (λ (x : Notes). x.recent) r3 ∙ ap (λ (x : Notes). x.recent) r2 ∙ ap (λ (x : Notes). x.recent) r1)) h.recent)
+    subst (λ x. AreMet x.keys c.note_calls.new.self.recent.items) (sym (ap (λ (x : Notes). x.marks) r3 ∙ ap (λ (x : Notes). x.marks) r2 ∙ ap (λ (x : Notes). x.marks) r1))
+    (subst (λ x. AreMet c.args.notes.now.marks.keys x.items) (sym (ap (λ (x : Notes). x.recent) r3 ∙ ap (λ (x : Notes). x.recent) r2 ∙ ap (λ (x : Notes). x.recent) r1)) h.recent)
 
 pub note_hit-requires-clause-last : goal.note_hit-requires-clause-last
 note_hit-requires-clause-last c = let t = taken_by c.args.machine.now c.args.seen c.args.notes.now c.args.sight.now c.requires c.if-sight.false in t.1.sees.last

@@ -1,5 +1,5 @@
 -- Lists of names: which names are among them, and at which place.
-use Rattle.std.specs.Prelude.{ℕ, ◌≡◌, ◌⊎◌, Bool, List, [], ◌∷◌, Option, position}
+use Rattle.std.specs.Prelude.{ℕ, ◌≡◌, ◌<◌, ◌≤◌, ◌^◌, ◌⊎◌, Bool, List, [], ◌∷◌, length, Option, position}
 use Rattle.std.specs.List.{list_any}
 use Rattle.std.specs.Str.{bytes_eq}
 
@@ -24,3 +24,9 @@ Knows known names = (name : List ℕ) → is_among known name ≡ is_among names
 -- the number of the first name that is this one
 abbrev pub number_of : List (List ℕ) → List ℕ → Option ℕ
 number_of names name = position (bytes_eq name) names
+
+-- a first list of at most four, and a second one that begins once the first is full and has room for one more
+pub record IsFilled {A : Type 0} (few more : List A) : Type 0 where
+  pub few_fit : length few ≤ 4
+  pub in_order : length few < 4 → more ≡ []
+  pub more_fit : length more ≤ 2 ^ 62

@@ -1,32 +1,70 @@
-ghost use Rattle.std.specs.Prelude.{◌≡◌, ◌<◌, ◌^◌, [], ◌∷◌, ◌++◌, length, if◌then◌else◌, not, IfOk, OnErr};
+ghost use Rattle.std.specs.Prelude.{◌≡◌, ◌<◌, ◌^◌, [], ◌∷◌, ◌++◌, length, map, if◌then◌else◌, not, IfOk, OnErr};
 ghost use Rattle.std.specs.List.{list_all};
 ghost use Rattle.hip_names.specs.Names.{is_among, number_of};
 
-use hip_types::NoMemory;
+use hip_types::{NoMemory, Row};
 use indexmap::IndexSet;
 use std::alloc::Global;
 use std::marker::Model;
 
+/// Up to this number of names a list takes a tenth of the memory of a hash table, and a search in it no more time.
+const FEW: usize = 4;
+
+/// No machine has the memory for more names.
+const MOST: usize = 1 << 62;
+
 /// Names that differ, numbered from 0 in the order of insertion.
 #[derive(Drop)]
 pub struct NameSet<'a> {
-    names: IndexSet<&'a [u8]>,
+    /// The first names, at most `FEW`.
+    few: Row<&'a [u8]>,
+    /// The names after them. It takes no memory without names.
+    more: IndexSet<&'a [u8]>,
 }
 
 impl<'a> Model for NameSet<'a> {
-    ghost use Rattle.std.specs.Prelude.{List, ℕ, map};
+    ghost use Rattle.std.specs.Prelude.{List, ℕ, map, ◌++◌};
+    ghost use Rattle.hip_names.specs.Names.{IsFilled};
 
     ghost Value = { List (List ℕ) };
 
-    ghost view = { λ s. map (λ name. name.now) s.names.keys };
+    ghost view = { λ s. map (λ name. name.now) (s.few ++ s.more.keys) };
+
+    ghost invariant = { λ s. IsFilled s.few s.more.keys };
+}
+
+/// The number of the first of these names that is this one.
+fn number_in(names: &[&[u8]], name: &[u8]) -> Option<usize>
+    ensures { result ≡ number_of (map (λ n. n.now) names.now) name.now }
+{
+    'each: for number in 0..names.len() {
+        if name == names[number] {
+            return Some(number);
+        }
+    }
+    None
+}
+
+/// Whether each of these names is one of the others.
+fn all_within(names: &[&[u8]], others: &NameSet<'_>) -> bool
+    ensures { result ≡ list_all (is_among others.now) (map (λ n. n.now) names.now) }
+{
+    'each: for name in names {
+        if !others.contains(name) {
+            return false;
+        }
+    }
+    true
 }
 
 impl<'a> NameSet<'a> {
+    /// A set without names. It takes no memory.
     pub fn new(alloc: Global) -> NameSet<'a>
         ensures { result ≡ [] }
     {
         NameSet {
-            names: IndexSet::new(alloc),
+            few: Row::new(alloc),
+            more: IndexSet::new(alloc),
         }
     }
 
@@ -37,7 +75,17 @@ impl<'a> NameSet<'a> {
             ≡ (if is_new then self.old ++ name.now ∷ [] else self.old)) }
         ensures err { OnErr result (self.new ≡ self.old) }
     {
-        match self.names.insert(name) {
+        if number_in(self.few.as_slice(), name).is_some() {
+            return Ok(false);
+        }
+        if self.few.len() < FEW {
+            self.few.push(name)?;
+            return Ok(true);
+        }
+        if self.more.len() >= MOST {
+            return Err(NoMemory);
+        }
+        match self.more.insert(name) {
             Ok(is_new) => Ok(is_new),
             Err(_) => Err(NoMemory),
         }
@@ -48,30 +96,33 @@ impl<'a> NameSet<'a> {
         ensures length { result ≡ length self.now }
         ensures small { result < 2 ^ 63 }
     {
-        self.names.len()
+        self.few.len() + self.more.len()
     }
 
+    /// Whether a name is one of these.
     pub fn contains(&self, name: &[u8]) -> bool
         ensures { result ≡ is_among self.now name.now }
     {
-        self.names.contains(name)
+        self.number_of(name).is_some()
     }
 
+    /// The number of a name.
     pub fn number_of(&self, name: &[u8]) -> Option<usize>
         ensures { result ≡ number_of self.now name.now }
     {
-        self.names.get_index_of(name)
+        match number_in(self.few.as_slice(), name) {
+            Some(number) => Some(number),
+            None => {
+                let number = self.more.get_index_of(name)?;
+                Some(self.few.len() + number)
+            }
+        }
     }
 
     /// Whether each of these names is one of the others.
     pub fn is_within(&self, others: &NameSet<'_>) -> bool
         ensures { result ≡ list_all (is_among others.now) self.now }
     {
-        'each: for name in self.names.as_slice() {
-            if !others.contains(name) {
-                return false;
-            }
-        }
-        true
+        all_within(self.few.as_slice(), others) && all_within(self.more.as_slice(), others)
     }
 }

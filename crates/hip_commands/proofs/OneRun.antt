@@ -1,7 +1,7 @@
 -- The files give one answer of `run`.
 use Rattle.std.proofs.Common.{◌≡◌, ℕ, ℤ, List, is_some, sym, ap, ◌∙◌, subst}
 use Rattle.hip_answers.specs.Answers.{Answer}
-use Rattle.hip_answers.specs.EndingLaws.{one_end, one_ending}
+use Rattle.hip_runs.specs.Laws.OneEndLaws.{one_end, one_ending}
 use Rattle.hip_answers.specs.Endings.{ending_line, status_of_ending}
 use Rattle.hip_answers.specs.Same.{IsSameAnswer, pathless}
 use Rattle.hip_commands.proofs.OneProgram.{one_answer, same_program}

@@ -18,7 +18,7 @@ use Rattle.hip_picks.specs.declared.pick.PickRefusal.{PickRefusal}
 use Rattle.hip_picks.specs.declared.pick.PickRefusal.TheVariants.{NoLine, Repeated, OutOfRange}
 use Rattle.hip_crash.proofs.Bytes.{index-take, same_lists}
 use Rattle.hip_crash.proofs.Holding.{index-drop}
-use Rattle.hip_crash.proofs.Placed.{equal_or_not, get-set_same, get-set_other}
+use Rattle.hip_lines.specs.Laws.ItemLaws.{equal_or_not, get-set_same, get-set_other}
 use Rattle.hip_crash.proofs.Steps.{get_there}
 
 -- ---- one more pick

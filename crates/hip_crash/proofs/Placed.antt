@@ -3,6 +3,7 @@ use Rattle.std.proofs.Common.{◌≡◌, ◌≢◌, ◌⊎◌, inl, inr, ℕ, ze
 use Rattle.std.proofs.lemmas.Bool.Decides.{nat_tests}
 use Rattle.std.proofs.lemmas.List.{get_or-set_same, length-set}
 use Rattle.std.proofs.lemmas.Option.{slice_get-get_or}
+use Rattle.hip_lines.specs.Laws.ItemLaws.{equal_or_not, some_same, get-set_same, get-set_other, get-there, get-push_other}
 use Rattle.hip_directory.specs.declared.directory.Directory.{Directory}
 use Rattle.hip_directory.specs.Directories.{number_at}
 use Rattle.hip_lines.specs.Laws.LooseLaws.{get-append_end}
@@ -12,50 +13,12 @@ use Rattle.hip_crash.specs.Places.{at_place, line_in, ArePlaced, ChangesPlace}
 use Rattle.hip_crash.specs.declared.kept_line.KeptLine.{KeptLine}
 use Rattle.hip_crash.specs.declared.kept_lines.KeptLines.{KeptLines}
 
-pub equal_or_not : (j k : ℕ) → (((j == k) ≡ true) × (j ≡ k)) ⊎ (((j == k) ≡ false) × (j ≢ k))
-equal_or_not j k = grind (arith, nat_tests)
-
-some_same : {A : Type 0} (x y : A) → Some x ≡ Some y → x ≡ y
-some_same x y e = cc
-
--- ---- lists
-
-pub get-set_same : {A : Type 0} (xs : List A) (i : ℕ) (x : A) → i < length xs → slice_get (slice_set xs i x) i ≡ Some x
-get-set_same xs i x h =
-    slice_get-get_or (slice_set xs i x) i x (omega (arith, h, length-set xs i x)) ∙ ap (λ y. Some y) (get_or-set_same xs i x x h)
-
-pub get-set_other : {A : Type 0} (xs : List A) (i k : ℕ) (x : A) → k ≢ i → slice_get (slice_set xs i x) k ≡ slice_get xs k
-get-set_other [] i k x ne = refl
-get-set_other (y ∷ xs) zero zero x ne = absurd (ne refl)
-get-set_other (y ∷ xs) zero (suc k) x ne = refl
-get-set_other (y ∷ xs) (suc i) zero x ne = refl
-get-set_other (y ∷ xs) (suc i) (suc k) x ne = get-set_other xs i k x (λ e. ne (ap suc e))
-
-get-there : {A : Type 0} (xs : List A) (i : ℕ) → i < length xs → (x : A) × (slice_get xs i ≡ Some x)
-get-there [] i h = absurd (omega arith)
-get-there (y ∷ xs) zero h = (y, refl)
-get-there (y ∷ xs) (suc i) h = get-there xs i (omega arith)
-
-get-push_other : {A : Type 0} (xs : List A) (k : ℕ) (x : A) → k ≢ length xs → slice_get (xs ++ x ∷ []) k ≡ slice_get xs k
-get-push_other [] zero x ne = absurd (ne refl)
-get-push_other [] (suc k) x ne = refl
-get-push_other (y ∷ xs) zero x ne = refl
-get-push_other (y ∷ xs) (suc k) x ne = get-push_other xs k x (λ e. ne (ap suc e))
-
--- the item that was read
-pub get-read : {A : Type 0} (xs : List A) (i : ℕ) (x : A) → i < length xs → x ≡ get_or xs i x → slice_get xs i ≡ Some x
-get-read xs i x h e = slice_get-get_or xs i x h ∙ ap (λ y. Some y) (sym e)
-
 pub changes-set : (f : Kept → Kept) (xs : List KeptLine) (place : ℕ) (x y : KeptLine) → place < length xs → slice_get xs place ≡ Some x → y.line ≡ x.line → kept_in y ≡ f (kept_in x) → ChangesPlace f place xs (slice_set xs place y)
 changes-set f xs place x y lt e l p = record {
   others = λ k ne. get-set_other xs place k y ne;
   count = length-set xs place y;
   here = λ x' e'. let s : x ≡ x' = some_same x x' (sym e ∙ e') in (y, get-set_same xs place y lt, l ∙ ap (λ (z : KeptLine). z.line) s, p ∙ ap (λ (z : KeptLine). f (kept_in z)) s);
 }
-
-pub on_ok_map : {A E P Q : Type 0} (r : Result A E) → (P → Q) → OnOk r P → OnOk r Q
-on_ok_map (Ok x) f p = f p
-on_ok_map (Err e) f p = tt
 
 pub on_err_map : {A E P Q : Type 0} (r : Result A E) → (P → Q) → OnErr r P → OnErr r Q
 on_err_map (Ok x) f p = tt

@@ -7,7 +7,7 @@ use Rattle.hip_crash.specs.Waiting.{with_waiting, WaitsWithin}
 use Rattle.hip_crash.specs.declared.values.StoredValue.{StoredValue}
 use Rattle.hip_crash.specs.declared.waiting.Waiting.{Waiting}
 use Rattle.hip_crash.specs.declared.waiting.Waiting.TheVariants as waits
-use Rattle.hip_crash.proofs.Placed.{equal_or_not}
+use Rattle.hip_lines.specs.Laws.ItemLaws.{equal_or_not}
 
 -- the parts of a store wait in its lines from one on
 pub record WaitsFrom (v : StoredValue) (line : ℕ) (w : Waiting) : Type 0 where

@@ -1,7 +1,7 @@
 -- A run up to an entry of its trace.
 use Rattle.std.proofs.Common.{◌≡◌, ◌⊎◌, ◌≤◌, ◌<◌, ◌-◌, ℕ, suc, true, false, Bool, cond, length, inl, inr, refl, sym, ap, ◌∙◌, subst, arith}
 use Rattle.std.proofs.lemmas.Bool.{cases_order}
-use Rattle.hip_answers.specs.EndingLaws.{rests_later}
+use Rattle.hip_runs.specs.Laws.OneEndLaws.{rests_later}
 use Rattle.hip_crash_commands.specs.Advancing.{Reaches}
 use Rattle.hip_crash_commands.specs.Images.{HasEntry, StandsAt}
 use Rattle.hip_tree.specs.declared.program.Program.{Program}

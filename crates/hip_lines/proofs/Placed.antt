@@ -3,8 +3,10 @@ use Rattle.std.proofs.Common.{◌≡◌, ◌≢◌, ◌⊎◌, inl, inr, ℕ, ze
 use Rattle.std.proofs.lemmas.Bool.Decides.{nat_tests}
 use Rattle.std.proofs.lemmas.List.{length-set}
 use Rattle.std.proofs.lemmas.Option.{slice_get-get_or}
+use Rattle.hip_lines.specs.Laws.ItemLaws.{equal_or_not, some_same, get-set_same, get-set_other, get-there, get-push_other, on_ok_map}
 use Rattle.hip_directory.specs.declared.directory.Directory.{Directory}
 use Rattle.hip_directory.specs.Directories.{number_at}
+use Rattle.hip_lines.specs.Laws.LooseLaws.{get-append_end}
 use Rattle.hip_lines.specs.declared.part.Part.{Part}
 use Rattle.hip_lines.specs.declared.queue.Queue.{Queue}
 use Rattle.hip_lines.specs.declared.queues.Queues.{Queues}
@@ -13,47 +15,10 @@ use Rattle.hip_lines.specs.Queues.{pending_in, HasRoom}
 use Rattle.hip_lines.specs.Places.{at_place, queue_in, ArePlaced, KeepsOthers, ChangesPlace, IsFreshAt, IsFresh}
 use Rattle.hip_lines.specs.Kept.{queue_at, count_of, pending_by, pending_at, HasRoomBy, HasRoomAt, AreBelow, ChangesLine, GivesQueue}
 
-equal_or_not : (j k : ℕ) → (((j == k) ≡ true) × (j ≡ k)) ⊎ (((j == k) ≡ false) × (j ≢ k))
-equal_or_not j k = grind (arith, nat_tests)
-
-some_same : {A : Type 0} (x y : A) → Some x ≡ Some y → x ≡ y
-some_same x y e = cc
-
 none_some : {A : Type 0} (x : A) (o : Option A) → o ≡ None → o ≡ Some x → ⊥
 none_some x o e f = let z : ⊥ = cc in z
 
 -- ---- lists of queues
-
-get-set_same : {A : Type 0} (xs : List A) (i : ℕ) (x : A) → i < length xs → slice_get (slice_set xs i x) i ≡ Some x
-get-set_same [] i x h = absurd (omega arith)
-get-set_same (y ∷ xs) zero x h = refl
-get-set_same (y ∷ xs) (suc i) x h = get-set_same xs i x (omega arith)
-
-get-set_other : {A : Type 0} (xs : List A) (i k : ℕ) (x : A) → k ≢ i → slice_get (slice_set xs i x) k ≡ slice_get xs k
-get-set_other [] i k x ne = refl
-get-set_other (y ∷ xs) zero zero x ne = absurd (ne refl)
-get-set_other (y ∷ xs) zero (suc k) x ne = refl
-get-set_other (y ∷ xs) (suc i) zero x ne = refl
-get-set_other (y ∷ xs) (suc i) (suc k) x ne = get-set_other xs i k x (λ e. ne (ap suc e))
-
-get-there : {A : Type 0} (xs : List A) (i : ℕ) → i < length xs → (x : A) × (slice_get xs i ≡ Some x)
-get-there [] i h = absurd (omega arith)
-get-there (y ∷ xs) zero h = (y, refl)
-get-there (y ∷ xs) (suc i) h = get-there xs i (omega arith)
-
-get-push_other : {A : Type 0} (xs : List A) (k : ℕ) (x : A) → k ≢ length xs → slice_get (xs ++ x ∷ []) k ≡ slice_get xs k
-get-push_other [] zero x ne = absurd (ne refl)
-get-push_other [] (suc k) x ne = refl
-get-push_other (y ∷ xs) zero x ne = refl
-get-push_other (y ∷ xs) (suc k) x ne = get-push_other xs k x (λ e. ne (ap suc e))
-
-get-push_end : {A : Type 0} (xs : List A) (x : A) → slice_get (xs ++ x ∷ []) (length xs) ≡ Some x
-get-push_end [] x = refl
-get-push_end (y ∷ xs) x = get-push_end xs x
-
--- the item that was read
-pub get-read : {A : Type 0} (xs : List A) (i : ℕ) (x : A) → i < length xs → x ≡ get_or xs i x → slice_get xs i ≡ Some x
-get-read xs i x h e = slice_get-get_or xs i x h ∙ ap (λ y. Some y) (sym e)
 
 pub changes-set : (f : Pending Part → Pending Part) (qs : List Queue) (place : ℕ) (q r : Queue) → place < length qs → slice_get qs place ≡ Some q → r.line ≡ q.line → pending_in r ≡ f (pending_in q) → ChangesPlace f place qs (slice_set qs place r)
 changes-set f qs place q r lt e l p = record {
@@ -79,7 +44,7 @@ keeps-push qs q = record { others = λ k ne. get-push_other qs k q ne; least = o
     len (x ∷ qs) = omega (arith, len qs)
 
 pub fresh-push : (n : ℕ) (qs : List Queue) (q : Queue) → q.line ≡ n → pending_in q ≡ none_pending → HasRoom q → IsFreshAt n (length qs) (qs ++ q ∷ [])
-fresh-push n qs q l p r = record { queue = q; at = get-push_end qs q; numbered = l; empty = p; room = r }
+fresh-push n qs q l p r = record { queue = q; at = get-append_end qs q; numbered = l; empty = p; room = r }
 
 pub item-is : (qs : List Queue) (place : ℕ) (q r : Queue) → slice_get qs place ≡ Some q → slice_get qs place ≡ Some r → q ≡ r
 item-is qs place q r e f = some_same q r (sym e ∙ f)
@@ -89,10 +54,6 @@ nothing-left q r b e f g = subst (λ (x : Queue). pending_in x ≡ none_pending)
 
 pub not-equal : (a b : ℕ) → not (a == b) ≡ true → a ≢ b
 not-equal a b e = grind (arith, nat_tests)
-
-pub on_ok_map : {A E P Q : Type 0} (r : Result A E) → (P → Q) → OnOk r P → OnOk r Q
-on_ok_map (Ok x) f p = f p
-on_ok_map (Err e) f p = tt
 
 -- ---- the queue of a line
 

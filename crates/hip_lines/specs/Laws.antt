@@ -1,5 +1,6 @@
 -- Laws of the definitions.
 pub mod ImageLaws
+pub mod ItemLaws
 pub mod LineLaws
 pub mod LooseLaws
 pub mod PendingLaws

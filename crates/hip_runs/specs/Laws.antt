@@ -11,6 +11,7 @@ pub mod ImageLaws
 pub mod LineOrder
 pub mod Members
 pub mod NextLaws
+pub mod OneEndLaws
 pub mod OrderLaws
 pub mod OutputLaws
 pub mod PartLaws

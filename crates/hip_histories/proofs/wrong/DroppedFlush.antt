@@ -17,7 +17,7 @@ use Rattle.hip_repairs.specs.examples.FenceWithoutFlush.{fence_without_flush, fe
 use Rattle.hip_repairs.specs.examples.Words.{zeroed}
 use Rattle.hip_repairs.proofs.worked.Runs.{Follows, address_value, after_all, done_opened, int_value, run_is}
 use Rattle.hip_histories.specs.Histories.{AddsNoHistory, AreSameRounds, HasHistoryOf, IsHistory, Round, endings, input_of}
-use Rattle.hip_histories.proofs.OneEnd.{one_end}
+use Rattle.hip_runs.specs.Laws.OneEndLaws.{one_end}
 
 abbrev input : Input
 input = zeroed 1

@@ -1,6 +1,7 @@
 use Rattle.std.proofs.Common.{ap, ◌∙◌}
 use Rattle.hip_crash.specs.Kept.{kept_in, with_fence}
-use Rattle.hip_crash.proofs.Placed.{get-read, changes-set}
+use Rattle.hip_lines.specs.Laws.ItemLaws.{get-read}
+use Rattle.hip_crash.proofs.Placed.{changes-set}
 use Rattle.hip_crash.proofs.kept_lines.fence_at.Goals as goal
 
 pub returns : goal.returns

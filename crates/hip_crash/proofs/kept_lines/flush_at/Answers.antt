@@ -1,5 +1,6 @@
 use Rattle.hip_crash.specs.Kept.{with_flush}
-use Rattle.hip_crash.proofs.Placed.{get-read, changes-set}
+use Rattle.hip_lines.specs.Laws.ItemLaws.{get-read}
+use Rattle.hip_crash.proofs.Placed.{changes-set}
 use Rattle.hip_crash.proofs.kept_lines.flush_at.Goals as goal
 
 pub returns : goal.returns

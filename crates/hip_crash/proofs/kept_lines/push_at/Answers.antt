@@ -1,5 +1,6 @@
 use Rattle.hip_crash.specs.Kept.{with_store}
-use Rattle.hip_crash.proofs.Placed.{get-read, changes-set, on_ok_map, on_err_map}
+use Rattle.hip_lines.specs.Laws.ItemLaws.{get-read, on_ok_map}
+use Rattle.hip_crash.proofs.Placed.{changes-set, on_err_map}
 use Rattle.hip_crash.proofs.kept_lines.push_at.Goals as goal
 
 pub returns-clause-ok : goal.returns-clause-ok

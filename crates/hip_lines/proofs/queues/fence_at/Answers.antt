@@ -1,6 +1,7 @@
 use Rattle.std.proofs.Common.{ap, sym, ◌∙◌}
 use Rattle.hip_lines.specs.Pending.{pending_fenced}
-use Rattle.hip_lines.proofs.Placed.{get-read, changes-set, set-here, nothing-left}
+use Rattle.hip_lines.specs.Laws.ItemLaws.{get-read}
+use Rattle.hip_lines.proofs.Placed.{changes-set, set-here, nothing-left}
 use Rattle.hip_lines.proofs.queues.fence_at.Goals as goal
 
 pub returns-clause-changes : goal.returns-clause-changes

@@ -1,5 +1,6 @@
 use Rattle.std.proofs.Common.{◌+◌, ◌∙◌, arith}
-use Rattle.hip_lines.proofs.Placed.{get-read, unused-checked, not-equal}
+use Rattle.hip_lines.specs.Laws.ItemLaws.{get-read}
+use Rattle.hip_lines.proofs.Placed.{unused-checked, not-equal}
 use Rattle.hip_lines.proofs.queues.is_free.Goals as goal
 
 pub returns-in-Some-clause-free : goal.returns-in-Some-clause-free

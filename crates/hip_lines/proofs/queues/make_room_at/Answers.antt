@@ -1,6 +1,7 @@
 use Rattle.std.proofs.Common.{subst, sym}
 use Rattle.hip_lines.specs.Queues.{HasRoom}
-use Rattle.hip_lines.proofs.Placed.{get-read, changes-set, set-here, item-is, on_ok_map}
+use Rattle.hip_lines.specs.Laws.ItemLaws.{get-read, on_ok_map}
+use Rattle.hip_lines.proofs.Placed.{changes-set, set-here, item-is}
 use Rattle.hip_lines.proofs.queues.make_room_at.Goals as goal
 
 pub returns-clause-changes : goal.returns-clause-changes

@@ -1,5 +1,6 @@
 use Rattle.hip_lines.specs.Pending.{pending_with}
-use Rattle.hip_lines.proofs.Placed.{get-read, changes-set}
+use Rattle.hip_lines.specs.Laws.ItemLaws.{get-read}
+use Rattle.hip_lines.proofs.Placed.{changes-set}
 use Rattle.hip_lines.proofs.queues.push_at.Goals as goal
 
 pub returns : goal.returns

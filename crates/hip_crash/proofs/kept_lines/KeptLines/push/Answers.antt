@@ -1,7 +1,8 @@
 use Rattle.std.proofs.Common.{◌-◌, refl, subst}
 use Rattle.hip_crash.specs.Kept.{with_store}
 use Rattle.hip_crash.specs.Places.{ChangesPlace}
-use Rattle.hip_crash.proofs.Placed.{on_ok_map, on_err_map, some-place, placed-either, changes-line, changes-nothing}
+use Rattle.hip_lines.specs.Laws.ItemLaws.{on_ok_map}
+use Rattle.hip_crash.proofs.Placed.{on_err_map, some-place, placed-either, changes-line, changes-nothing}
 use Rattle.hip_crash.proofs.kept_lines.KeptLines.push.Goals as goal
 
 pub invariant_of-self : goal.invariant_of-self

@@ -48,7 +48,7 @@ abbrev pub passes_or_effects : Program → Numbers → Option ExternCall → Lis
 passes_or_effects P n None callee values o = passes P n callee values o
 passes_or_effects P n (Some call) callee values o = is_memory o
 
--- what is asked of the op, by its instruction: a store's address, what a call passes, and of all others nothing
+-- the op of a store has its address, the op of a call passes its arguments; the ops of all other instructions fit
 abbrev pub names_operands : Program → Input → Numbers → Registers → Op → Instr → Type 0
 names_operands P I n rs o (instrs.Store ty value addr align) = stores_at n (value_of P.globals I.base rs addr) o
 names_operands P I n rs o (instrs.Call dest ret callee args) =

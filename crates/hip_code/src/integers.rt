@@ -96,8 +96,8 @@ fn compared_narrow(test: Comparison, width: Width, left: u64, right: u64) -> boo
     holds_of(test, Bits::new(width, left), Bits::new(width, right))
 }
 
-/// Whether a comparison holds of two numbers that are cut to a width. Numbers of 64 bits, which need no cut, are told
-/// apart.
+/// Whether a comparison holds of two numbers that are cut to a width. Numbers of 64 bits need no cut and are
+/// compared as they are.
 #[inline(always)]
 pub fn compared(test: Comparison, width: Width, left: u64, right: u64) -> bool
     ensures { result ≡ compared (predicate_of test) width left right }

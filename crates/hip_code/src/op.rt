@@ -52,7 +52,7 @@ pub struct DivisionOp {
     pub rest: bool,
 }
 
-/// What is asked of two integers: whether they are equal, or the first one is less, without a sign or with one.
+/// A test of two integers: whether they are equal, or the first one is less, without a sign or with one.
 #[derive(Clone, Copy)]
 pub enum Comparison {
     Equal,

@@ -13,8 +13,8 @@ use hip_types::{Name, NoMemory};
 use std::alloc::Global;
 use std::marker::Model;
 
-/// The addresses of a program's globals by their names, where its region begins at a base. They are worked out once;
-/// what is asked of them later goes through no list of globals.
+/// The addresses of a program's globals by their names, where its region begins at a base. They are computed once;
+/// a later look-up does not search a list of globals.
 #[derive(Drop)]
 pub struct GlobalAddresses<'a> {
     table: AddressTable<'a>,

@@ -72,8 +72,8 @@ pub fn volatile_bytes(alloc: Global, program: &Program, base: u64) -> Result<Row
     laid_bytes(alloc, &addresses, globals, false, VOLATILE_START)
 }
 
-/// What the region holds before a run, where it begins at a base: the persistent globals, and zeros between and behind
-/// them. The time is that of the bytes and of the program's constants.
+/// What the region holds before a run, where it begins at a base: the persistent globals, and zeros between and after
+/// them. The time is linear in the bytes and in the program's constants.
 pub fn region_bytes(alloc: Global, program: &Program, base: u64) -> Result<Row<u8>, NoMemory>
     requires globals { All TypesFitIn program.now.globals }
     requires persistent { end_of true base program.now.globals < 2 ^ 64 }

@@ -119,7 +119,7 @@ persistent-found globals base a n v p (g ∷ gs) left high =
 
 -- ---- the loop over the globals
 
--- the first globals, so many of them, are laid, and the others are laid from `at` on
+-- the first i globals are laid, and the others are laid from `at` on
 pub record IsPlaced (kind : Bool) (start : ℕ) (gs : List GlobalVar) (i at : ℕ) (ps : List Place) : Type 0 where
   pub all : ps ++ places_from kind at i (drop i gs) ≡ places_from kind start 0 gs
   pub end : end_of kind at (drop i gs) ≡ end_of kind start gs

@@ -1,6 +1,5 @@
--- What holds of every frame of every run, told once: a fact of the frame on top and a fact of a frame after a call
--- hold
--- throughout, where each action keeps them.
+-- Facts of every frame of every run: a fact of the frame on top and a fact of a frame after a call hold throughout if
+-- each action keeps them.
 use Rattle.std.proofs.Common.{◌≡◌, ℕ, zero, suc, Bool, true, false, cond, List, [], ◌∷◌, Option, Some, None, refl, subst}
 use Rattle.hip_types.specs.Numbers.{wrapped}
 use Rattle.hip_types.specs.declared.number.Width.TheVariants.{W64}

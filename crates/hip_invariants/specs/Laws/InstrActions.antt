@@ -1,4 +1,4 @@
--- What an instruction's action may be, told once: a statement of actions is shown case by case.
+-- The actions that an instruction may have: a statement about actions is shown case by case.
 use Rattle.std.proofs.Common.{◌≡◌, ◌≢◌, ℕ, ◌+◌, ◌%◌, ◌<◌, ◌≤◌, Bool, true, false, cond, nat_le, nat_lt, nat_eq, List, [], ◌∷◌, Option, Some, None, slice_get, refl, sym, ap, ◌∙◌, leb-true, ltb-true}
 use Rattle.std.specs.Prelude.{Result, Ok, Err, ℤ}
 use Rattle.std.specs.Int.{next_multiple_of}

@@ -21,7 +21,7 @@ global_from globals base a n (g ∷ gs) =
 abbrev pub global_at : Program → ℕ → ℕ → Option ℕ
 global_at P base a = global_from P.globals base a 0 P.globals
 
--- the first of these blocks that contains address a, told by the site of its `alloca`; none where none does
+-- the site of the `alloca` of the first of these blocks that contains address a; none if none does
 abbrev pub slot_in : List Slot → ℕ → Option Object
 slot_in [] a = None
 slot_in (x ∷ xs) a = cond (range_contains x.addr x.size a) (Some (objects.Slot x.site)) (slot_in xs a)

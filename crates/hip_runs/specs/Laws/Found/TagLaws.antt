@@ -1,4 +1,4 @@
--- What a check asks of loose parts, told by the loose bytes of its range.
+-- The loose parts that a check reports, by the loose bytes of its range.
 use Rattle.std.proofs.Common.{◌≡◌, inl, ℕ, suc, ◌<◌, Bool, true, false, not, ◌||◌, nat_eq, List, [], ◌∷◌, Some, refl, sym, ap, ◌∙◌, subst, arith, ap₂, inr, zero, ◌++◌, ◌+◌, ◌≤◌, ◌⊎◌}
 use Rattle.std.specs.List.{flat_map, range_with_len}
 use Rattle.hip_grammar.specs.Spelling.{not_empty}

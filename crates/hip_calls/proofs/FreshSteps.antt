@@ -37,8 +37,8 @@ fresh_for-alike xs ys (name ∷ names) alike =
     ap (λ x. x ∷ fresh_for (fresh_name xs name ∷ xs) names) first
     ∙ ap (λ rest. fresh_name ys name ∷ rest) (fresh_for-alike (fresh_name xs name ∷ xs) (fresh_name ys name ∷ ys) names (λ q. ap (λ x. bytes_eq q x || is_among xs q) first ∙ ap (λ b. bytes_eq q (fresh_name ys name) || b) (alike q)))
 
-pub behind-alike : (front xs ys : List (List ℕ)) → Alike xs ys → Alike (front ++ xs) (front ++ ys)
-behind-alike front xs ys alike q = list_any-append (bytes_eq q) front xs ∙ ap (λ b. list_any (bytes_eq q) front || b) (alike q) ∙ sym (list_any-append (bytes_eq q) front ys)
+pub after-alike : (front xs ys : List (List ℕ)) → Alike xs ys → Alike (front ++ xs) (front ++ ys)
+after-alike front xs ys alike q = list_any-append (bytes_eq q) front xs ∙ ap (λ b. list_any (bytes_eq q) front || b) (alike q) ∙ sym (list_any-append (bytes_eq q) front ys)
 
 -- ---- candidates
 
@@ -64,7 +64,7 @@ pub fresh_for-next : (earlier set : List (List ℕ)) (functions : List ℕ) (P :
 fresh_for-next earlier set functions P k f d alike h e =
     let x = fresh_name (earlier ++ set) (name_of P f) in
     let y = fresh_name (earlier ++ top_names P) (name_of P f) in
-    let same : x ≡ y = fresh_name-alike (earlier ++ set) (earlier ++ top_names P) (name_of P f) (behind-alike earlier set (top_names P) alike) in
+    let same : x ≡ y = fresh_name-alike (earlier ++ set) (earlier ++ top_names P) (name_of P f) (after-alike earlier set (top_names P) alike) in
     let rest = map (name_of P) (drop (k + 1) functions) in
     append_assoc earlier (x ∷ []) (fresh_for ((earlier ++ x ∷ []) ++ top_names P) rest)
     ∙ ap (λ z. earlier ++ z ∷ fresh_for ((earlier ++ z ∷ []) ++ top_names P) rest) same
@@ -72,7 +72,7 @@ fresh_for-next earlier set functions P k f d alike h e =
     ∙ ap (λ g. earlier ++ fresh_for (earlier ++ top_names P) (name_of P g ∷ rest)) e
     ∙ sym (at_drop_more (λ fs. earlier ++ fresh_for (earlier ++ top_names P) (map (name_of P) fs)) functions k d h)
 
--- a fresh name is put behind the earlier ones
+-- a fresh name is put after the earlier ones
 pub fresh-put : (earlier set : List (List ℕ)) (name : List ℕ) → (if list_any (bytes_eq (fresh_name (earlier ++ set) name)) earlier then earlier else earlier ++ fresh_name (earlier ++ set) name ∷ []) ≡ earlier ++ fresh_name (earlier ++ set) name ∷ []
 fresh-put earlier set name = by_test (list_any (bytes_eq x) earlier) (list_any (bytes_eq x) set) (sym (list_any-append (bytes_eq x) earlier set) ∙ fresh-free (earlier ++ set) name)
   where

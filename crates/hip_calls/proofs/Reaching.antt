@@ -5,16 +5,16 @@ use Rattle.hip_types.specs.Distinct.{met}
 use Rattle.hip_tree.specs.declared.program.Program.{Program}
 use Rattle.hip_calls.specs.Reach.{called_from, extended, reached}
 
-nothing_behind : (xs : List ℕ) (k : ℕ) → slice_get xs k ≡ None → slice_get xs (suc k) ≡ None
-nothing_behind [] k e = refl
-nothing_behind (x ∷ xs) zero e = cc
-nothing_behind (x ∷ xs) (suc k) e = nothing_behind xs k e
+nothing_after : (xs : List ℕ) (k : ℕ) → slice_get xs k ≡ None → slice_get xs (suc k) ≡ None
+nothing_after [] k e = refl
+nothing_after (x ∷ xs) zero e = cc
+nothing_after (x ∷ xs) (suc k) e = nothing_after xs k e
 
 -- where the list ends, nothing more is reached
 pub reached-end : (P : Program) (steps place : ℕ) (seen : List ℕ) → slice_get seen place ≡ None → reached P steps place seen ≡ seen
 reached-end P zero place seen e = refl
 reached-end P (suc steps) place seen e =
-    ap (λ o. reached P steps (suc place) (extended P seen o)) e ∙ reached-end P steps (suc place) seen (nothing_behind seen place e)
+    ap (λ o. reached P steps (suc place) (extended P seen o)) e ∙ reached-end P steps (suc place) seen (nothing_after seen place e)
 
 pub reached-next : (P : Program) (n place : ℕ) (seen : List ℕ) (f : ℕ) → place < n → Some f ≡ slice_get seen place →
     reached P (n - (place + 1)) (place + 1) (met nat_eq seen (called_from P f)) ≡ reached P (n - place) place seen

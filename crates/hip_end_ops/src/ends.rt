@@ -13,6 +13,20 @@ use hip_scope::{Growing, Scope, operand, place};
 use hip_tree::{Arg, End, Operand};
 use hip_types::{Name, NoMemory, Row};
 
+/// The labels of a branch on a condition.
+#[derive(Clone, Copy)]
+pub struct Labels<'a> {
+    yes: &'a Name,
+    no: &'a Name,
+}
+
+/// The cases of a switch, and the label that it takes in no case.
+#[derive(Clone, Copy)]
+pub struct Targets<'a> {
+    cases: &'a [hip_tree::Case],
+    other: &'a Name,
+}
+
 pub fn branch(
     scope: &Scope<'_, '_>,
     tables: &mut Growing,
@@ -36,19 +50,18 @@ pub fn branch_on(
     made: &mut Row<u32>,
     source: &Source<'_>,
     test: &Operand,
-    first: &Name,
-    second: &Name,
+    labels: &Labels<'_>,
 ) -> Result<Op, NoMemory>
     requires scope { Describes scope.now }
     requires source { IsSource scope.now source.now }
     requires lead { LeadFrom scope.now source.now.number source.now.first (grown tables.old) }
     requires test { OperandKnown (names_of scope.now) test.now }
-    requires last { source.now.block.now.«end» ≡ ends.CondBr test.now first.now second.now }
+    requires last { source.now.block.now.«end» ≡ ends.CondBr test.now labels.now.yes.now labels.now.no.now }
     ensures { IfOk result (λ o. EndsHere scope.now (grown tables.old) (grown tables.new) source.now o) }
 {
     let test = operand(scope, tables, test)?;
-    let yes = edge(scope, tables, made, source, first)?;
-    let no = edge(scope, tables, made, source, second)?;
+    let yes = edge(scope, tables, made, source, labels.yes)?;
+    let no = edge(scope, tables, made, source, labels.no)?;
     Ok(Op::Control(Control::Go(Go::Cond { test, yes, no })))
 }
 
@@ -80,22 +93,21 @@ pub fn switch(
     made: &mut Row<u32>,
     source: &Source<'_>,
     value: &Operand,
-    other: &Name,
-    cases: &[hip_tree::Case],
+    targets: &Targets<'_>,
 ) -> Result<Op, NoMemory>
     requires scope { Describes scope.now }
     requires source { IsSource scope.now source.now }
     requires lead { LeadFrom scope.now source.now.number source.now.first (grown tables.old) }
     requires value { OperandKnown (names_of scope.now) value.now }
     requires last { (width : Width) × (source.now.block.now.«end»
-        ≡ ends.Switch width value.now other.now cases.now) }
+        ≡ ends.Switch width value.now targets.now.other.now targets.now.cases.now) }
     ensures { IfOk result (λ o. EndsHere scope.now (grown tables.old) (grown tables.new) source.now o) }
 {
     let value = operand(scope, tables, value)?;
     let from = place(tables.cases.len())?;
-    let count = place(cases.len())?;
-    cases_of(scope, tables, made, source, cases)?;
-    let other = edge(scope, tables, made, source, other)?;
+    let count = place(targets.cases.len())?;
+    cases_of(scope, tables, made, source, targets.cases)?;
+    let other = edge(scope, tables, made, source, targets.other)?;
     Ok(Op::Control(Control::Go(Go::Switch {
         value,
         cases: Span { from, count },
@@ -156,7 +168,7 @@ pub fn end_op(
             Ok(op)
         }
         End::CondBr { cond, yes, no } => {
-            let op = branch_on(scope, tables, made, source, cond, yes, no)?;
+            let op = branch_on(scope, tables, made, source, cond, &Labels { yes, no })?;
             Ok(op)
         }
         End::Switch {
@@ -165,8 +177,9 @@ pub fn end_op(
             cases,
             ..
         } => {
-            let listed = cases.as_slice();
-            let op = switch(scope, tables, made, source, value, other, listed)?;
+            let cases = cases.as_slice();
+            let targets = Targets { cases, other };
+            let op = switch(scope, tables, made, source, value, &targets)?;
             Ok(op)
         }
         End::Ret(value) => {

@@ -116,8 +116,8 @@ abbrev pub OfRun : (Program → Input → Findings → Answer → Type 0) → Pr
 OfRun Texts P I answer = (found : Findings) × IsFound P I found × Texts P I found answer
 
 -- If one file has the program and nothing fails, `run` and `record` answer with its run, and `many` with a repair.
-pub record AnswersPrograms (files : List NamedFile) (program : List ℕ) (P : Program) (old new : CabinetState) (s : Sinks)
-    (status : Status) : Type 0 where
+pub record AnswersPrograms (files : List NamedFile) (program : List ℕ) (P : Program) (old new : CabinetState)
+    (s : Sinks) (status : Status) : Type 0 where
   pub run : (limit : ℕ) (numbers : List ℤ) → IsCall (Run program limit numbers) old new s status →
       Gives (WritesOutput P (first_input P LOWEST_BASE limit numbers)) s status
   pub recorded : (base limit : ℕ) (numbers : List ℤ) → IsCall (Record program base limit numbers) old new s status →

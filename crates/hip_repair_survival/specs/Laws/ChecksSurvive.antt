@@ -33,7 +33,8 @@ none_reported P I clean n =
 pub clean_survives : (P : Program) → IsSound P → (I : Input) → IsValid P I → IsClean P I → ChecksSurvive P I
 clean_survives P s I v clean = record {
   bytes = λ n range e b low high.
-      checked_survives P s I v n range e (ap (check_reports (run P I n)) (sym e) ∙ none_reported P I clean n) b low high;
+      checked_survives P s I v n range e (ap (check_reports (run P I n)) (sym e) ∙ none_reported P I clean n) b
+      low high;
   stop = λ n code going e. stop_image P s I v n code going e (none_reported P I clean n);
 }
 

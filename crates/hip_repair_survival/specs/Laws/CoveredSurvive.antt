@@ -41,5 +41,5 @@ covered_survives P plan skip s quiet I v j n behind last b h =
     let size = same_size (repaired P plan skip) I (suc n) again in
     tight_survives (repaired P plan skip) (repaired_is_sound P plan skip s) I again (suc n) b
     (omega (arith, there, size))
-    (λ loose. tight_last (run (repaired P plan skip) I (suc n)).lines (b / 64) h.line h.at b h.place h.part h.over durable
-    loose.0 loose.1 loose.2.0 loose.2.1 loose.2.2)
+    (λ loose. tight_last (run (repaired P plan skip) I (suc n)).lines (b / 64) h.line h.at b h.place h.part h.over
+    durable loose.0 loose.1 loose.2.0 loose.2.1 loose.2.2)

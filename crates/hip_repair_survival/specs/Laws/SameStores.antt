@@ -62,7 +62,8 @@ same_loose : (l l' : Line StorePart) → contents l' ≡ contents l → l'.durab
 same_loose l l' same less b k x h =
     let seen = loose-map_line content_of content_covers l b k x h in
     let there : IsLooseBy content_covers (map_line content_of l') b k (content_of x) = record {
-      last_over = subst (λ (ps : List Content). IsLastOver content_covers ps b k (content_of x)) (sym same) seen.last_over;
+      last_over =
+          subst (λ (ps : List Content). IsLastOver content_covers ps b k (content_of x)) (sym same) seen.last_over;
       not_durable = omega (arith, less, h.not_durable);
     } in
     let back = map_line-loose content_of content_covers l' b k (content_of x) there in

@@ -93,7 +93,7 @@ and_true : (a b : Bool) → a && b ≡ true → (a ≡ true) × (b ≡ true)
 and_true true b e = (refl, e)
 and_true false b e = absurd (let z : ⊥ = cc in z)
 
--- a loose part is a part of the lines, of the step that is asked for
+-- a loose part is a part of the lines, and its step is the given one
 loose_from_part : (o n made g p k : ℕ) (xs : List StorePart) (q : LoosePart) → In q (loose_from o n made g p k xs) → In q.part xs × (q.part.step ≡ made)
 loose_from_part o n made g p k [] q i = absurd i
 loose_from_part o n made g p k (x ∷ xs) q i = go (nat_eq x.step made && (nat_le g k && is_last o n x xs)) refl (λ j. loose_from_part o n made g p (suc k) xs q j) i
@@ -144,7 +144,7 @@ cons_not x xs e = cc
 nil_not : {A : Type 0} (x : A) (xs : List A) → [] ≡ x ∷ xs → ⊥
 nil_not x xs e = cc
 
--- the facts about a part at place k of a line, where the repaired program's line has so many durable and flushed parts
+-- the facts about a part at place k of a line, where the repaired program's line has g' durable and p' flushed parts
 module _ (plan : Plan) (up : List Level) (F : Flush → Type 0) (o n : ℕ) (Whole : ℕ → LoosePart → Type 0) where
   abbrev Cured : ℕ → ℕ → ℕ → Type 0
   Cured p g' p' = (x : StorePart) (k : ℕ) → Whole x.step (record { part = x; flushed = nat_lt k p }) → Safe plan up F g' p' k x → (k < p → (f : Flush) × (x.first_flush ≡ Some f)) → k < g'
@@ -223,7 +223,7 @@ module _ (P : Program) (plan : Plan) (found : Findings) (contains : Contains pla
       there (report p ps) (in_flat (λ m. report_of up (suc s.counts.entries) (loose m)) (range_with_len 0 s.counts.steps) made (report p ps) (in_range 0 s.counts.steps made (omega arith) (omega arith))
       (subst (λ (qs : List LoosePart). In (report p ps) (report_of up (suc s.counts.entries) qs)) (sym e) (inl refl)))
 
-  -- a loose part x at place k of a line across which so many parts are durable and flushed
+  -- a loose part x at place k of a line; g' parts of the repaired program's line are durable, and p' are flushed
   module _ (x : StorePart) (k p g' p' : ℕ) (safe : Safe plan up (Known s.lines) g' p' k x) (noted : k < p → (f : Flush) × (x.first_flush ≡ Some f)) (made : PartOf s.lines x) where
     abbrev here : LoosePart
     here = record { part = x; flushed = nat_lt k p }

@@ -12,8 +12,8 @@ use Rattle.hip_runs.specs.State.{Level, Flush, StorePart}
 use Rattle.hip_repairs.specs.declared.plan.Plan.{Plan}
 use Rattle.hip_repairs.proofs.simulation.Facts.{Lines, fence_if}
 
--- The part x of the program, at place k, where the repaired program's line has so many durable and so many flushed parts: with the
--- calls that stand, and the first flushes that are known.
+-- What holds of the part x of the program at place k, where the repaired program's line has these numbers of durable and of flushed
+-- parts: by the calls that the plan adds, and by the first flushes that are known.
 pub record Safe (plan : Plan) (up : List Level) (F : Flush → Type 0) (durable flushed k : ℕ) (x : StorePart) : Type 0 where
   pub known : (f : Flush) → x.first_flush ≡ Some f → k < flushed
   pub flushes : has_site plan.flush_after x.site ≡ true → k < flushed

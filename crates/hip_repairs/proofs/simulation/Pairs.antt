@@ -61,7 +61,7 @@ module _ (P : Program) (plan : Plan) (skip : Site → Bool) where
   below_size bottom = refl
   below_size (on t q u h b) = ap suc (below_size b)
 
-  -- Two states with the same world, where at most so many inserted instructions are to be done first; a fact holds of the lines
+  -- Two states with the same world, where at most `size` inserted instructions are to be done first; a fact holds of the lines
   -- when they are done.
   pub data Related (I : Input) (Holds : List Level → Lines → Lines → Type 0) (size : ℕ) : State → State → Type 0 where
     related : {w : World} {f f' : Frame} {fs fs' : List Frame} {ls ls' : Lines} {c c' : Counts} {pend : List Marked} {range : Option (ℕ × ℕ)} {fenced clone : Bool} →

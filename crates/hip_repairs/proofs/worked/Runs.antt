@@ -90,7 +90,7 @@ abbrev pub after_all : Input → State → List Deed → State
 after_all I s [] = s
 after_all I s (d ∷ ds) = after_all I (done I s d) ds
 
--- the number of steps, where so many were taken before
+-- the number of steps after n earlier ones
 abbrev pub steps : ℕ → List Deed → ℕ
 steps n [] = n
 steps n (d ∷ ds) = steps (suc n) ds

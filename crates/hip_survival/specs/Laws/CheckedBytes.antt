@@ -108,23 +108,27 @@ event_fits : (P : Program) (I : Input) (mark : ℕ) (fs : List Frame) (x : Actio
 event_fits P I mark fs (Traps kind) t = record { is = tt }
 event_fits P I mark fs (Stores a bytes) t = go (in_region I a (length bytes))
   where
-    go : (b : Bool) → FitsRegion I (checked_by I (cond b (events.Store a (little_endian bytes) (length bytes)) events.Quiet))
+    go : (b : Bool)
+        → FitsRegion I (checked_by I (cond b (events.Store a (little_endian bytes) (length bytes)) events.Quiet))
     go true = record { is = tt }
     go false = record { is = tt }
 event_fits P I mark fs (Flushes a n) t = go (flushes_lines I a n)
   where
-    go : (b : Bool) → FitsRegion I (checked_by I (cond b (events.Flush (first_line I a) (lines_size I a n)) events.Quiet))
+    go : (b : Bool)
+        → FitsRegion I (checked_by I (cond b (events.Flush (first_line I a) (lines_size I a n)) events.Quiet))
     go true = record { is = tt }
     go false = record { is = tt }
 event_fits P I mark fs (Persists a n) t = go (flushes_lines I a n)
   where
-    go : (b : Bool) → FitsRegion I (checked_by I (cond b (events.Persist (first_line I a) (lines_size I a n)) events.Fence))
+    go : (b : Bool)
+        → FitsRegion I (checked_by I (cond b (events.Persist (first_line I a) (lines_size I a n)) events.Fence))
     go true = record { is = tt }
     go false = record { is = tt }
 event_fits P I mark fs (Asserts a n) t = record { is = asserted I.base (length I.image) a n t }
 event_fits P I mark fs (Returns v) t = go (is_bottom fs)
   where
-    go : (b : Bool) → FitsRegion I (checked_by I (cond b (events.End (Stop (signed W32 (bits W32 v).value))) events.Quiet))
+    go : (b : Bool)
+        → FitsRegion I (checked_by I (cond b (events.End (Stop (signed W32 (bits W32 v).value))) events.Quiet))
     go true = record { is = omega arith }
     go false = record { is = tt }
 event_fits P I mark fs Fences t = record { is = tt }
@@ -165,4 +169,5 @@ pub checked_survives : (P : Program) → IsSound P → (I : Input) → IsValid P
     → next_check P I (run P I n) ≡ Some range → check_reports (run P I n) (Some range) ≡ []
     → (b : ℕ) → range.offset ≤ b → b < range.offset + range.size → Survives P I (run P I n) b
 checked_survives P s I v n range e none b low high =
-    tight_survives P s I v n b (omega (arith, check_fits P I n range e, high)) (loose_reported P I n range none b low high)
+    tight_survives P s I v n b (omega (arith, check_fits P I n range e, high))
+    (loose_reported P I n range none b low high)

@@ -38,7 +38,8 @@ module _ {P : Type 0} (covering : P → ℕ → Bool) (value : P → ℕ → ℕ
   last_value [] b k x first h = absurd (let e = h.at in let z : ⊥ = cc in z)
   last_value (p ∷ ps) b zero x first h =
       let same : p ≡ x = (let e = h.at in let z : p ≡ x = cc in z) in
-      sym (bare_byte covering value ps b (cond (covering p b) (value p b) first) (λ j y e. h.last (suc j) y (omega arith) e))
+      sym (bare_byte covering value ps b (cond (covering p b) (value p b) first)
+      (λ j y e. h.last (suc j) y (omega arith) e))
       ∙ ap (λ c. cond c (value p b) first) (ap (λ y. covering y b) same ∙ h.over)
       ∙ ap (λ y. value y b) same
   last_value (p ∷ ps) b (suc k) x first h =

@@ -55,7 +55,10 @@ module _ (P : Program) (I : Input) where
       ∙ ap (λ b. cond b (suc (entries n)) (entries n)) (stores_entry (event P I (run P I n)) h)
 
   later : (n d : ℕ) → entries n ≤ entries (n + d)
-  later n zero = let e : n ≡ n + 0 = omega arith in let q : entries n ≡ entries (n + 0) = ap entries e in omega (arith, q)
+  later n zero =
+      let e : n ≡ n + 0 = omega arith in
+      let q : entries n ≡ entries (n + 0) = ap entries e in
+      omega (arith, q)
   later n (suc d) =
       let e : suc (n + d) ≡ n + suc d = omega arith in
       let q : entries (suc (n + d)) ≡ entries (n + suc d) = ap entries e in

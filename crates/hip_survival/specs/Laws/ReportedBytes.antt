@@ -127,7 +127,8 @@ reported_byte P s I v n range r i =
     let h = of.loose in
     let line : h.byte / 64 ≡ h.line =
     in_lines P I n h.line h.of h.place of.part.part h.line_at h.loose.last_over.at h.byte h.loose.last_over.over in
-    let at : slice_get (run P I n).lines (h.byte / 64) ≡ Some h.of = ap (slice_get (run P I n).lines) line ∙ h.line_at in
+    let at : slice_get (run P I n).lines (h.byte / 64) ≡ Some h.of =
+    ap (slice_get (run P I n).lines) line ∙ h.line_at in
     let there : h.byte / 64 < length (run P I n).lines = get-below (run P I n).lines (h.byte / 64) h.of at in
     let lt : h.byte < length I.image = omega (arith, there, same_size P I n v) in
     let below : h.place < length h.of.parts = get-below h.of.parts h.place of.part.part h.loose.last_over.at in

@@ -38,7 +38,8 @@ module _ (P : Program) (I : Input) (n : ℕ) where
 
   pub loose-told : (b : ℕ) → IsLooseAt (run P I n) b → (x : LooseByte) × In x (loose_bytes (run P I n) b 1)
   loose-told b h =
-      let there = loose_part b 1 h.2.1.step (run P I n).lines (record { part = h.2.1; flushed = nat_lt h.2.0 h.0.flushed })
+      let there = loose_part b 1 h.2.1.step (run P I n).lines
+      (record { part = h.2.1; flushed = nat_lt h.2.0 h.0.flushed })
       (part_of_loose b b 1 (omega arith) (omega arith) h) in
       let alike = are_alike (run P I n).lines (in_lines P I n) b 1 h.2.1.step in
       let r = alike.byte_of (record { part = h.2.1; flushed = nat_lt h.2.0 h.0.flushed }) there in

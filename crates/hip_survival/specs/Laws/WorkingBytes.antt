@@ -74,7 +74,8 @@ module _ (P : Program) (I : Input) (low : volatile_end P ≤ I.base) (above : st
         where
           next : (is_within stack_start mark a n ≡ true) ⊎ (in_region I a n ≡ true) → a + n ≤ I.base
           next (inl g) =
-              let h : a + n ≤ mark = le_true (a + n) mark (both_true (nat_le stack_start a) (nat_le (a + n) mark) g).1 in
+              let h : a + n ≤ mark =
+              le_true (a + n) mark (both_true (nat_le stack_start a) (nat_le (a + n) mark) g).1 in
               omega (arith, h, m, above)
           next (inr g) = absurd (let z : false ≡ true = sym f ∙ g in let u : ⊥ = cc in u)
 

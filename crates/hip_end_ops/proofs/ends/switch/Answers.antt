@@ -10,7 +10,7 @@ cases_of-requires-clause-lead c = lead_kept _ _ _ _ _ c.requires.lead c.in_ok-va
 
 pub cases_of-requires-clause-named : goal.cases_of-requires-clause-named
 cases_of-requires-clause-named c = record {
-  at = λ k d e. subst (λ (x : End). IsAmong (end_labels x) d.label) (sym c.requires.last.1) (inr (case_named c.args.cases.now k d e));
+  at = λ k d e. subst (λ (x : End). IsAmong (end_labels x) d.label) (sym c.requires.last.1) (inr (case_named c.args.targets.now.cases.now k d e));
 }
 
 pub returns : goal.returns

@@ -7,3 +7,4 @@ pub mod OtherArms
 pub mod Known
 pub mod Fetch
 pub mod NamedPointers
+pub mod PassedPointers

@@ -80,7 +80,7 @@ number_free P s callee g named = go (slice_get P.functions g) refl
         let same : f.name ≡ callee = same_Some _ _ (sym (ap (option_map (λ (h : Function). h.name)) e) ∙ there) in
         subst (λ n. call_of n ≡ None) same (all-at (λ (h : Function). IsFree h.name) P.functions g f s.externs.functions e)
 
-not_numbered : (P : Program) → IsSound P → (callee : List ℕ) (x : ExternCall) → call_of callee ≡ Some x → is_some (function_number P callee) ≡ false
+pub not_numbered : (P : Program) → IsSound P → (callee : List ℕ) (x : ExternCall) → call_of callee ≡ Some x → is_some (function_number P callee) ≡ false
 not_numbered P s callee x known = go (function_number P callee) refl
   where
     go : (o : Option ℕ) → function_number P callee ≡ o → is_some o ≡ false
@@ -99,7 +99,7 @@ enough P n callee ret args vs call s defined long (inl f) w =
     w.passed f.function here (omega (arith, long, params, given, counts))
 enough P n callee ret args vs call s defined long (inr x) w = absurd (let no : None ≡ Some x.signature = ap (option_map signature) (sym defined) ∙ x.known in let z : ⊥ = cc in z)
 
-called_with : (P : Program) (n : Numbers) (callee : List ℕ) (ret : Option Scalar) (args : List Arg) (vs : List ℕ) (op : Op) → IsSound P → call_of callee ≡ None → length vs ≡ length args → CallsFunction P callee ret args ⊎ CallsExtern callee ret args →
+pub called_with : (P : Program) (n : Numbers) (callee : List ℕ) (ret : Option Scalar) (args : List Arg) (vs : List ℕ) (op : Op) → IsSound P → call_of callee ≡ None → length vs ≡ length args → CallsFunction P callee ret args ⊎ CallsExtern callee ret args →
     passes P n callee vs op → calls_with n vs op × (is_some (function_number P callee) ≡ true)
 called_with P n callee ret args vs (ops.Control (controls.Call call)) s defined long agrees w = (enough P n callee ret args vs call s defined long agrees w, ap is_some w.numbered)
 called_with P n callee ret args vs (ops.Control (controls.Go go)) s defined long agrees w = absurd w

@@ -1,5 +1,5 @@
 -- The pointer operands of the instruction at a machine's place, as its op tells them.
-use Rattle.std.specs.Prelude.{ℕ, ◌⊎◌, ◌≡◌, Bool, true, false, List, Option, Some, option_map, slice_get}
+use Rattle.std.specs.Prelude.{ℕ, ◌⊎◌, ◌≡◌, Bool, true, false, List, [], ◌∷◌, ◌++◌, Option, Some, option_map, option_to_list, slice_get}
 use Rattle.std.specs.List.{flat_map}
 use Rattle.hip_types.specs.declared.number.Scalar.{Scalar}
 use Rattle.hip_types.specs.declared.number.Scalar.TheVariants.{Int, Ptr}
@@ -32,6 +32,17 @@ pub record IsPointerArg (args : List Arg) (k j : ℕ) : Type 0 where
   pub arg : Arg
   pub here : slice_get args j ≡ Some arg
   pub is : slice_get (flat_map pointer_arg args) k ≡ Some arg.value
+
+-- the value that a call passes for a pointer, as a list of one; none for an integer
+abbrev pub pointer_passed : Scalar → Option ℕ → List ℕ
+pointer_passed Ptr value = option_to_list value
+pointer_passed (Int width) value = []
+
+-- the values of those arguments that are pointers, where the call passes these values
+abbrev pub pointers_among : List Arg → List ℕ → List ℕ
+pointers_among [] values = []
+pointers_among (a ∷ args) [] = []
+pointers_among (a ∷ args) (v ∷ values) = pointer_passed a.ty (Some v) ++ pointers_among args values
 
 -- the op is a call that passes these values
 abbrev pub calls_with : Numbers → List ℕ → Op → Type 0

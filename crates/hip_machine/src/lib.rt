@@ -15,4 +15,4 @@ pub use act::step_core;
 pub use branches::edge_at;
 pub use calls::lengthen;
 pub use core_parts::{Activation, Core};
-pub use pointers::pointer_here;
+pub use pointers::{pointer_here, pointers_here};

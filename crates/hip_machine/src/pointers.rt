@@ -1,17 +1,18 @@
-ghost use Rattle.std.specs.Prelude.{◌≡◌, ℕ, List, None, Some, MatchOption, slice_get};
+ghost use Rattle.std.specs.Prelude.{◌≡◌, ℕ, List, [], ◌∷◌, ◌++◌, None, Some, IfOk, MatchOption, OnOk, slice_get};
 ghost use Rattle.std.specs.List.{flat_map};
 ghost use Rattle.hip_runs.specs.Found.Marks.{pointer_arg};
 ghost use Rattle.hip_code.specs.Named.{is_memory, stores_at, values_passed};
 ghost use Rattle.hip_code.specs.Ops.{CallWithin, OpWithin};
 ghost use Rattle.hip_machine.specs.Acts.{IsReady, numbers_of};
-ghost use Rattle.hip_machine.specs.Pointing.{IsPointerArg, TellsPointer, calls_with, is_pointer};
+ghost use Rattle.hip_machine.specs.Pointing.{IsPointerArg, TellsPointer, calls_with, is_pointer, pointer_passed, pointers_among};
 
 use crate::core_parts::Core;
 use crate::moves::moves_of;
 use crate::values::read_here;
 use hip_code::{Call, Code, Control, Memory, Op};
 use hip_tree::{Arg, Instr};
-use hip_types::Scalar;
+use hip_types::{NoMemory, Row, Scalar};
+use std::alloc::Global;
 
 fn is_pointer(ty: Scalar) -> bool
     ensures { result ≡ is_pointer ty }
@@ -112,5 +113,111 @@ pub fn pointer_here(core: &Core, code: &Code, instr: &Instr, operand: usize) -> 
         Instr::Alloca { .. } => None,
         Instr::Load { .. } => None,
         Instr::Gep { .. } => None,
+    }
+}
+
+// The address of an op that stores, as a list of one. None of any other op.
+fn address_in(alloc: Global, core: &Core, code: &Code, op: Op) -> Result<Row<u64>, NoMemory>
+    requires { OpWithin (numbers_of code.now core.now) op }
+    ensures { IfOk result (λ values. (a : ℕ) → stores_at (numbers_of code.now core.now) a op → values ≡ a ∷ []) }
+{
+    let mut values = Row::new(alloc);
+    match address_of(core, code, op) {
+        Some(addr) => {
+            values.push(addr)?;
+            Ok(values)
+        }
+        None => Ok(values),
+    }
+}
+
+// Adds the value that a call moves for the argument of this type and place, if it is a pointer.
+fn push_passed(
+    core: &Core,
+    code: &Code,
+    call: Call,
+    ty: Scalar,
+    place: usize,
+    values: &mut Row<u64>,
+) -> Result<(), NoMemory>
+    requires { CallWithin (numbers_of code.now core.now) call }
+    ensures { OnOk result (values.new
+        ≡ values.old ++ pointer_passed ty (slice_get (values_passed (numbers_of code.now core.now) call) place)) }
+{
+    match ty {
+        Scalar::Int(_) => Ok(()),
+        Scalar::Ptr => match value_passed(core, code, call, place) {
+            Some(value) => values.push(value),
+            None => Ok(()),
+        },
+    }
+}
+
+// The values that a call moves for its pointer arguments.
+fn pointers_passed(
+    alloc: Global,
+    core: &Core,
+    code: &Code,
+    call: Call,
+    args: &[Arg],
+) -> Result<Row<u64>, NoMemory>
+    requires { CallWithin (numbers_of code.now core.now) call }
+    ensures { IfOk result (λ values. values
+        ≡ pointers_among args.now (values_passed (numbers_of code.now core.now) call)) }
+{
+    let mut values = Row::new(alloc);
+    'passing: for place in 0..args.len() {
+        let arg = &args[place];
+        push_passed(core, code, call, arg.ty, place, &mut values)?;
+    }
+    Ok(values)
+}
+
+// The values of the pointer arguments of an op that calls.
+fn pointers_in(
+    alloc: Global,
+    core: &Core,
+    code: &Code,
+    op: Op,
+    args: &[Arg],
+) -> Result<Row<u64>, NoMemory>
+    requires { OpWithin (numbers_of code.now core.now) op }
+    ensures calls { IfOk result (λ values. (vs : List ℕ) → calls_with (numbers_of code.now core.now) vs op →
+        values ≡ pointers_among args.now vs) }
+    ensures other { IfOk result (λ values. is_memory op → values ≡ []) }
+{
+    match op {
+        Op::Control(control) => match control {
+            Control::Call(call) => pointers_passed(alloc, core, code, call, args),
+            Control::Go(_) => Ok(Row::new(alloc)),
+            Control::Exit(_) => Ok(Row::new(alloc)),
+        },
+        Op::Value { .. } => Ok(Row::new(alloc)),
+        Op::Memory(_) => Ok(Row::new(alloc)),
+    }
+}
+
+/// The values of all pointer operands of the instruction whose op stands at the machine's place, in their order.
+pub fn pointers_here(
+    alloc: Global,
+    core: &Core,
+    code: &Code,
+    instr: &Instr,
+) -> Result<Row<u64>, NoMemory>
+    requires { IsReady code.now core.now }
+    ensures { IfOk result (λ values. (operand : ℕ) →
+        TellsPointer code.now core.now instr.now operand (slice_get values operand)) }
+{
+    let op = code.ops[core.top.place];
+    match instr {
+        Instr::Store { .. } => address_in(alloc, core, code, op),
+        Instr::Call { args, .. } => pointers_in(alloc, core, code, op, args.as_slice()),
+        Instr::Binary { .. } => Ok(Row::new(alloc)),
+        Instr::Compare { .. } => Ok(Row::new(alloc)),
+        Instr::Select { .. } => Ok(Row::new(alloc)),
+        Instr::Cast { .. } => Ok(Row::new(alloc)),
+        Instr::Alloca { .. } => Ok(Row::new(alloc)),
+        Instr::Load { .. } => Ok(Row::new(alloc)),
+        Instr::Gep { .. } => Ok(Row::new(alloc)),
     }
 }

@@ -40,12 +40,7 @@ pub fn set_size(bytes: &mut Image, start: usize, size: u64) -> Result<(), NoMemo
 }
 
 /// Fills up with zeros to the next multiple of an alignment, if what is after a place begins at an address.
-pub fn set_align(
-    bytes: &mut Image,
-    start: usize,
-    address: u64,
-    align: u64,
-) -> Result<(), NoMemory>
+pub fn set_align(bytes: &mut Image, start: usize, address: u64, align: u64) -> Result<(), NoMemory>
     requires { start ≤ length bytes.old }
     ensures { OnOk result (bytes.new ≡ take start bytes.old ++ aligned address align (drop start bytes.old)) }
 {

@@ -40,5 +40,5 @@ line-is xs bytes n at len h f =
     ext_get_or 0 bytes (take 64 (drop at (xs ++ replicate n 0)))
     (omega (arith, len, h, length-take 64 (drop at (xs ++ replicate n 0)), length-drop at (xs ++ replicate n 0)))
     (λ i lt.
-        f i (omega (arith, lt, len)) ∙ index-zeros xs n (at + i)
-        ∙ sym (get_or-take 64 (drop at (xs ++ replicate n 0)) i 0 (omega (arith, lt, len)) ∙ get_or-drop at (xs ++ replicate n 0) i 0))
+    f i (omega (arith, lt, len)) ∙ index-zeros xs n (at + i)
+    ∙ sym (get_or-take 64 (drop at (xs ++ replicate n 0)) i 0 (omega (arith, lt, len)) ∙ get_or-drop at (xs ++ replicate n 0) i 0))

@@ -64,10 +64,7 @@ impl Image {
         requires { LINE_SIZE * line + LINE_SIZE ≤ length self.now }
         ensures { result ≡ take LINE_SIZE (drop (LINE_SIZE * line) self.now) }
     {
-        bytes_from(
-            self.stored.as_slice(),
-            line as usize * LINE_SIZE as usize,
-        )
+        bytes_from(self.stored.as_slice(), line as usize * LINE_SIZE as usize)
     }
 
     /// Puts a byte at the end.

@@ -9,8 +9,8 @@ ghost use Rattle.hip_names.specs.Names as names;
 ghost use Rattle.hip_sound.specs.Numbering.{function_names, function_number};
 ghost use Rattle.hip_sound.specs.Sound.{RegistersAssigned, HasMain, IsSound};
 
-use hip_image::Image;
 use hip_globals::{address, region_bytes, region_size, volatile_bytes};
+use hip_image::Image;
 use hip_tree::{Function, Program};
 use hip_types::NoMemory;
 use std::alloc::Global;

@@ -8,5 +8,5 @@ returns c =
     (line-is c.self.inside.stored.items c.bytes_from.result c.self.inside.zeros (64 * c.args.line) (omega arith)
     (subst (λ xs. 64 * c.args.line + 64 ≤ length xs) (sym c.self.view_is) c.requires)
     (λ i lt.
-        c.bytes_from.ensures i lt ∙ ap (λ n. slice_index c.as_slice.result.now (n + i)) (let e : c.args.line * 64 ≡ 64 * c.args.line = omega arith in e)
-        ∙ ap (λ xs. slice_index xs (64 * c.args.line + i)) c.as_slice.ensures.value))
+    c.bytes_from.ensures i lt ∙ ap (λ n. slice_index c.as_slice.result.now (n + i)) (let e : c.args.line * 64 ≡ 64 * c.args.line = omega arith in e)
+    ∙ ap (λ xs. slice_index xs (64 * c.args.line + i)) c.as_slice.ensures.value))

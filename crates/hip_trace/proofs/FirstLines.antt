@@ -6,7 +6,8 @@ use Rattle.std.specs.List.{list_any, position_or_len}
 use Rattle.std.specs.Str.{bytes_eq}
 use Rattle.std.specs.Str.Parse.{AllDigits, digits_value}
 use Rattle.std.proofs.lemmas.Bool.{eqb-true, lt-ltb, le-ltb}
-use Rattle.std.proofs.lemmas.Int.Digits.{digits_value_more, digits_more}
+use Rattle.std.proofs.lemmas.Int.Digits.{digits_value_more, digits_more, digits_value-lt}
+use Rattle.std.proofs.Math.Nat.{pow-le-pow_right}
 use Rattle.std.proofs.lemmas.List.{length-drop, length-take-le, take-append-drop, take_all}
 use Rattle.std.proofs.lemmas.Slice.Eq.{bytes_eq-Decides}
 use Rattle.std.proofs.lemmas.List.Folds.{list_any-append}
@@ -71,6 +72,14 @@ digit_next bytes at n d b lt all e is at_b low =
     let next = digits_value_more 16 bytes at lt in
     let small : digit_value (get_or bytes at 0) < 16 = subst (λ (x : ℕ). x < 16) here low in
     (digits_more 16 bytes at lt all small, omega (arith, here, next, e))
+
+-- a number of at most k digits
+pub few_digits : (bytes : List ℕ) (at k n : ℕ) → at ≤ k → at ≤ length bytes → AllDigits 16 (take at bytes) → n ≡ digits_value 16 (take at bytes) → n < 16 ^ k
+few_digits bytes at k n few within all e =
+    let below = digits_value-lt 16 (take at bytes) all in
+    let len : length (take at bytes) ≡ at = length-take-le at bytes within in
+    let most : 16 ^ length (take at bytes) ≤ 16 ^ k = pow-le-pow_right {n = 16} (omega arith) (omega (arith, len, few)) in
+    omega (arith, below, most, e)
 
 -- ---- fields
 

@@ -15,27 +15,46 @@ pub(crate) struct Line {
     pub len: usize,
 }
 
+// For each byte the digit that it writes to base 16, in lower case, or 16 where it writes none.
+static DIGITS: [u8; 256] = [
+    16, 16, 16, 16, 16, 16, 16, 16, 16, 16, 16, 16, 16, 16, 16, 16, 16, 16, 16, 16, 16, 16, 16, 16,
+    16, 16, 16, 16, 16, 16, 16, 16, 16, 16, 16, 16, 16, 16, 16, 16, 16, 16, 16, 16, 16, 16, 16, 16,
+    0, 1, 2, 3, 4, 5, 6, 7, 8, 9, 16, 16, 16, 16, 16, 16, 16, 16, 16, 16, 16, 16, 16, 16, 16, 16,
+    16, 16, 16, 16, 16, 16, 16, 16, 16, 16, 16, 16, 16, 16, 16, 16, 16, 16, 16, 16, 16, 16, 16, 10,
+    11, 12, 13, 14, 15, 16, 16, 16, 16, 16, 16, 16, 16, 16, 16, 16, 16, 16, 16, 16, 16, 16, 16, 16,
+    16, 16, 16, 16, 16, 16, 16, 16, 16, 16, 16, 16, 16, 16, 16, 16, 16, 16, 16, 16, 16, 16, 16, 16,
+    16, 16, 16, 16, 16, 16, 16, 16, 16, 16, 16, 16, 16, 16, 16, 16, 16, 16, 16, 16, 16, 16, 16, 16,
+    16, 16, 16, 16, 16, 16, 16, 16, 16, 16, 16, 16, 16, 16, 16, 16, 16, 16, 16, 16, 16, 16, 16, 16,
+    16, 16, 16, 16, 16, 16, 16, 16, 16, 16, 16, 16, 16, 16, 16, 16, 16, 16, 16, 16, 16, 16, 16, 16,
+    16, 16, 16, 16, 16, 16, 16, 16, 16, 16, 16, 16, 16, 16, 16, 16, 16, 16, 16, 16, 16, 16, 16, 16,
+    16, 16, 16, 16, 16, 16, 16, 16, 16, 16, 16, 16, 16, 16,
+];
+
 // The digit that a byte writes to base 16, in lower case.
 #[inline(always)]
 fn digit_of(byte: u8) -> Option<u64>
     ensures value { IfSome result (λ digit. digit ≡ digit_value byte) }
     ensures small { IfSome result (λ digit. digit < 16) }
 {
-    match byte {
-        b'0'..=b'9' => Some(u64::from(byte - b'0')),
-        b'a'..=b'f' => Some(u64::from(byte - b'a') + 10),
-        _ => None,
+    let digit = DIGITS[byte as usize];
+    if digit < 16 {
+        Some(u64::from(digit))
+    } else {
+        None
     }
 }
 
-// The number whose digits stand first.
+// The number of at most 16 digits that stand first, where 16 bytes or more are there.
 #[inline(always)]
 fn first_number(bytes: &[u8]) -> Option<(u64, &[u8])>
     ensures { IfSome result (λ r. HasDigits bytes.now r.0 r.1.now) }
 {
+    if bytes.len() < 16 {
+        return None;
+    }
     let mut number: u64 = 0;
     let mut at = 0;
-    'digits: while at < bytes.len() && number < 1 << 60 {
+    'digits: while at < 16 {
         match digit_of(bytes[at]) {
             Some(digit) => number = number * 16 + digit,
             None => break,
@@ -50,7 +69,7 @@ fn first_number(bytes: &[u8]) -> Option<(u64, &[u8])>
 
 // What stands after a word.
 #[inline(always)]
-fn behind<'a>(bytes: &'a [u8], word: &[u8]) -> Option<&'a [u8]>
+fn after_word<'a>(bytes: &'a [u8], word: &[u8]) -> Option<&'a [u8]>
     ensures { IfSome result (λ rest. bytes.now ≡ word.now ++ rest.now) }
 {
     bytes.strip_prefix(word)
@@ -61,7 +80,10 @@ fn behind<'a>(bytes: &'a [u8], word: &[u8]) -> Option<&'a [u8]>
 fn first_field(bytes: &[u8]) -> Option<(u64, &[u8])>
     ensures { IfSome result (λ r. HasField bytes.now r.0 r.1.now) }
 {
-    match behind(bytes, b";0x") {
+    if bytes.len() < 19 {
+        return None;
+    }
+    match after_word(bytes, b";0x") {
         Some(rest) => first_number(rest),
         None => None,
     }
@@ -106,21 +128,23 @@ fn first_assert(bytes: &[u8]) -> Option<(Entry, &[u8])>
 fn first_entry(bytes: &[u8]) -> Option<(Entry, &[u8])>
     ensures { IfSome result (λ r. HasEntry bytes.now r.0 r.1.now) }
 {
-    if let Some(rest) = behind(bytes, b"STORE") {
-        return first_store(rest);
+    let first = *bytes.first()?;
+    match first {
+        b'S' => first_store(after_word(bytes, b"STORE")?),
+        b'F' => flush_or_fence(bytes),
+        b'P' => first_persist(after_word(bytes, b"PERSIST")?),
+        b'A' => first_assert(after_word(bytes, b"ASSERT")?),
+        _ => None,
     }
-    if let Some(rest) = behind(bytes, b"FLUSH") {
-        return first_flush(rest);
-    }
-    if let Some(rest) = behind(bytes, b"FENCE") {
-        return Some((Entry::Fence, rest));
-    }
-    if let Some(rest) = behind(bytes, b"PERSIST") {
-        return first_persist(rest);
-    }
-    match behind(bytes, b"ASSERT") {
-        Some(rest) => first_assert(rest),
-        None => None,
+}
+
+#[inline(always)]
+fn flush_or_fence(bytes: &[u8]) -> Option<(Entry, &[u8])>
+    ensures { IfSome result (λ r. HasEntry bytes.now r.0 r.1.now) }
+{
+    match after_word(bytes, b"FENCE") {
+        Some(rest) => Some((Entry::Fence, rest)),
+        None => first_flush(after_word(bytes, b"FLUSH")?),
     }
 }
 
@@ -129,7 +153,7 @@ pub(crate) fn first_line(bytes: &[u8]) -> Option<Line>
     ensures { IfSome result (λ line. IsFirstLine bytes.now line) }
 {
     let (entry, rest) = first_entry(bytes)?;
-    let _next = behind(rest, b"\n")?;
+    let _next = after_word(rest, b"\n")?;
     let len = bytes.len() - rest.len();
     if len > 256 {
         return None;

@@ -3,16 +3,41 @@
 
 ghost use Rattle.std.specs.Prelude.{◌≡◌, ◌<◌, ◌++◌, codes, IfSome};
 ghost use Rattle.std.specs.Char.{digit_value};
-ghost use Rattle.hip_trace.specs.Lines.{HasDigits, HasEntry, HasField, IsFirstLine};
+ghost use Rattle.hip_trace.specs.Lines.{HasDigits, HasEntry, HasField, IsFirstLine, usual_entry};
 
 use crate::entry::Entry;
-use crate::spelled::{sized_store, some_lines};
+use crate::spelled::{some_lines, store_size};
 
-/// An entry, and how many bytes its text has.
+/// An entry of a usual line. It takes less room than any `Entry`, which may be an image.
+#[derive(Clone, Copy)]
+pub(crate) enum Usual {
+    Store { addr: u64, value: u64, size: u32 },
+    Flush { addr: u64, size: u64 },
+    Fence,
+    Persist { addr: u64, size: u64 },
+    Assert { addr: u64, size: u64 },
+}
+
+/// A usual line: its entry, and how many bytes its text has.
 #[derive(Clone, Copy)]
 pub(crate) struct Line {
-    pub entry: Entry,
+    pub usual: Usual,
     pub len: usize,
+}
+
+impl Usual {
+    #[inline(always)]
+    pub(crate) fn entry(self) -> Entry
+        ensures { result ≡ usual_entry self }
+    {
+        match self {
+            Usual::Store { addr, value, size } => Entry::Store { addr, value, size },
+            Usual::Flush { addr, size } => Entry::Flush { addr, size },
+            Usual::Fence => Entry::Fence,
+            Usual::Persist { addr, size } => Entry::Persist { addr, size },
+            Usual::Assert { addr, size } => Entry::Assert { addr, size },
+        }
+    }
 }
 
 // For each byte the digit that it writes to base 16, in lower case, or 16 where it writes none.
@@ -89,44 +114,44 @@ fn first_field(bytes: &[u8]) -> Option<(u64, &[u8])>
     }
 }
 
-fn first_store(bytes: &[u8]) -> Option<(Entry, &[u8])>
-    ensures { IfSome result (λ r. HasEntry (codes "STORE" ++ bytes.now) r.0 r.1.now) }
+fn first_store(bytes: &[u8]) -> Option<(Usual, &[u8])>
+    ensures { IfSome result (λ r. HasEntry (codes "STORE" ++ bytes.now) (usual_entry r.0) r.1.now) }
 {
     let (addr, rest) = first_field(bytes)?;
     let (value, rest) = first_field(rest)?;
     let (size, rest) = first_field(rest)?;
-    let entry = sized_store(addr, value, size)?;
-    Some((entry, rest))
+    let size = store_size(value, size)?;
+    Some((Usual::Store { addr, value, size }, rest))
 }
 
-fn first_flush(bytes: &[u8]) -> Option<(Entry, &[u8])>
-    ensures { IfSome result (λ r. HasEntry (codes "FLUSH" ++ bytes.now) r.0 r.1.now) }
+fn first_flush(bytes: &[u8]) -> Option<(Usual, &[u8])>
+    ensures { IfSome result (λ r. HasEntry (codes "FLUSH" ++ bytes.now) (usual_entry r.0) r.1.now) }
 {
     let (addr, rest) = first_field(bytes)?;
     let (size, rest) = first_field(rest)?;
     let (addr, size) = some_lines(addr, size)?;
-    Some((Entry::Flush { addr, size }, rest))
+    Some((Usual::Flush { addr, size }, rest))
 }
 
-fn first_persist(bytes: &[u8]) -> Option<(Entry, &[u8])>
-    ensures { IfSome result (λ r. HasEntry (codes "PERSIST" ++ bytes.now) r.0 r.1.now) }
+fn first_persist(bytes: &[u8]) -> Option<(Usual, &[u8])>
+    ensures { IfSome result (λ r. HasEntry (codes "PERSIST" ++ bytes.now) (usual_entry r.0) r.1.now) }
 {
     let (addr, rest) = first_field(bytes)?;
     let (size, rest) = first_field(rest)?;
     let (addr, size) = some_lines(addr, size)?;
-    Some((Entry::Persist { addr, size }, rest))
+    Some((Usual::Persist { addr, size }, rest))
 }
 
-fn first_assert(bytes: &[u8]) -> Option<(Entry, &[u8])>
-    ensures { IfSome result (λ r. HasEntry (codes "ASSERT" ++ bytes.now) r.0 r.1.now) }
+fn first_assert(bytes: &[u8]) -> Option<(Usual, &[u8])>
+    ensures { IfSome result (λ r. HasEntry (codes "ASSERT" ++ bytes.now) (usual_entry r.0) r.1.now) }
 {
     let (addr, rest) = first_field(bytes)?;
     let (size, rest) = first_field(rest)?;
-    Some((Entry::Assert { addr, size }, rest))
+    Some((Usual::Assert { addr, size }, rest))
 }
 
-fn first_entry(bytes: &[u8]) -> Option<(Entry, &[u8])>
-    ensures { IfSome result (λ r. HasEntry bytes.now r.0 r.1.now) }
+fn first_entry(bytes: &[u8]) -> Option<(Usual, &[u8])>
+    ensures { IfSome result (λ r. HasEntry bytes.now (usual_entry r.0) r.1.now) }
 {
     let first = *bytes.first()?;
     match first {
@@ -139,11 +164,11 @@ fn first_entry(bytes: &[u8]) -> Option<(Entry, &[u8])>
 }
 
 #[inline(always)]
-fn flush_or_fence(bytes: &[u8]) -> Option<(Entry, &[u8])>
-    ensures { IfSome result (λ r. HasEntry bytes.now r.0 r.1.now) }
+fn flush_or_fence(bytes: &[u8]) -> Option<(Usual, &[u8])>
+    ensures { IfSome result (λ r. HasEntry bytes.now (usual_entry r.0) r.1.now) }
 {
     match after_word(bytes, b"FENCE") {
-        Some(rest) => Some((Entry::Fence, rest)),
+        Some(rest) => Some((Usual::Fence, rest)),
         None => first_flush(after_word(bytes, b"FLUSH")?),
     }
 }
@@ -152,11 +177,11 @@ fn flush_or_fence(bytes: &[u8]) -> Option<(Entry, &[u8])>
 pub(crate) fn first_line(bytes: &[u8]) -> Option<Line>
     ensures { IfSome result (λ line. IsFirstLine bytes.now line) }
 {
-    let (entry, rest) = first_entry(bytes)?;
+    let (usual, rest) = first_entry(bytes)?;
     let _next = after_word(rest, b"\n")?;
     let len = bytes.len() - rest.len();
     if len > 256 {
         return None;
     }
-    Some(Line { entry, len })
+    Some(Line { usual, len })
 }

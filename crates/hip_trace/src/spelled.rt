@@ -1,7 +1,7 @@
 //! The entry that a text spells.
 
-ghost use Rattle.std.specs.Prelude.{◌≡◌, ◌∷◌};
-ghost use Rattle.hip_trace.specs.Entries.{start, register, input, line_bytes, image_at, image, sized_store, store, are_lines, some_lines, flush, persist, assert, stop, trap_of, trap, alone, entry_by, entry_of};
+ghost use Rattle.std.specs.Prelude.{◌≡◌, ◌∷◌, Some, None, if◌then◌else◌};
+ghost use Rattle.hip_trace.specs.Entries.{start, register, input, line_bytes, image_at, image, is_sized, sized_store, store, are_lines, some_lines, flush, persist, assert, stop, trap_of, trap, alone, entry_by, entry_of};
 ghost use Rattle.hip_trace.specs.Seen.{fields_after};
 
 use crate::entry::{Entry, TrapWord};
@@ -66,44 +66,38 @@ fn image(rest: Option<&[u8]>) -> Option<Entry>
     image_at(addr, line_bytes(digits))
 }
 
-/// A store of a size that there is, with a value of that size.
-pub(crate) fn sized_store(addr: u64, value: u64, size: u64) -> Option<Entry>
-    ensures { result ≡ sized_store addr value size }
+/// The size of a store, where there are stores of that size and the value has no more bytes.
+pub(crate) fn store_size(value: u64, size: u64) -> Option<u32>
+    ensures { result ≡ (if is_sized value size then Some size else None) }
 {
     match size {
         1 => if value < 1 << 8 {
-            Some(Entry::Store {
-                addr,
-                value,
-                size: 1,
-            })
+            Some(1)
         } else {
             None
         },
         2 => if value < 1 << 16 {
-            Some(Entry::Store {
-                addr,
-                value,
-                size: 2,
-            })
+            Some(2)
         } else {
             None
         },
         4 => if value < 1 << 32 {
-            Some(Entry::Store {
-                addr,
-                value,
-                size: 4,
-            })
+            Some(4)
         } else {
             None
         },
-        8 => Some(Entry::Store {
-            addr,
-            value,
-            size: 8,
-        }),
+        8 => Some(8),
         _ => None,
+    }
+}
+
+/// A store of a size that there is, with a value of that size.
+fn sized_store(addr: u64, value: u64, size: u64) -> Option<Entry>
+    ensures { result ≡ sized_store addr value size }
+{
+    match store_size(value, size) {
+        Some(size) => Some(Entry::Store { addr, value, size }),
+        None => None,
     }
 }
 

@@ -91,6 +91,15 @@ stripped bytes word (Some x) P Q h =
     let same : take (length word) bytes ≡ word = (bytes_eq-Decides (take (length word) bytes) word).0 h.0 in
     sym (take-append-drop (length word) bytes) ∙ ap (λ (xs : List ℕ). xs ++ drop (length word) bytes) same ∙ ap (λ (xs : List ℕ). word ++ xs) (sym h.1)
 
+-- the bytes after `;0x`
+pub marked : (bytes : List ℕ) → 3 ≤ length bytes → get_or bytes 0 0 ≡ 59 → get_or bytes 1 0 ≡ 48 → get_or bytes 2 0 ≡ 120 → bytes ≡ codes ";0x" ++ take (length bytes - 3) (drop 3 bytes)
+marked (a ∷ b ∷ c ∷ rest) len e f g =
+    let all : take (length (a ∷ b ∷ c ∷ rest) - 3) rest ≡ rest = take_all _ rest (omega arith) in
+    rw (all, e, f, g) refl
+marked (a ∷ b ∷ []) len e f g = absurd (omega (arith, len))
+marked (a ∷ []) len e f g = absurd (omega (arith, len))
+marked [] len e f g = absurd (omega (arith, len))
+
 -- a number after `;0x` is a field
 field_of : (bytes rest : List ℕ) (n : ℕ) (back : List ℕ) → bytes ≡ codes ";0x" ++ rest → HasDigits rest n back → HasField bytes n back
 field_of bytes rest n back e h = record {

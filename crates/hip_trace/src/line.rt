@@ -105,13 +105,10 @@ fn after_word<'a>(bytes: &'a [u8], word: &[u8]) -> Option<&'a [u8]>
 fn first_field(bytes: &[u8]) -> Option<(u64, &[u8])>
     ensures { IfSome result (λ r. HasField bytes.now r.0 r.1.now) }
 {
-    if bytes.len() < 19 {
+    if bytes.len() < 19 || bytes[0] != b';' || bytes[1] != b'0' || bytes[2] != b'x' {
         return None;
     }
-    match after_word(bytes, b";0x") {
-        Some(rest) => first_number(rest),
-        None => None,
-    }
+    first_number(&bytes[3..])
 }
 
 fn first_store(bytes: &[u8]) -> Option<(Usual, &[u8])>

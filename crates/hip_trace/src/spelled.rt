@@ -71,21 +71,9 @@ pub(crate) fn store_size(value: u64, size: u64) -> Option<u32>
     ensures { result ≡ (if is_sized value size then Some size else None) }
 {
     match size {
-        1 => if value < 1 << 8 {
-            Some(1)
-        } else {
-            None
-        },
-        2 => if value < 1 << 16 {
-            Some(2)
-        } else {
-            None
-        },
-        4 => if value < 1 << 32 {
-            Some(4)
-        } else {
-            None
-        },
+        1 => if value < 1 << 8 { Some(1) } else { None },
+        2 => if value < 1 << 16 { Some(2) } else { None },
+        4 => if value < 1 << 32 { Some(4) } else { None },
         8 => Some(8),
         _ => None,
     }

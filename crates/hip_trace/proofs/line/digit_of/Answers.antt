@@ -1,26 +1,10 @@
 -- The table is held against the definition at each of the 256 bytes, by computing.
-use Rattle.std.proofs.Common.{◌≡◌, ℕ, zero, suc, ◌<◌, Bool, true, false, ◌&&◌, ◌||◌, not, nat_eq, nat_lt, List, slice_index_or, refl, ◌∙◌, arith, inl, inr}
+use Rattle.std.proofs.Common.{◌≡◌, ℕ, ◌<◌, Bool, true, false, ◌||◌, not, nat_eq, nat_lt, List, slice_index_or, refl, ◌∙◌, arith}
 use Rattle.std.specs.Char.{digit_value}
-use Rattle.std.proofs.lemmas.Bool.{cases_eq, eqb-true, lt-ltb}
+use Rattle.std.proofs.lemmas.Bool.{eqb-true, lt-ltb}
 use Rattle.hip_trace.specs.declared.line.TheConstants.{DIGITS}
+use Rattle.hip_trace.proofs.Tables.{holds_below, holds_at}
 use Rattle.hip_trace.proofs.line.digit_of.Goals as goal
-
--- the test holds below n
-holds_below : (ℕ → Bool) → ℕ → Bool
-holds_below f zero = true
-holds_below f (suc n) = f n && holds_below f n
-
-both_of : (a b : Bool) → (a && b) ≡ true → (a ≡ true) × (b ≡ true)
-both_of true true h = (refl, refl)
-both_of true false h = cc
-both_of false b h = cc
-
-holds_at : (f : ℕ → Bool) (n : ℕ) → holds_below f n ≡ true → (b : ℕ) → b < n → f b ≡ true
-unfolding holds_below
-holds_at f zero h b lt = absurd (omega arith)
-holds_at f (suc n) h b lt =
-    let both = both_of (f n) (holds_below f n) h in
-    elim (cases_eq b n) [ inl same ↦ rw same both.0 | inr other ↦ holds_at f n both.1 b (omega arith) ]
 
 -- what the table has for a byte is its digit, or is no digit
 is_right : List ℕ → ℕ → Bool

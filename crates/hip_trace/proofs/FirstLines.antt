@@ -1,12 +1,13 @@
 -- The line that stands first, put together from its word and its fields.
 use Rattle.std.proofs.Common.{◌≡◌, ℕ, suc, ◌+◌, ◌-◌, ◌*◌, ◌<◌, ◌≤◌, ◌^◌, Bor, get_or, Bool, true, false, ◌||◌, List, [], ◌∷◌, ◌++◌, length, take, drop, Option, Some, None, IfSome, Ok, refl, sym, ap, subst, ◌∙◌, arith, append_assoc, length-append}
-use Rattle.std.specs.Prelude.{MatchOption, position, nat_lt, codes, ◌==◌}
+use Rattle.std.specs.Prelude.{MatchOption, position, nat_lt, codes, ◌==◌, option_map, if◌then◌else◌}
 use Rattle.std.specs.Char.{digit_value}
 use Rattle.std.specs.List.{list_any, position_or_len}
 use Rattle.std.specs.Str.{bytes_eq}
 use Rattle.std.specs.Str.Parse.{AllDigits, digits_value}
 use Rattle.std.proofs.lemmas.Bool.{eqb-true, lt-ltb, le-ltb}
-use Rattle.std.proofs.lemmas.Int.Digits.{digits_value_more, digits_more}
+use Rattle.std.proofs.lemmas.Int.Digits.{digits_value_more, digits_more, digits_value-lt}
+use Rattle.std.proofs.Math.Nat.{pow-le-pow_right}
 use Rattle.std.proofs.lemmas.List.{length-drop, length-take-le, take-append-drop, take_all}
 use Rattle.std.proofs.lemmas.Slice.Eq.{bytes_eq-Decides}
 use Rattle.std.proofs.lemmas.List.Folds.{list_any-append}
@@ -15,11 +16,11 @@ use Rattle.hip_io.specs.Cabinets.{CabinetState}
 use Rattle.hip_num.specs.Texts.{hex_of, number_of}
 use Rattle.hip_num.specs.Laws.TextLaws.{number-whole}
 use Rattle.hip_tokens.specs.Bytes.{byte}
-use Rattle.hip_trace.specs.Entries.{fields, entry_by, entry_of, store, flush, persist, assert, two_numbers, sized_store, some_lines}
+use Rattle.hip_trace.specs.Entries.{fields, entry_by, entry_of, store, flush, persist, assert, two_numbers, is_sized, sized_store, some_lines}
 use Rattle.hip_trace.specs.Fronts.{answers_piece}
 use Rattle.hip_trace.specs.Laws.PieceLaws.{cut_at, first_none}
 use Rattle.hip_trace.specs.Laws.TextLaws.{IsPlain, digits_plain, fields_plain, fields_with}
-use Rattle.hip_trace.specs.Lines.{HasDigits, HasField, HasEntry, IsFirstLine}
+use Rattle.hip_trace.specs.Lines.{HasDigits, HasField, HasEntry, IsFirstLine, usual_entry}
 use Rattle.hip_trace.specs.Pieces.{is_separator}
 use Rattle.hip_trace.specs.Reads.{ReaderState, ReadsOn, one_more}
 use Rattle.hip_trace.specs.declared.front.Front.TheVariants as fronts
@@ -27,7 +28,7 @@ use Rattle.hip_trace.specs.declared.refusal.Progress.TheVariants.{Reading}
 use Rattle.hip_trace.proofs.ReaderLaws.{holds_still, reads_on}
 use Rattle.hip_trace.specs.Texts.{with_fields}
 use Rattle.hip_trace.specs.declared.entry.Entry.{Entry}
-use Rattle.hip_trace.specs.declared.entry.Entry.TheVariants.{Flush, Fence, Persist, Assert}
+use Rattle.hip_trace.specs.declared.entry.Entry.TheVariants.{Store, Flush, Fence, Persist, Assert}
 use Rattle.hip_trace.specs.declared.line.Line.{Line}
 
 -- ---- numbers
@@ -72,6 +73,14 @@ digit_next bytes at n d b lt all e is at_b low =
     let small : digit_value (get_or bytes at 0) < 16 = subst (λ (x : ℕ). x < 16) here low in
     (digits_more 16 bytes at lt all small, omega (arith, here, next, e))
 
+-- a number of at most k digits
+pub few_digits : (bytes : List ℕ) (at k n : ℕ) → at ≤ k → at ≤ length bytes → AllDigits 16 (take at bytes) → n ≡ digits_value 16 (take at bytes) → n < 16 ^ k
+few_digits bytes at k n few within all e =
+    let below = digits_value-lt 16 (take at bytes) all in
+    let len : length (take at bytes) ≡ at = length-take-le at bytes within in
+    let most : 16 ^ length (take at bytes) ≤ 16 ^ k = pow-le-pow_right {n = 16} (omega arith) (omega (arith, len, few)) in
+    omega (arith, below, most, e)
+
 -- ---- fields
 
 -- what stands after a word
@@ -81,6 +90,15 @@ stripped bytes word None P Q h = tt
 stripped bytes word (Some x) P Q h =
     let same : take (length word) bytes ≡ word = (bytes_eq-Decides (take (length word) bytes) word).0 h.0 in
     sym (take-append-drop (length word) bytes) ∙ ap (λ (xs : List ℕ). xs ++ drop (length word) bytes) same ∙ ap (λ (xs : List ℕ). word ++ xs) (sym h.1)
+
+-- the bytes after `;0x`
+pub marked : (bytes : List ℕ) → 3 ≤ length bytes → get_or bytes 0 0 ≡ 59 → get_or bytes 1 0 ≡ 48 → get_or bytes 2 0 ≡ 120 → bytes ≡ codes ";0x" ++ take (length bytes - 3) (drop 3 bytes)
+marked (a ∷ b ∷ c ∷ rest) len e f g =
+    let all : take (length (a ∷ b ∷ c ∷ rest) - 3) rest ≡ rest = take_all _ rest (omega arith) in
+    rw (all, e, f, g) refl
+marked (a ∷ b ∷ []) len e f g = absurd (omega (arith, len))
+marked (a ∷ []) len e f g = absurd (omega (arith, len))
+marked [] len e f g = absurd (omega (arith, len))
 
 -- a number after `;0x` is a field
 field_of : (bytes rest : List ℕ) (n : ℕ) (back : List ℕ) → bytes ≡ codes ";0x" ++ rest → HasDigits rest n back → HasField bytes n back
@@ -128,6 +146,14 @@ two word bytes mid a b rest e inner plain p q is =
       inner = front.inner;
     }
 
+-- the size of a store is one that it may have
+stored : (b : Bool) (a v s z : ℕ) → Some z ≡ (if b then Some s else None) → Some (Store a v z) ≡ (if b then Some (Store a v s) else None)
+stored true a v s z e = ap (option_map (λ (n : ℕ). Store a v n)) e
+stored false a v s z e = cc
+
+pub sized : (a v s z : ℕ) → Some z ≡ (if is_sized v s then Some s else None) → Some (Store a v z) ≡ sized_store a v s
+sized a v s z e = stored (is_sized v s) a v s z e
+
 pub store_first : (bytes mid back : List ℕ) (a v s : ℕ) (rest : List ℕ) (e : Entry) → HasField bytes a mid → HasField mid v back → HasField back s rest → Some e ≡ sized_store a v s → HasEntry (codes "STORE" ++ bytes) e rest
 unfolding entry_by store
 store_first bytes mid back a v s rest e p q r is =
@@ -170,7 +196,7 @@ position_at xs s ys e h =
     let within : nat_lt (length xs) (length (xs ++ s ∷ ys)) ≡ true = lt-ltb _ _ (omega (arith, len)) in
     rw (at, within) refl
 
-pub line_first : (bytes rest more : List ℕ) (line : Line) → HasEntry bytes line.entry rest → rest ≡ 10 ∷ more → line.len ≡ length bytes - length rest → line.len ≤ 256 → IsFirstLine bytes line
+pub line_first : (bytes rest more : List ℕ) (line : Line) → HasEntry bytes (usual_entry line.usual) rest → rest ≡ 10 ∷ more → line.len ≡ length bytes - length rest → line.len ≤ 256 → IsFirstLine bytes line
 unfolding entry_of
 line_first bytes rest more line h e len few =
     let total = length-append h.text rest in
@@ -179,7 +205,7 @@ line_first bytes rest more line h e len few =
     let cut : bytes ≡ h.text ++ 10 ∷ more = h.whole ∙ ap (λ (xs : List ℕ). h.text ++ xs) e in
     let front : take line.len bytes ≡ h.text = ap (λ (n : ℕ). take n bytes) size ∙ ap (take (length h.text)) cut ∙ take-append_seam h.text (10 ∷ more) in
     let short : nat_lt 256 (length h.text) ≡ false = le-ltb 256 (length h.text) (omega (arith, size, few)) in
-    let spelled : entry_of h.text ≡ Some line.entry = rw short h.is in
+    let spelled : entry_of h.text ≡ Some (usual_entry line.usual) = rw short h.is in
     record {
       here = ap (position is_separator) cut ∙ position_at h.text 10 more h.inner refl ∙ ap (λ (n : ℕ). Some n) (sym size);
       spells = ap entry_of front ∙ spelled;
@@ -189,10 +215,10 @@ line_first bytes rest more line h e len few =
 
 -- The entry of the line that stands first is what `next` answers where the line is dropped.
 pub line_read : (r r' : ReaderState) (s : CabinetState) (line : Line) → IsFirstLine r.held line → s.is_current ≡ true → r' ≡ record { held = drop (line.len + 1) r.held; count = one_more r.count; progress = Reading }
-    → ReadsOn r r' s s (Ok (Some line.entry))
+    → ReadsOn r r' s s (Ok (Some (usual_entry line.usual)))
 line_read r r' s line h current e =
-    let answer : answers_piece (entry_of (take line.len r.held)) r r' (line.len + 1) (Ok (Some line.entry)) = subst (λ (o : Option Entry). answers_piece o r r' (line.len + 1) (Ok (Some line.entry))) (sym h.spells) (refl, e) in
-    reads_on r r r' s s (fronts.Piece line.len) (Ok (Some line.entry)) refl (record { more = holds_still r.held s current; here = h.here }) answer
+    let answer : answers_piece (entry_of (take line.len r.held)) r r' (line.len + 1) (Ok (Some (usual_entry line.usual))) = subst (λ (o : Option Entry). answers_piece o r r' (line.len + 1) (Ok (Some (usual_entry line.usual)))) (sym h.spells) (refl, e) in
+    reads_on r r r' s s (fronts.Piece line.len) (Ok (Some (usual_entry line.usual))) refl (record { more = holds_still r.held s current; here = h.here }) answer
 
 pub line_within : (held : List ℕ) (line : Line) → IsFirstLine held line → line.len < length held
 line_within held line h = (cut_at held line.len h.here).within

@@ -10,8 +10,8 @@ skipped xs start end count inside =
     let parts : end - start ≡ count + (end - (start + count)) = omega arith in
     sym (ap (λ j. drop count (take j (drop start xs))) parts ∙ drop-take count _ (drop start xs) ∙ ap (take (end - (start + count))) (drop-drop count start xs))
 
-pub behind_front : (front n : ℕ) (held xs : List ℕ) → take front xs ≡ held → slice_range xs 0 (front + n) ≡ held ++ take n (drop front xs)
-behind_front front n held xs e =
+pub after_front : (front n : ℕ) (held xs : List ℕ) → take front xs ≡ held → slice_range xs 0 (front + n) ≡ held ++ take n (drop front xs)
+after_front front n held xs e =
     let all : front + n - 0 ≡ front + n = omega arith in
     ap (λ (j : ℕ). take j xs) all ∙ take-add front n xs ∙ ap (λ (h : List ℕ). h ++ take n (drop front xs)) e
 

@@ -1,5 +1,6 @@
 pub mod HeldLaws
 pub mod ReaderLaws
+pub mod Tables
 pub mod EndLaws
 pub mod FirstLines
 pub mod LineDigits

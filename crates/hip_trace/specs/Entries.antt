@@ -66,9 +66,12 @@ abbrev pub is_store_size : ℕ → Bool
 is_store_size size = (size == 1) || ((size == 2) || ((size == 4) || (size == 8)))
 
 -- the value has at most as many bytes as the size says
+abbrev pub is_sized : ℕ → ℕ → Bool
+is_sized value size = is_store_size size && nat_lt value (2 ^ (8 * size))
+
+-- a store of a value, where its size is one
 abbrev pub sized_store : ℕ → ℕ → ℕ → Option Entry
-sized_store addr value size =
-    if is_store_size size && nat_lt value (2 ^ (8 * size)) then Some (Store addr value size) else None
+sized_store addr value size = if is_sized value size then Some (Store addr value size) else None
 
 -- `STORE;A;V;S`
 unfoldable pub store : List (List ℕ) → Option Entry

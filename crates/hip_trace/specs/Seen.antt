@@ -4,9 +4,9 @@ use Rattle.std.specs.Borrow.{Bor}
 use Rattle.hip_trace.specs.Entries.{fields}
 
 -- the fields of the text after a field, if there is one
-abbrev pub behind : Option (Bor (List ℕ)) → List (List ℕ)
-behind None = []
-behind (Some text) = fields text.now
+abbrev pub fields_after : Option (Bor (List ℕ)) → List (List ℕ)
+fields_after None = []
+fields_after (Some text) = fields text.now
 
 -- two borrowed fields as the texts that they are
 abbrev pub pair_seen : Bor (List ℕ) × Bor (List ℕ) → List ℕ × List ℕ

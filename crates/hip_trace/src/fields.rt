@@ -5,7 +5,7 @@ ghost use Rattle.std.specs.List.{prefix_len};
 ghost use Rattle.std.specs.Option.{option_copied, option_map};
 ghost use Rattle.hip_tokens.specs.Bytes.{byte};
 ghost use Rattle.hip_trace.specs.Entries.{fields, one_field, two_fields, three_fields, two_numbers};
-ghost use Rattle.hip_trace.specs.Seen.{behind, pair_seen, triple_seen};
+ghost use Rattle.hip_trace.specs.Seen.{fields_after, pair_seen, triple_seen};
 
 use hip_num::read_hex;
 
@@ -19,7 +19,7 @@ fn field_len(text: &[u8]) -> usize
 
 /// The first field of a text, and the text after its semicolon.
 pub(crate) fn first_field(text: &[u8]) -> (&[u8], Option<&[u8]>)
-    ensures { fields text.now ≡ result.0.now ∷ behind result.1 }
+    ensures { fields text.now ≡ result.0.now ∷ fields_after result.1 }
 {
     let n = field_len(text);
     if n < text.len() {
@@ -30,7 +30,7 @@ pub(crate) fn first_field(text: &[u8]) -> (&[u8], Option<&[u8]>)
 }
 
 pub(crate) fn one_field<'a>(rest: Option<&'a [u8]>) -> Option<&'a [u8]>
-    ensures { option_copied result ≡ one_field (behind rest.entry) }
+    ensures { option_copied result ≡ one_field (fields_after rest.entry) }
 {
     match rest {
         Some(text) => {
@@ -45,7 +45,7 @@ pub(crate) fn one_field<'a>(rest: Option<&'a [u8]>) -> Option<&'a [u8]>
 }
 
 pub(crate) fn two_fields<'a>(rest: Option<&'a [u8]>) -> Option<(&'a [u8], &'a [u8])>
-    ensures { option_map pair_seen result ≡ two_fields (behind rest.entry) }
+    ensures { option_map pair_seen result ≡ two_fields (fields_after rest.entry) }
 {
     match rest {
         Some(text) => {
@@ -60,7 +60,7 @@ pub(crate) fn two_fields<'a>(rest: Option<&'a [u8]>) -> Option<(&'a [u8], &'a [u
 }
 
 pub(crate) fn three_fields<'a>(rest: Option<&'a [u8]>) -> Option<(&'a [u8], &'a [u8], &'a [u8])>
-    ensures { option_map triple_seen result ≡ three_fields (behind rest.entry) }
+    ensures { option_map triple_seen result ≡ three_fields (fields_after rest.entry) }
 {
     match rest {
         Some(text) => {
@@ -77,7 +77,7 @@ pub(crate) fn three_fields<'a>(rest: Option<&'a [u8]>) -> Option<(&'a [u8], &'a 
 /// Two fields, both hexadecimal numbers.
 #[tactic(auto, unfolding(crate::specs::Entries::two_numbers))]
 pub(crate) fn two_numbers(rest: Option<&[u8]>) -> Option<(u64, u64)>
-    ensures { result ≡ two_numbers (behind rest.entry) }
+    ensures { result ≡ two_numbers (fields_after rest.entry) }
 {
     let (a, b) = two_fields(rest)?;
     let a = read_hex(a)?;

@@ -74,7 +74,7 @@ impl Held {
         move_down(&mut self.bytes, self.start, self.end);
         self.start = 0;
         self.end = len;
-        let taken = take_behind(&mut self.bytes, len, cabinet);
+        let taken = take_after(&mut self.bytes, len, cabinet);
         if let Taken::Got(count) = taken {
             self.end = len + count;
         }
@@ -92,7 +92,7 @@ fn move_down(bytes: &mut [u8], start: usize, end: usize)
 }
 
 /// Takes bytes of the current file into a buffer, after the first bytes, which stay.
-fn take_behind<C: Cabinet>(bytes: &mut [u8], front: usize, cabinet: &mut C) -> Taken
+fn take_after<C: Cabinet>(bytes: &mut [u8], front: usize, cabinet: &mut C) -> Taken
     requires room { front < length bytes.old }
     requires current { IsTrue (C.state cabinet.old).is_current }
     ensures taken { HasTaken (C.state cabinet.old) (C.state cabinet.new) (drop front bytes.new) result }

@@ -3,17 +3,57 @@
 
 ghost use Rattle.std.specs.Prelude.{◌≡◌, ◌<◌, ◌++◌, codes, IfSome};
 ghost use Rattle.std.specs.Char.{digit_value};
-ghost use Rattle.hip_trace.specs.Lines.{HasDigits, HasEntry, HasField, IsFirstLine};
+ghost use Rattle.hip_trace.specs.Lines.{HasDigits, HasEntry, HasField, IsFirstLine, usual_entry};
 
 use crate::entry::Entry;
-use crate::spelled::{sized_store, some_lines};
+use crate::spelled::{some_lines, store_size};
 
-/// An entry, and how many bytes its text has.
+/// An entry of a usual line. It takes less room than any `Entry`, which may be an image.
+#[derive(Clone, Copy)]
+pub(crate) enum Usual {
+    Store { addr: u64, value: u64, size: u32 },
+    Flush { addr: u64, size: u64 },
+    Fence,
+    Persist { addr: u64, size: u64 },
+    Assert { addr: u64, size: u64 },
+}
+
+/// A usual line: its entry, and how many bytes its text has.
 #[derive(Clone, Copy)]
 pub(crate) struct Line {
-    pub entry: Entry,
+    pub usual: Usual,
     pub len: usize,
 }
+
+impl Usual {
+    #[inline(always)]
+    pub(crate) fn entry(self) -> Entry
+        ensures { result ≡ usual_entry self }
+    {
+        match self {
+            Usual::Store { addr, value, size } => Entry::Store { addr, value, size },
+            Usual::Flush { addr, size } => Entry::Flush { addr, size },
+            Usual::Fence => Entry::Fence,
+            Usual::Persist { addr, size } => Entry::Persist { addr, size },
+            Usual::Assert { addr, size } => Entry::Assert { addr, size },
+        }
+    }
+}
+
+// For each byte the digit that it writes to base 16, in lower case, or 16 where it writes none.
+static DIGITS: [u8; 256] = [
+    16, 16, 16, 16, 16, 16, 16, 16, 16, 16, 16, 16, 16, 16, 16, 16, 16, 16, 16, 16, 16, 16, 16, 16,
+    16, 16, 16, 16, 16, 16, 16, 16, 16, 16, 16, 16, 16, 16, 16, 16, 16, 16, 16, 16, 16, 16, 16, 16,
+    0, 1, 2, 3, 4, 5, 6, 7, 8, 9, 16, 16, 16, 16, 16, 16, 16, 16, 16, 16, 16, 16, 16, 16, 16, 16,
+    16, 16, 16, 16, 16, 16, 16, 16, 16, 16, 16, 16, 16, 16, 16, 16, 16, 16, 16, 16, 16, 16, 16, 10,
+    11, 12, 13, 14, 15, 16, 16, 16, 16, 16, 16, 16, 16, 16, 16, 16, 16, 16, 16, 16, 16, 16, 16, 16,
+    16, 16, 16, 16, 16, 16, 16, 16, 16, 16, 16, 16, 16, 16, 16, 16, 16, 16, 16, 16, 16, 16, 16, 16,
+    16, 16, 16, 16, 16, 16, 16, 16, 16, 16, 16, 16, 16, 16, 16, 16, 16, 16, 16, 16, 16, 16, 16, 16,
+    16, 16, 16, 16, 16, 16, 16, 16, 16, 16, 16, 16, 16, 16, 16, 16, 16, 16, 16, 16, 16, 16, 16, 16,
+    16, 16, 16, 16, 16, 16, 16, 16, 16, 16, 16, 16, 16, 16, 16, 16, 16, 16, 16, 16, 16, 16, 16, 16,
+    16, 16, 16, 16, 16, 16, 16, 16, 16, 16, 16, 16, 16, 16, 16, 16, 16, 16, 16, 16, 16, 16, 16, 16,
+    16, 16, 16, 16, 16, 16, 16, 16, 16, 16, 16, 16, 16, 16,
+];
 
 // The digit that a byte writes to base 16, in lower case.
 #[inline(always)]
@@ -21,21 +61,25 @@ fn digit_of(byte: u8) -> Option<u64>
     ensures value { IfSome result (λ digit. digit ≡ digit_value byte) }
     ensures small { IfSome result (λ digit. digit < 16) }
 {
-    match byte {
-        b'0'..=b'9' => Some(u64::from(byte - b'0')),
-        b'a'..=b'f' => Some(u64::from(byte - b'a') + 10),
-        _ => None,
+    let digit = DIGITS[byte as usize];
+    if digit < 16 {
+        Some(u64::from(digit))
+    } else {
+        None
     }
 }
 
-// The number whose digits stand first.
+// The number of at most 16 digits that stand first, where 16 bytes or more are there.
 #[inline(always)]
 fn first_number(bytes: &[u8]) -> Option<(u64, &[u8])>
     ensures { IfSome result (λ r. HasDigits bytes.now r.0 r.1.now) }
 {
+    if bytes.len() < 16 {
+        return None;
+    }
     let mut number: u64 = 0;
     let mut at = 0;
-    'digits: while at < bytes.len() && number < 1 << 60 {
+    'digits: while at < 16 {
         match digit_of(bytes[at]) {
             Some(digit) => number = number * 16 + digit,
             None => break,
@@ -50,7 +94,7 @@ fn first_number(bytes: &[u8]) -> Option<(u64, &[u8])>
 
 // What stands after a word.
 #[inline(always)]
-fn behind<'a>(bytes: &'a [u8], word: &[u8]) -> Option<&'a [u8]>
+fn after_word<'a>(bytes: &'a [u8], word: &[u8]) -> Option<&'a [u8]>
     ensures { IfSome result (λ rest. bytes.now ≡ word.now ++ rest.now) }
 {
     bytes.strip_prefix(word)
@@ -61,66 +105,68 @@ fn behind<'a>(bytes: &'a [u8], word: &[u8]) -> Option<&'a [u8]>
 fn first_field(bytes: &[u8]) -> Option<(u64, &[u8])>
     ensures { IfSome result (λ r. HasField bytes.now r.0 r.1.now) }
 {
-    match behind(bytes, b";0x") {
-        Some(rest) => first_number(rest),
-        None => None,
+    if bytes.len() < 19 || bytes[0] != b';' || bytes[1] != b'0' || bytes[2] != b'x' {
+        return None;
     }
+    first_number(&bytes[3..])
 }
 
-fn first_store(bytes: &[u8]) -> Option<(Entry, &[u8])>
-    ensures { IfSome result (λ r. HasEntry (codes "STORE" ++ bytes.now) r.0 r.1.now) }
+fn first_store(bytes: &[u8]) -> Option<(Usual, &[u8])>
+    ensures { IfSome result (λ r. HasEntry (codes "STORE" ++ bytes.now) (usual_entry r.0) r.1.now) }
 {
     let (addr, rest) = first_field(bytes)?;
     let (value, rest) = first_field(rest)?;
     let (size, rest) = first_field(rest)?;
-    let entry = sized_store(addr, value, size)?;
-    Some((entry, rest))
+    let size = store_size(value, size)?;
+    Some((Usual::Store { addr, value, size }, rest))
 }
 
-fn first_flush(bytes: &[u8]) -> Option<(Entry, &[u8])>
-    ensures { IfSome result (λ r. HasEntry (codes "FLUSH" ++ bytes.now) r.0 r.1.now) }
+fn first_flush(bytes: &[u8]) -> Option<(Usual, &[u8])>
+    ensures { IfSome result (λ r. HasEntry (codes "FLUSH" ++ bytes.now) (usual_entry r.0) r.1.now) }
 {
     let (addr, rest) = first_field(bytes)?;
     let (size, rest) = first_field(rest)?;
     let (addr, size) = some_lines(addr, size)?;
-    Some((Entry::Flush { addr, size }, rest))
+    Some((Usual::Flush { addr, size }, rest))
 }
 
-fn first_persist(bytes: &[u8]) -> Option<(Entry, &[u8])>
-    ensures { IfSome result (λ r. HasEntry (codes "PERSIST" ++ bytes.now) r.0 r.1.now) }
+fn first_persist(bytes: &[u8]) -> Option<(Usual, &[u8])>
+    ensures { IfSome result (λ r. HasEntry (codes "PERSIST" ++ bytes.now) (usual_entry r.0) r.1.now) }
 {
     let (addr, rest) = first_field(bytes)?;
     let (size, rest) = first_field(rest)?;
     let (addr, size) = some_lines(addr, size)?;
-    Some((Entry::Persist { addr, size }, rest))
+    Some((Usual::Persist { addr, size }, rest))
 }
 
-fn first_assert(bytes: &[u8]) -> Option<(Entry, &[u8])>
-    ensures { IfSome result (λ r. HasEntry (codes "ASSERT" ++ bytes.now) r.0 r.1.now) }
+fn first_assert(bytes: &[u8]) -> Option<(Usual, &[u8])>
+    ensures { IfSome result (λ r. HasEntry (codes "ASSERT" ++ bytes.now) (usual_entry r.0) r.1.now) }
 {
     let (addr, rest) = first_field(bytes)?;
     let (size, rest) = first_field(rest)?;
-    Some((Entry::Assert { addr, size }, rest))
+    Some((Usual::Assert { addr, size }, rest))
 }
 
-fn first_entry(bytes: &[u8]) -> Option<(Entry, &[u8])>
-    ensures { IfSome result (λ r. HasEntry bytes.now r.0 r.1.now) }
+fn first_entry(bytes: &[u8]) -> Option<(Usual, &[u8])>
+    ensures { IfSome result (λ r. HasEntry bytes.now (usual_entry r.0) r.1.now) }
 {
-    if let Some(rest) = behind(bytes, b"STORE") {
-        return first_store(rest);
+    let first = *bytes.first()?;
+    match first {
+        b'S' => first_store(after_word(bytes, b"STORE")?),
+        b'F' => flush_or_fence(bytes),
+        b'P' => first_persist(after_word(bytes, b"PERSIST")?),
+        b'A' => first_assert(after_word(bytes, b"ASSERT")?),
+        _ => None,
     }
-    if let Some(rest) = behind(bytes, b"FLUSH") {
-        return first_flush(rest);
-    }
-    if let Some(rest) = behind(bytes, b"FENCE") {
-        return Some((Entry::Fence, rest));
-    }
-    if let Some(rest) = behind(bytes, b"PERSIST") {
-        return first_persist(rest);
-    }
-    match behind(bytes, b"ASSERT") {
-        Some(rest) => first_assert(rest),
-        None => None,
+}
+
+#[inline(always)]
+fn flush_or_fence(bytes: &[u8]) -> Option<(Usual, &[u8])>
+    ensures { IfSome result (λ r. HasEntry bytes.now (usual_entry r.0) r.1.now) }
+{
+    match after_word(bytes, b"FENCE") {
+        Some(rest) => Some((Usual::Fence, rest)),
+        None => first_flush(after_word(bytes, b"FLUSH")?),
     }
 }
 
@@ -128,11 +174,11 @@ fn first_entry(bytes: &[u8]) -> Option<(Entry, &[u8])>
 pub(crate) fn first_line(bytes: &[u8]) -> Option<Line>
     ensures { IfSome result (λ line. IsFirstLine bytes.now line) }
 {
-    let (entry, rest) = first_entry(bytes)?;
-    let _next = behind(rest, b"\n")?;
+    let (usual, rest) = first_entry(bytes)?;
+    let _next = after_word(rest, b"\n")?;
     let len = bytes.len() - rest.len();
     if len > 256 {
         return None;
     }
-    Some(Line { entry, len })
+    Some(Line { usual, len })
 }

@@ -75,7 +75,7 @@ impl Reader {
         match first_line(self.held.as_slice()) {
             Some(line) => {
                 self.pass(line.len);
-                Ok(Some(line.entry))
+                Ok(Some(line.usual.entry()))
             }
             None => self.read_on(cabinet),
         }

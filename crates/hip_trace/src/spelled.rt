@@ -1,8 +1,8 @@
 //! The entry that a text spells.
 
-ghost use Rattle.std.specs.Prelude.{◌≡◌, ◌∷◌};
-ghost use Rattle.hip_trace.specs.Entries.{start, register, input, line_bytes, image_at, image, sized_store, store, are_lines, some_lines, flush, persist, assert, stop, trap_of, trap, alone, entry_by, entry_of};
-ghost use Rattle.hip_trace.specs.Seen.{behind};
+ghost use Rattle.std.specs.Prelude.{◌≡◌, ◌∷◌, Some, None, if◌then◌else◌};
+ghost use Rattle.hip_trace.specs.Entries.{start, register, input, line_bytes, image_at, image, is_sized, sized_store, store, are_lines, some_lines, flush, persist, assert, stop, trap_of, trap, alone, entry_by, entry_of};
+ghost use Rattle.hip_trace.specs.Seen.{fields_after};
 
 use crate::entry::{Entry, TrapWord};
 use crate::fields::{first_field, one_field, three_fields, two_fields, two_numbers};
@@ -11,7 +11,7 @@ use hip_num::{read_decimal, read_hex, read_signed};
 
 #[tactic(auto, unfolding(crate::specs::Entries::start))]
 fn start(rest: Option<&[u8]>) -> Option<Entry>
-    ensures { result ≡ start (behind rest.entry) }
+    ensures { result ≡ start (fields_after rest.entry) }
 {
     let limit = read_decimal(one_field(rest)?)?;
     Some(Entry::Start { limit })
@@ -19,7 +19,7 @@ fn start(rest: Option<&[u8]>) -> Option<Entry>
 
 #[tactic(auto, unfolding(crate::specs::Entries::register))]
 fn register(rest: Option<&[u8]>) -> Option<Entry>
-    ensures { result ≡ register (behind rest.entry) }
+    ensures { result ≡ register (fields_after rest.entry) }
 {
     let (base, size) = two_numbers(rest)?;
     Some(Entry::Register { base, size })
@@ -27,7 +27,7 @@ fn register(rest: Option<&[u8]>) -> Option<Entry>
 
 #[tactic(auto, unfolding(crate::specs::Entries::input))]
 fn input(rest: Option<&[u8]>) -> Option<Entry>
-    ensures { result ≡ input (behind rest.entry) }
+    ensures { result ≡ input (fields_after rest.entry) }
 {
     let number = read_signed(one_field(rest)?)?;
     Some(Entry::Input { number })
@@ -59,57 +59,39 @@ fn image_at(addr: u64, bytes: Option<[u8; 64]>) -> Option<Entry>
 
 #[tactic(auto, unfolding(crate::specs::Entries::image))]
 fn image(rest: Option<&[u8]>) -> Option<Entry>
-    ensures { result ≡ image (behind rest.entry) }
+    ensures { result ≡ image (fields_after rest.entry) }
 {
     let (addr, digits) = two_fields(rest)?;
     let addr = read_hex(addr)?;
     image_at(addr, line_bytes(digits))
 }
 
-/// A store of a size that there is, with a value of that size.
-pub(crate) fn sized_store(addr: u64, value: u64, size: u64) -> Option<Entry>
-    ensures { result ≡ sized_store addr value size }
+/// The size of a store, where there are stores of that size and the value has no more bytes.
+pub(crate) fn store_size(value: u64, size: u64) -> Option<u32>
+    ensures { result ≡ (if is_sized value size then Some size else None) }
 {
     match size {
-        1 => if value < 1 << 8 {
-            Some(Entry::Store {
-                addr,
-                value,
-                size: 1,
-            })
-        } else {
-            None
-        },
-        2 => if value < 1 << 16 {
-            Some(Entry::Store {
-                addr,
-                value,
-                size: 2,
-            })
-        } else {
-            None
-        },
-        4 => if value < 1 << 32 {
-            Some(Entry::Store {
-                addr,
-                value,
-                size: 4,
-            })
-        } else {
-            None
-        },
-        8 => Some(Entry::Store {
-            addr,
-            value,
-            size: 8,
-        }),
+        1 => if value < 1 << 8 { Some(1) } else { None },
+        2 => if value < 1 << 16 { Some(2) } else { None },
+        4 => if value < 1 << 32 { Some(4) } else { None },
+        8 => Some(8),
         _ => None,
+    }
+}
+
+/// A store of a size that there is, with a value of that size.
+fn sized_store(addr: u64, value: u64, size: u64) -> Option<Entry>
+    ensures { result ≡ sized_store addr value size }
+{
+    match store_size(value, size) {
+        Some(size) => Some(Entry::Store { addr, value, size }),
+        None => None,
     }
 }
 
 #[tactic(auto, unfolding(crate::specs::Entries::store))]
 fn store(rest: Option<&[u8]>) -> Option<Entry>
-    ensures { result ≡ store (behind rest.entry) }
+    ensures { result ≡ store (fields_after rest.entry) }
 {
     let (addr, value, size) = three_fields(rest)?;
     let addr = read_hex(addr)?;
@@ -137,7 +119,7 @@ pub(crate) fn some_lines(addr: u64, size: u64) -> Option<(u64, u64)>
 
 #[tactic(auto, unfolding(crate::specs::Entries::flush))]
 fn flush(rest: Option<&[u8]>) -> Option<Entry>
-    ensures { result ≡ flush (behind rest.entry) }
+    ensures { result ≡ flush (fields_after rest.entry) }
 {
     let (addr, size) = two_numbers(rest)?;
     let (addr, size) = some_lines(addr, size)?;
@@ -146,7 +128,7 @@ fn flush(rest: Option<&[u8]>) -> Option<Entry>
 
 #[tactic(auto, unfolding(crate::specs::Entries::persist))]
 fn persist(rest: Option<&[u8]>) -> Option<Entry>
-    ensures { result ≡ persist (behind rest.entry) }
+    ensures { result ≡ persist (fields_after rest.entry) }
 {
     let (addr, size) = two_numbers(rest)?;
     let (addr, size) = some_lines(addr, size)?;
@@ -155,7 +137,7 @@ fn persist(rest: Option<&[u8]>) -> Option<Entry>
 
 #[tactic(auto, unfolding(crate::specs::Entries::assert))]
 fn assert(rest: Option<&[u8]>) -> Option<Entry>
-    ensures { result ≡ assert (behind rest.entry) }
+    ensures { result ≡ assert (fields_after rest.entry) }
 {
     let (addr, size) = two_numbers(rest)?;
     Some(Entry::Assert { addr, size })
@@ -163,7 +145,7 @@ fn assert(rest: Option<&[u8]>) -> Option<Entry>
 
 #[tactic(auto, unfolding(crate::specs::Entries::stop))]
 fn stop(rest: Option<&[u8]>) -> Option<Entry>
-    ensures { result ≡ stop (behind rest.entry) }
+    ensures { result ≡ stop (fields_after rest.entry) }
 {
     let code = read_signed_32(one_field(rest)?)?;
     Some(Entry::Stop { code })
@@ -199,7 +181,7 @@ fn trap_of(text: &[u8]) -> Option<TrapWord>
 
 #[tactic(auto, unfolding(crate::specs::Entries::trap))]
 fn trap(rest: Option<&[u8]>) -> Option<Entry>
-    ensures { result ≡ trap (behind rest.entry) }
+    ensures { result ≡ trap (fields_after rest.entry) }
 {
     let kind = trap_of(one_field(rest)?)?;
     Some(Entry::Trap { kind })
@@ -207,7 +189,7 @@ fn trap(rest: Option<&[u8]>) -> Option<Entry>
 
 /// An entry that has no fields.
 fn alone(entry: Entry, rest: Option<&[u8]>) -> Option<Entry>
-    ensures { result ≡ alone entry (behind rest.entry) }
+    ensures { result ≡ alone entry (fields_after rest.entry) }
 {
     match rest {
         None => Some(entry),
@@ -218,7 +200,7 @@ fn alone(entry: Entry, rest: Option<&[u8]>) -> Option<Entry>
 /// The entry of a word, with the text after the word's semicolon.
 #[tactic(auto, unfolding(crate::specs::Entries::entry_by))]
 fn entry_by(word: &[u8], rest: Option<&[u8]>) -> Option<Entry>
-    ensures { result ≡ entry_by (word.now ∷ behind rest.entry) }
+    ensures { result ≡ entry_by (word.now ∷ fields_after rest.entry) }
 {
     if word == b"STORE".as_slice() {
         store(rest)

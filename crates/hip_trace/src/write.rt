@@ -192,15 +192,15 @@ fn digits_before(bytes: &mut [u8; 256], end: usize, number: u64) -> usize
     at
 }
 
+/// The digits to base 16, by their values.
+static HEX_DIGITS: [u8; 16] = *b"0123456789abcdef";
+
+#[inline(always)]
 fn hex_digit(value: u64) -> u8
     requires { value < 16 }
     ensures { result ≡ digit_glyph false value }
 {
-    if value < 10 {
-        b'0' + value as u8
-    } else {
-        b'a' + (value - 10) as u8
-    }
+    HEX_DIGITS[value as usize]
 }
 
 /// The 128 hexadecimal digits of a cache line.

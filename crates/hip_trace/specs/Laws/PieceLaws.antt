@@ -98,14 +98,14 @@ parts_onto (x ∷ xs) ys e = let h = first_none x xs e in rw (h.0, parts_onto xs
 
 -- ---- entries
 
-entries_behind : (whole : Bool) (front rest : List ℕ)
+entries_after : (whole : Bool) (front rest : List ℕ)
     → map entry_of (counted whole (front ∷ parts rest)) ≡ entry_of front ∷ spelled whole rest
-entries_behind whole front rest = let h = some_field is_separator rest in rw h.2 refl
+entries_after whole front rest = let h = some_field is_separator rest in rw h.2 refl
 
 pub spelled_first : (whole : Bool) (xs : List ℕ) (sep : ℕ) (ys : List ℕ) → list_any is_separator xs ≡ false
     → is_separator sep ≡ true → spelled whole (xs ++ sep ∷ ys) ≡ entry_of xs ∷ spelled whole ys
 spelled_first whole xs sep ys e s = ap (λ (ps : List (List ℕ)). map entry_of (counted whole ps))
-    (parts_at xs sep ys e s) ∙ entries_behind whole xs ys
+    (parts_at xs sep ys e s) ∙ entries_after whole xs ys
 
 pub spelled_at : (xs : List ℕ) (sep : ℕ) (ys : List ℕ) → list_any is_separator xs ≡ false
     → is_separator sep ≡ true → spelled true (xs ++ sep ∷ ys) ≡ entry_of xs ∷ spelled true ys

@@ -4,5 +4,5 @@ use Rattle.hip_trace.proofs.line.first_line.Goals as goal
 
 pub returns : goal.returns
 returns c =
-    let rest = c.in_ok-entry.rest.now in
-    line_first c.args.bytes.now rest _ (record { entry = c.in_ok-entry.entry; len = length c.args.bytes.now - length rest }) c.in_ok-entry.ensures c.in_ok-_next.ensures refl (omega (arith, c.if-len-gt256.false))
+    let rest = c.in_ok-usual.rest.now in
+    line_first c.args.bytes.now rest _ (record { usual = c.in_ok-usual.usual; len = length c.args.bytes.now - length rest }) c.in_ok-usual.ensures c.in_ok-_next.ensures refl (omega (arith, c.if-len-gt256.false))

@@ -1,4 +1,4 @@
--- What is let go is not asked for any more.
+-- No check needs what is dropped.
 use Rattle.std.proofs.Common.{◌≡◌, ℕ, ◌*◌, ◌/◌, ◌<◌, true, List, length, Option, Some, None, option_map, refl, sym, ap, ◌∙◌, subst, arith}
 use Rattle.std.specs.Prelude.{IsSome, is_some}
 use Rattle.hip_tree.specs.declared.program.Program.{Program}

@@ -17,7 +17,7 @@ met_known same xs y e = ap (λ t. cond t xs (xs ++ y ∷ [])) e
 
 -- ---- marks
 
--- a mark that is at hand adds nothing to any marks behind those that were met
+-- a mark that is at hand adds nothing to any marks after those that were met
 pub known_adds : (before ms : List Mark) (m : Mark) → list_any (same_mark m) before ≡ true → AddAlike before ms (ms ++ m ∷ [])
 known_adds before ms m e =
     sym (met-append same_mark before ms (m ∷ []) ∙ met_known same_mark (met same_mark before ms) m (met-first same_mark-equivalence m before ms e))

@@ -91,7 +91,7 @@ none_after a n (f ∷ fs) h =
     let other : nat_lt n f.step ≡ false = (let lt = h.1 in grind (arith, nat_tests)) in
     ap (λ t. cond t (Some f) (first_after n fs)) other ∙ none_after (f.step + 1) n fs h.2
 
--- the first flush after a step, behind others
+-- the first flush after a step, where others come first
 abbrev pub or_last : Option FlushNote → FlushNote → Option FlushNote
 or_last None f = Some f
 or_last (Some g) f = Some g

@@ -1,4 +1,4 @@
--- What a step does to the calls that stand, told by how many frames stand.
+-- What a step does to the calls that stand, by the number of frames before it and after it.
 use Rattle.std.proofs.Common.{◌≡◌, ℕ, suc, List, ◌∷◌, length, drop, Option, Some, None, refl, sym, ap, ◌∙◌, subst}
 use Rattle.hip_tree.specs.declared.instr.Instr.{Instr}
 use Rattle.hip_tree.specs.declared.program.Program.{Program}

@@ -1,5 +1,5 @@
 -- What the ops of `getelementptr` do.
-use Rattle.std.proofs.Common.{◌≡◌, ℕ, ◌<◌, ◌%◌, ◌^◌, Bool, List, [], Some, sym, ◌∙◌, subst, ◌+◌, ◌-◌, drop, ap₂, arith, ◌++◌, length, refl, ap}
+use Rattle.std.proofs.Common.{◌≡◌, ℕ, ◌<◌, ◌%◌, ◌^◌, Bool, List, [], Some, sym, ◌∙◌, subst, ◌+◌, drop, ap₂, arith, ◌++◌, length, refl, ap}
 use Rattle.std.proofs.Math.Nat.{mod-eq_of_lt}
 use Rattle.hip_types.specs.declared.ty.Ty.{Ty}
 use Rattle.hip_tree.specs.declared.instr.Arg.{Arg}

@@ -1,4 +1,5 @@
 pub mod Effects
 pub mod Far
 pub mod Fields
+pub mod Kinds
 pub mod Passed

@@ -2,6 +2,7 @@ ghost use Rattle.std.specs.Prelude.{◌⊎◌, Option, IfOk};
 ghost use Rattle.hip_types.specs.declared.number.Scalar.{Scalar};
 ghost use Rattle.hip_tree.specs.declared.instr.Instr.TheVariants as instrs;
 ghost use Rattle.hip_sound.specs.Given.{CallsExtern, CallsFunction};
+ghost use Rattle.hip_instr_ops.specs.Kinds.{IsValue};
 ghost use Rattle.hip_scope.specs.Grown.{grown};
 ghost use Rattle.hip_scope.specs.Growth.{Makes};
 ghost use Rattle.hip_scope.specs.Known.{ArgsKnown, InstrKnown, ResultKnown};
@@ -11,7 +12,7 @@ use crate::calls::call;
 use crate::externs::extern_call;
 use crate::gep::gep;
 use crate::memory::{alloca, load, store};
-use crate::values::{binary, cast, compare, select};
+use crate::values::{CastTypes, Operands, binary, cast, compare, select};
 use hip_code::Op;
 use hip_externs::ExternCall;
 use hip_scope::{Growing, Scope};
@@ -40,10 +41,11 @@ fn any_call(
     }
 }
 
-/// The op of an instruction.
-pub fn instr_op(scope: &Scope<'_, '_>, tables: &mut Growing, instr: &Instr) -> Result<Op, NoMemory>
+/// The op of an instruction that computes a value.
+fn value_op(scope: &Scope<'_, '_>, tables: &mut Growing, instr: &Instr) -> Result<Op, NoMemory>
     requires scope { Describes scope.now }
     requires known { InstrKnown scope.now.program.now (names_of scope.now) instr.now }
+    requires value { IsValue instr.now }
     ensures { IfOk result (λ o. Makes (grown tables.old) (grown tables.new) (λ t. DoesHere scope.now t o instr.now)) }
 {
     match instr {
@@ -54,28 +56,47 @@ pub fn instr_op(scope: &Scope<'_, '_>, tables: &mut Growing, instr: &Instr) -> R
             a,
             b,
             ..
-        } => { binary(scope, tables, dest, *op, *width, a, b) }
+        } => { binary(scope, tables, dest, *op, *width, &Operands { a, b }) }
         Instr::Compare {
             dest,
             pred,
             ty,
             a,
             b,
-        } => { compare(scope, tables, dest, *pred, *ty, a, b) }
+        } => { compare(scope, tables, dest, *pred, *ty, &Operands { a, b }) }
         Instr::Select {
             dest,
             cond,
             a,
             b,
             ..
-        } => { select(scope, tables, dest, cond, a, b) }
+        } => { select(scope, tables, dest, cond, &Operands { a, b }) }
         Instr::Cast {
             dest,
             op,
             from,
             a,
             to,
-        } => { cast(scope, tables, dest, *op, *from, a, *to) }
+        } => {
+            let types = CastTypes {
+                from: *from,
+                to: *to,
+            };
+            cast(scope, tables, dest, *op, a, types)
+        }
+        _ => unreachable!(),
+    }
+}
+
+/// The op of an instruction.
+pub fn instr_op(scope: &Scope<'_, '_>, tables: &mut Growing, instr: &Instr) -> Result<Op, NoMemory>
+    requires scope { Describes scope.now }
+    requires known { InstrKnown scope.now.program.now (names_of scope.now) instr.now }
+    ensures { IfOk result (λ o. Makes (grown tables.old) (grown tables.new) (λ t. DoesHere scope.now t o instr.now)) }
+{
+    match instr {
+        Instr::Binary { .. } | Instr::Compare { .. } | Instr::Select { .. } | Instr::Cast { .. } =>
+            value_op(scope, tables, instr),
         Instr::Alloca { dest, ty, .. } => { alloca(scope, dest, ty) }
         Instr::Load {
             dest,

@@ -15,6 +15,20 @@ use hip_code::{
 use hip_scope::{Growing, Scope, operand, slot};
 use hip_types::{BinaryOp, CastOp, Name, NoMemory, Pred, Scalar, Width};
 
+/// The two operands of an instruction.
+#[derive(Clone, Copy)]
+pub struct Operands<'a> {
+    pub a: &'a hip_tree::Operand,
+    pub b: &'a hip_tree::Operand,
+}
+
+/// The types from which and to which a cast converts.
+#[derive(Clone, Copy)]
+pub struct CastTypes {
+    pub from: Scalar,
+    pub to: Scalar,
+}
+
 /// The width of the number that a value is; a pointer is a number of 64 bits.
 pub fn width_of(ty: Scalar) -> Width
     ensures { result ≡ the_width ty }
@@ -112,19 +126,18 @@ pub fn binary(
     dest: &Name,
     op: BinaryOp,
     width: Width,
-    a: &hip_tree::Operand,
-    b: &hip_tree::Operand,
+    operands: &Operands<'_>,
 ) -> Result<Op, NoMemory>
     requires scope { Describes scope.now }
     requires dest { IsAmong (names_of scope.now) dest.now }
-    requires a { OperandKnown (names_of scope.now) a.now }
-    requires b { OperandKnown (names_of scope.now) b.now }
-    ensures { IfOk result (λ o. Makes (grown tables.old) (grown tables.new)
-        (λ t. (flags : Flags) → DoesHere scope.now t o (instrs.Binary dest.now op flags width a.now b.now))) }
+    requires a { OperandKnown (names_of scope.now) operands.now.a.now }
+    requires b { OperandKnown (names_of scope.now) operands.now.b.now }
+    ensures { IfOk result (λ o. Makes (grown tables.old) (grown tables.new) (λ t. (flags : Flags)
+        → DoesHere scope.now t o (instrs.Binary dest.now op flags width operands.now.a.now operands.now.b.now))) }
 {
     let dest = slot(scope, dest)?;
-    let a = operand(scope, tables, a)?;
-    let b = operand(scope, tables, b)?;
+    let a = operand(scope, tables, operands.a)?;
+    let b = operand(scope, tables, operands.b)?;
     let value = binary_value(op, width, a, b);
     Ok(Op::Value { dest, value })
 }
@@ -135,19 +148,18 @@ pub fn compare(
     dest: &Name,
     pred: Pred,
     ty: Scalar,
-    a: &hip_tree::Operand,
-    b: &hip_tree::Operand,
+    operands: &Operands<'_>,
 ) -> Result<Op, NoMemory>
     requires scope { Describes scope.now }
     requires dest { IsAmong (names_of scope.now) dest.now }
-    requires a { OperandKnown (names_of scope.now) a.now }
-    requires b { OperandKnown (names_of scope.now) b.now }
+    requires a { OperandKnown (names_of scope.now) operands.now.a.now }
+    requires b { OperandKnown (names_of scope.now) operands.now.b.now }
     ensures { IfOk result (λ o. Makes (grown tables.old) (grown tables.new)
-        (λ t. DoesHere scope.now t o (instrs.Compare dest.now pred ty a.now b.now))) }
+        (λ t. DoesHere scope.now t o (instrs.Compare dest.now pred ty operands.now.a.now operands.now.b.now))) }
 {
     let dest = slot(scope, dest)?;
-    let a = operand(scope, tables, a)?;
-    let b = operand(scope, tables, b)?;
+    let a = operand(scope, tables, operands.a)?;
+    let b = operand(scope, tables, operands.b)?;
     let value = Value::Rest(comparison(pred, width_of(ty), a, b));
     Ok(Op::Value { dest, value })
 }
@@ -157,21 +169,20 @@ pub fn select(
     tables: &mut Growing,
     dest: &Name,
     test: &hip_tree::Operand,
-    a: &hip_tree::Operand,
-    b: &hip_tree::Operand,
+    operands: &Operands<'_>,
 ) -> Result<Op, NoMemory>
     requires scope { Describes scope.now }
     requires dest { IsAmong (names_of scope.now) dest.now }
     requires test { OperandKnown (names_of scope.now) test.now }
-    requires a { OperandKnown (names_of scope.now) a.now }
-    requires b { OperandKnown (names_of scope.now) b.now }
-    ensures { IfOk result (λ o. Makes (grown tables.old) (grown tables.new)
-        (λ t. (ty : Scalar) → DoesHere scope.now t o (instrs.Select dest.now test.now ty a.now b.now))) }
+    requires a { OperandKnown (names_of scope.now) operands.now.a.now }
+    requires b { OperandKnown (names_of scope.now) operands.now.b.now }
+    ensures { IfOk result (λ o. Makes (grown tables.old) (grown tables.new) (λ t. (ty : Scalar)
+        → DoesHere scope.now t o (instrs.Select dest.now test.now ty operands.now.a.now operands.now.b.now))) }
 {
     let dest = slot(scope, dest)?;
     let test = operand(scope, tables, test)?;
-    let a = operand(scope, tables, a)?;
-    let b = operand(scope, tables, b)?;
+    let a = operand(scope, tables, operands.a)?;
+    let b = operand(scope, tables, operands.b)?;
     let value = Value::Rest(Rest::Other(Other::Select { test, a, b }));
     Ok(Op::Value { dest, value })
 }
@@ -181,18 +192,17 @@ pub fn cast(
     tables: &mut Growing,
     dest: &Name,
     op: CastOp,
-    from: Scalar,
     a: &hip_tree::Operand,
-    to: Scalar,
+    types: CastTypes,
 ) -> Result<Op, NoMemory>
     requires scope { Describes scope.now }
     requires dest { IsAmong (names_of scope.now) dest.now }
     requires a { OperandKnown (names_of scope.now) a.now }
     ensures { IfOk result (λ o. Makes (grown tables.old) (grown tables.new)
-        (λ t. DoesHere scope.now t o (instrs.Cast dest.now op from a.now to))) }
+        (λ t. DoesHere scope.now t o (instrs.Cast dest.now op types.from a.now types.to))) }
 {
     let dest = slot(scope, dest)?;
     let a = operand(scope, tables, a)?;
-    let value = Value::Rest(conversion(op, width_of(from), width_of(to), a));
+    let value = Value::Rest(conversion(op, width_of(types.from), width_of(types.to), a));
     Ok(Op::Value { dest, value })
 }

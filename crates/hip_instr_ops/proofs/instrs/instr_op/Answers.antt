@@ -7,26 +7,6 @@ use Rattle.hip_scope.specs.Scopes.{DoesHere}
 use Rattle.hip_scope.proofs.Growth.{given_also, given_same}
 use Rattle.hip_instr_ops.proofs.instrs.instr_op.Goals as goal
 
-pub returns-in-Binary : goal.returns-in-Binary
-returns-in-Binary c =
-    given_also _ _ c.binary.result c.binary.ensures
-    (λ o t h. subst (λ (i : Instr). DoesHere c.args.scope.now t o i) (sym c.in-Binary.is) (h c.in-Binary.flags))
-
-pub returns-in-Compare : goal.returns-in-Compare
-returns-in-Compare c =
-    given_also _ _ c.compare.result c.compare.ensures
-    (λ o t h. subst (λ (i : Instr). DoesHere c.args.scope.now t o i) (sym c.in-Compare.is) (h))
-
-pub returns-in-Select : goal.returns-in-Select
-returns-in-Select c =
-    given_also _ _ c.select.result c.select.ensures
-    (λ o t h. subst (λ (i : Instr). DoesHere c.args.scope.now t o i) (sym c.in-Select.is) (h c.in-Select.ty))
-
-pub returns-in-Cast : goal.returns-in-Cast
-returns-in-Cast c =
-    given_also _ _ c.cast.result c.cast.ensures
-    (λ o t h. subst (λ (i : Instr). DoesHere c.args.scope.now t o i) (sym c.in-Cast.is) (h))
-
 pub returns-in-Alloca : goal.returns-in-Alloca
 returns-in-Alloca c =
     given_same (grown c.args.tables.now) c.alloca.result c.alloca.ensures

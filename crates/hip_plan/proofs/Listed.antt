@@ -47,7 +47,7 @@ hoist_is MissingFlush (suc level) path s = call_is level path s
 hoist_is MissingBoth zero path s = refl
 hoist_is MissingBoth (suc level) path s = call_is level path s
 
--- ---- a list of all that is asked for
+-- ---- the list of all sites that reports ask for
 
 -- the list has the program's sites that pass the test
 pub record HasAsked (P : Program) (test : Site → Bool) (list : List Site) : Type 0 where

@@ -28,7 +28,7 @@ pub record IsSmall (r : ℤ) : Type 0 where
   pub least : neg_ℤ (pos 1) ≤ℤ r
   pub most : r ≤ℤ pos 1
 
--- at most so many, and no less than its negative
+-- at most n, and at least its negative
 pub record IsWithin (n : ℕ) (r : ℤ) : Type 0 where
   pub least : neg_ℤ (pos n) ≤ℤ r
   pub most : r ≤ℤ pos n

@@ -1,4 +1,4 @@
--- Each set has the site that its list is asked for.
+-- Each set has the site that the report asks for.
 use Rattle.std.proofs.Common.{◌&&◌, ◌||◌, Option, ap, ◌∙◌}
 use Rattle.hip_tree.specs.Sites.{has_site}
 use Rattle.hip_tree.specs.declared.site.Site.{Site}

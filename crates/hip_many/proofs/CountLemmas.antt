@@ -76,7 +76,7 @@ pub all_noted : (old now : List (Site × Count)) (sites : List Site) (i number :
     count_at now s ≡ cond (has_site sites s) (counted (count_at old s) number) (count_at old s)
 all_noted old now sites i number h so_far s = so_far.count s ∙ ap (λ xs. cond (has_site xs s) (counted (count_at old s) number) (count_at old s)) (take_all i sites h)
 
--- the counts of so many plans
+-- The counts are those of the first plans, and the last plan of each site is one of them.
 pub record Tallies (entries : List (Site × Count)) (sort : Sort) (plans : List Plan) (number : ℕ) : Type 0 where
   pub plans_are : (s : Site) → (count_at entries s).plans ≡ plans_with sort plans s
   pub last : (s : Site) → (count_at entries s).last ≤ number

@@ -17,7 +17,7 @@ use Rattle.hip_many.specs.Union.{HasAll, IsUnion}
 
 -- ---- one item more
 
--- the list has what so many of the lists have
+-- the list has what the tests of the items accept, and what it had before
 pub record HasThose {A : Type 0} (test : A → Site → Bool) (items : List A) (before list : List Site) : Type 0 where
   pub has : (s : Site) → has_site list s ≡ list_any (λ x. test x s) items || has_site before s
 

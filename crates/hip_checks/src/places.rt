@@ -176,15 +176,7 @@ fn check_block(
         function: site.0,
         block: site.1,
     };
-    check_end(
-        alloc,
-        &function.registers,
-        &program.globals,
-        &function.labels,
-        function.function,
-        &block.end,
-        place,
-    )
+    check_end(alloc, program, function, &block.end, place)
 }
 
 /// Checks the blocks of a function.

@@ -22,11 +22,11 @@ module _ (one : (files : List NamedFile) (name : List ℕ) → LoadsOne files na
     (old new other other_new : CabinetState) (e : old.files ≡ Some files) (h : other.files ≡ Some files) where
   program_of : (f : Option (List NamedFile)) (P : Program) → f ≡ Some files → IsProgramOf f name P
       → IsProgramOf (Some files) name P
-  program_of f P told p = subst (λ (x : Option (List NamedFile)). IsProgramOf x name P) told p
+  program_of f P known p = subst (λ (x : Option (List NamedFile)). IsProgramOf x name P) known p
 
   refusal_of : (f : Option (List NamedFile)) (why : LoadRefusal) → f ≡ Some files → HasNoProgram f name why
       → HasNoProgram (Some files) name why
-  refusal_of f why told p = subst (λ (x : Option (List NamedFile)). HasNoProgram x name why) told p
+  refusal_of f why known p = subst (λ (x : Option (List NamedFile)). HasNoProgram x name why) known p
 
   pub same_program : (P Q : Program) → IsProgramOf old.files name P → IsProgramOf other.files name Q → P ≡ Q
   same_program P Q p q = (one files name).programs P Q (program_of old.files P e p) (program_of other.files Q h q)

@@ -6,5 +6,5 @@ mod record;
 mod run;
 
 pub use laws::{records_are_one, runs_are_one};
-pub use record::{put_trace, record_file};
+pub use record::record_file;
 pub use run::run_file;

@@ -1,18 +1,15 @@
 //! `record`: the trace of a program's run.
 
-ghost use Rattle.hip_answers.specs.Answers.{AnswersOnRun, HasAnswered, IsDelivered, sinks};
-ghost use Rattle.hip_answers.specs.Traces.{GivesTrace};
+ghost use Rattle.hip_answers.specs.Answers.{HasAnswered, IsDelivered, sinks};
 ghost use Rattle.hip_commands.specs.Record.{RecordAnswers};
 ghost use Rattle.hip_globals.specs.Addresses.{IsBase};
-ghost use Rattle.hip_runs.specs.Validity.{IsValid};
 ghost use Rattle.std.specs.Prelude.{◌≡◌, ◌≤◌, true, length};
 
-use hip_answers::{Status, finish, put_ending, refuse, status_of_ending, status_of_failure};
+use hip_answers::{Status, refuse, status_of_failure};
 use hip_io::{Cabinet, Sink};
 use hip_loading::load_program;
-use hip_recording::{RecordRefusal, write_trace};
-use hip_runs::{Input, MOST_NUMBERS, MOST_TURNS, first_input};
-use hip_sound::Checked;
+use hip_runs::{MOST_NUMBERS, MOST_TURNS, first_input};
+use hip_trace_writing::put_trace;
 use hip_types::{NoMemory, Row};
 use std::alloc::Global;
 
@@ -47,27 +44,4 @@ pub fn record_file<C: Cabinet, S: Sink, N: Sink>(
         Err(NoMemory) => return refuse(notes, Status::NoMemory),
     };
     put_trace(alloc, &checked, &input, out, notes)
-}
-
-/// Writes the trace of a run as it runs; then how the run has ended goes to notes.
-pub fn put_trace<S: Sink, N: Sink>(
-    alloc: Global,
-    checked: &Checked,
-    input: &Input,
-    out: &mut S,
-    notes: &mut N,
-) -> Status
-    requires { IsValid checked.now input.now }
-    ensures answered { AnswersOnRun (GivesTrace checked.now input.now) true
-        (sinks (S.state out.old) (S.state out.new) (N.state notes.old) (N.state notes.new)) result }
-    ensures delivered { S.held out.old ≡ 0 → IsDelivered result (S.held out.new) }
-{
-    match write_trace(alloc, checked, input, out) {
-        Ok(ended) => {
-            let tried = put_ending(notes, ended.ending);
-            finish(notes, tried, status_of_ending(ended.ending))
-        }
-        Err(RecordRefusal::WriteFault) => refuse(notes, Status::WriteFault),
-        Err(RecordRefusal::NoMemory) => refuse(notes, Status::NoMemory),
-    }
 }

@@ -84,7 +84,7 @@ impl Structural for End {
                     yes: left,
                     no: right,
                 },
-            ) => same_three(cond, test, yes, left, no, right),
+            ) => same_three((cond, test), (yes, left), (no, right)),
             (
                 End::Switch {
                     width,
@@ -98,7 +98,7 @@ impl Structural for End {
                     other: last,
                     cases: arms,
                 },
-            ) => same_four(width, wide, value, x, rest, last, cases, arms),
+            ) => same_four((width, wide), (value, x), (rest, last), (cases, arms)),
             (End::Ret(arg), End::Ret(with)) => arg.same(with),
             (End::Unreachable, End::Unreachable) => true,
             _ => false,

@@ -2,59 +2,50 @@ ghost use Rattle.std.specs.Prelude.{◌≡◌, ◌↔◌, IsTrue};
 
 use crate::structural::Structural;
 
-/// Whether two values are equal to two others, each to the one after it.
-pub fn same_two<A: Structural, B: Structural>(a: &A, x: &A, b: &B, y: &B) -> bool
-    ensures { IsTrue result ↔ ((a.now ≡ x.now) × (b.now ≡ y.now)) }
+/// Whether the values of each of two pairs are equal.
+pub fn same_two<A: Structural, B: Structural>(a: (&A, &A), b: (&B, &B)) -> bool
+    ensures { IsTrue result ↔ ((a.entry.0.now ≡ a.entry.1.now) × (b.entry.0.now ≡ b.entry.1.now)) }
 {
-    a.same(x) && b.same(y)
+    a.0.same(a.1) && b.0.same(b.1)
 }
 
-/// Whether three values are equal to three others, each to the one after it.
+/// Whether the values of each of three pairs are equal.
 pub fn same_three<A: Structural, B: Structural, C: Structural>(
-    a: &A,
-    x: &A,
-    b: &B,
-    y: &B,
-    c: &C,
-    z: &C,
+    a: (&A, &A),
+    b: (&B, &B),
+    c: (&C, &C),
 ) -> bool
-    ensures { IsTrue result ↔ ((a.now ≡ x.now) × ((b.now ≡ y.now) × (c.now ≡ z.now))) }
+    ensures { IsTrue result
+        ↔ ((a.entry.0.now ≡ a.entry.1.now) × ((b.entry.0.now ≡ b.entry.1.now) × (c.entry.0.now ≡ c.entry.1.now))) }
 {
-    a.same(x) && same_two(b, y, c, z)
+    a.0.same(a.1) && same_two(b, c)
 }
 
-/// Whether four values are equal to four others, each to the one after it.
+/// Whether the values of each of four pairs are equal.
 pub fn same_four<A: Structural, B: Structural, C: Structural, D: Structural>(
-    a: &A,
-    x: &A,
-    b: &B,
-    y: &B,
-    c: &C,
-    z: &C,
-    d: &D,
-    w: &D,
+    a: (&A, &A),
+    b: (&B, &B),
+    c: (&C, &C),
+    d: (&D, &D),
 ) -> bool
     ensures { IsTrue result
-        ↔ ((a.now ≡ x.now) × ((b.now ≡ y.now) × ((c.now ≡ z.now) × (d.now ≡ w.now)))) }
+        ↔ ((a.entry.0.now ≡ a.entry.1.now) × ((b.entry.0.now ≡ b.entry.1.now) × ((c.entry.0.now ≡ c.entry.1.now)
+        × (d.entry.0.now ≡ d.entry.1.now)))) }
 {
-    a.same(x) && same_three(b, y, c, z, d, w)
+    a.0.same(a.1) && same_three(b, c, d)
 }
 
-/// Whether five values are equal to five others, each to the one after it.
+/// Whether the values of each of five pairs are equal.
 pub fn same_five<A: Structural, B: Structural, C: Structural, D: Structural, E: Structural>(
-    a: &A,
-    x: &A,
-    b: &B,
-    y: &B,
-    c: &C,
-    z: &C,
-    d: &D,
-    w: &D,
-    e: &E,
-    v: &E,
+    a: (&A, &A),
+    b: (&B, &B),
+    c: (&C, &C),
+    d: (&D, &D),
+    e: (&E, &E),
 ) -> bool
     ensures { IsTrue result
-        ↔ ((a.now ≡ x.now) × ((b.now ≡ y.now) × ((c.now ≡ z.now) × ((d.now ≡ w.now) × (e.now ≡ v.now))))) }
+        ↔ ((a.entry.0.now ≡ a.entry.1.now) × ((b.entry.0.now ≡ b.entry.1.now) × ((c.entry.0.now ≡ c.entry.1.now)
+        × ((d.entry.0.now ≡ d.entry.1.now) × (e.entry.0.now ≡ e.entry.1.now))))) }
 {
-    a.same(x) && same_four(b, y, c, z, d, w, e, v)
+    a.0.same(a.1) && same_four(b, c, d, e)
 }

@@ -55,7 +55,7 @@ macro_rules! same_variant {
         $($variant:ident { $($x:ident $y:ident),* } by $same:ident [ $($p:ident $q:ident),* ],)*) => {
         match ($a, $b) {
             $((Instr::$variant { $($x,)* $($p,)* }, Instr::$variant { $($x: $y,)* $($p: $q,)* }) => {
-                $(*$p == *$q &&)* $same($($x, $y),*)
+                $(*$p == *$q &&)* $same($(($x, $y)),*)
             })*
             _ => false,
         }

@@ -7,11 +7,11 @@ ghost use Rattle.hip_runs.specs.Validity.{IsValid};
 use crate::picking::image_at;
 use crate::refusal::status_of_image;
 use hip_answers::{Status, refuse};
-use hip_commands::put_trace;
 use hip_io::{Cabinet, Sink};
 use hip_picks::Pick;
 use hip_runs::Input;
 use hip_trace_loading::{LoadedRun, load_run};
+use hip_trace_writing::put_trace;
 use std::alloc::Global;
 
 /// Picks a crash image of the run whose trace a file has, at an entry of that trace, and writes the trace of the run

@@ -23,7 +23,7 @@ use Rattle.hip_many_commands.specs.Asking.{AsksAll, HasAskedAll, status_of_trace
 use Rattle.hip_many_commands.specs.Many.{HasRepairedMany, ManyAnswers, status_in}
 use Rattle.hip_many_commands.specs.Notes.{many_notes}
 use Rattle.hip_repairing.specs.Making.{IsRepairForAll}
-use Rattle.hip_many_commands.specs.Runs.{AreRunsOf, ComesBehindRuns, TracedRun, plans_of, reports_of}
+use Rattle.hip_many_commands.specs.Runs.{AreRunsOf, FollowsRuns, TracedRun, plans_of, reports_of}
 use Rattle.hip_many_commands.specs.declared.loading.AllAsked.{AllAsked}
 use Rattle.hip_many_commands.specs.declared.refusal.NumberedRefusal.{NumberedRefusal}
 use Rattle.hip_repairing.specs.declared.many_runs.ManyRepair.{ManyRepair}
@@ -37,11 +37,11 @@ use Rattle.hip_repairs.specs.declared.plan.CloneOf.{CloneOf}
 
 -- ---- a trace that is none
 
-first_behind : {files other : Option (List NamedFile)} {P : Program} {names : List (List ℕ)} {number : ℕ}
-    {name : List ℕ} → files ≡ other → ComesBehindRuns files P names number name
-    → ComesBehindRuns other P names number name
-first_behind {files} {other} {P} {names} {number} {name} same b =
-    subst (λ (fs : Option (List NamedFile)). ComesBehindRuns fs P names number name) same b
+follows_alike : {files other : Option (List NamedFile)} {P : Program} {names : List (List ℕ)} {number : ℕ}
+    {name : List ℕ} → files ≡ other → FollowsRuns files P names number name
+    → FollowsRuns other P names number name
+follows_alike {files} {other} {P} {names} {number} {name} same b =
+    subst (λ (fs : Option (List NamedFile)). FollowsRuns fs P names number name) same b
 
 module _ {old mid new : CabinetState} {p : List ℕ} {names : List (List ℕ)} (P : Program) (met : HasMet false false old mid)
     (program : IsProgramOf old.files p P) (fetched : CountsFetches 1 old mid) where
@@ -55,7 +55,7 @@ module _ {old mid new : CabinetState} {p : List ℕ} {names : List (List ℕ)} (
         loaded = program;
         number = refusal.number;
         name = h.name;
-        behind = first_behind met.files h.behind;
+        follows = follows_alike met.files h.follows;
         why = refusal.why;
         met = met_then met h.met;
         cause = subst (λ (fs : Option (List NamedFile)). HasNoTrace fs h.name P refusal.why) met.files h.cause;
@@ -71,7 +71,7 @@ module _ {old mid new : CabinetState} {p : List ℕ} {names : List (List ℕ)} (
         loaded = program;
         number = h.number;
         name = h.name;
-        behind = first_behind met.files h.behind;
+        follows = follows_alike met.files h.follows;
         met = met_then met h.met;
         fetches = fetches_then 1 h.number fetched h.fetches;
         unread = subst (λ (fs : Option (List NamedFile)). FailsToRead fs h.name P new) met.files h.unread;

@@ -26,13 +26,13 @@ same_name t name files new P named (inr h) =
     inr (subst (λ (n : List ℕ). IsReadInPart files n P new) (sym same) h)
 
 pub faults_hide_none : ManyFaultsHideNone
-faults_hide_none files old new p t names P a told loaded current named apart status (inl u) =
-    absurd (loads_no_fault old new told loaded current a status u)
-faults_hide_none files old new p t names P a told loaded current named apart status (inr (inl u)) =
-    absurd (reads_program old new told loaded current a named apart u)
-faults_hide_none files old new p t names P a told loaded current named apart status (inr (inr (inl u))) =
+faults_hide_none files old new p t names P a known loaded current named apart status (inl u) =
+    absurd (loads_no_fault old new known loaded current a status u)
+faults_hide_none files old new p t names P a known loaded current named apart status (inr (inl u)) =
+    absurd (reads_program old new known loaded current a named apart u)
+faults_hide_none files old new p t names P a known loaded current named apart status (inr (inr (inl u))) =
     absurd (no_trace_fault u.number u.why (sym (ap (λ (x : Answer). x.status) u.is) ∙ status))
-faults_hide_none files old new p t names P a told loaded current named apart status (inr (inr (inr (inl u)))) =
-    shows_none old new told loaded current t u.program u.loaded (same_name t u.name old.files new u.program named u.unread)
-faults_hide_none files old new p t names P a told loaded current named apart status (inr (inr (inr (inr d)))) =
+faults_hide_none files old new p t names P a known loaded current named apart status (inr (inr (inr (inl u)))) =
+    shows_none old new known loaded current t u.program u.loaded (same_name t u.name old.files new u.program named u.unread)
+faults_hide_none files old new p t names P a known loaded current named apart status (inr (inr (inr (inr d)))) =
     absurd (let k : statuses.Done ≡ statuses.ReadFault = sym d.texts.status_is ∙ status in let z : ⊥ = cc in z)

@@ -11,7 +11,7 @@ use Rattle.hip_program_files.specs.Outside.{CountsFetches, HasMet}
 use Rattle.hip_program_files.specs.declared.failure.Failure.{Failure}
 use Rattle.hip_program_files.specs.declared.failure.Failure.TheVariants as failures
 use Rattle.hip_many_commands.specs.Asking.{Asks, AsksAll, HasAsked, numbered}
-use Rattle.hip_many_commands.specs.Runs.{AreRunsOf, ComesBehindRuns, IsRunOf, TracedRun, plans_of, reports_of}
+use Rattle.hip_many_commands.specs.Runs.{AreRunsOf, FollowsRuns, IsRunOf, TracedRun, plans_of, reports_of}
 use Rattle.hip_many_commands.specs.declared.loading.Asked.{Asked}
 use Rattle.hip_answers.specs.TraceFiles.{FailsToRead, HasNoTrace}
 use Rattle.hip_answers.specs.declared.refusal.TraceFileRefusal.{TraceFileRefusal}
@@ -96,10 +96,10 @@ module _ {P : Program} {names : List (List ℕ)} {start mid : CabinetState} {cou
   }
 
   -- it comes after the runs
-  pub behind_runs : (number : ℕ) → number ≡ count + 1 → ComesBehindRuns start.files P names number name
-  behind_runs number same = record {
+  pub after_runs : (number : ℕ) → number ≡ count + 1 → FollowsRuns start.files P names number name
+  after_runs number same = record {
     before = take count names;
-    behind = drop (suc count) names;
+    after = drop (suc count) names;
     names_are =
         sym (take-append-drop count names)
         ∙ ap (λ (ns : List (List ℕ)). take count names ++ ns)
@@ -113,14 +113,14 @@ module _ {P : Program} {names : List (List ℕ)} {start mid : CabinetState} {cou
       → Asks P name mid new (Err failure) → AsksAll P names start new (Err (numbered number failure))
   lacked new number (failures.Refused why) same h = record {
     name = name;
-    behind = behind_runs number same;
+    follows = after_runs number same;
     met = met_then some.met h.0;
     cause = subst (λ (fs : Option (List NamedFile)). HasNoTrace fs name P why) some.met.files h.1;
   }
   lacked new number failures.ReadFault same h = record {
     number = number;
     name = name;
-    behind = behind_runs number same;
+    follows = after_runs number same;
     met = met_then some.met h.met;
     fetches =
         subst (λ (n : ℕ). CountsFetches n start new) (sym same) (some.fetches 1 new h.fetches);

@@ -23,7 +23,7 @@ use Rattle.hip_repairs.specs.Direct.{direct}
 use Rattle.hip_repairs.specs.Repaired.{repaired}
 use Rattle.hip_many_commands.specs.Notes.{many_notes}
 use Rattle.hip_many_commands.specs.RunLaws.{heads, one_runs, tails}
-use Rattle.hip_many_commands.specs.Runs.{AreRunsOf, ComesBehindRuns, IsRunOf, TracedRun, plans_of, reports_of}
+use Rattle.hip_many_commands.specs.Runs.{AreRunsOf, FollowsRuns, IsRunOf, TracedRun, plans_of, reports_of}
 use Rattle.hip_repair_answers.specs.Laws.Repairs.{answer_is}
 use Rattle.hip_answers.specs.TraceFiles.{HasNoTrace, IsTraceFile}
 use Rattle.hip_answers.specs.TraceLaws.{never_both, untraced_once}
@@ -54,33 +54,33 @@ module _ (files : List NamedFile) (P : Program) where
   apart : (name : List ℕ) (why : TraceFileRefusal) → HasNoTrace (Some files) name P why → IsTraced name → ⊥
   apart name why h t = never_both files name P why t.input h t.is
 
-  among : (before behind : List (List ℕ)) (name : List ℕ) (why : TraceFileRefusal) → HasNoTrace (Some files) name P why
-      → All IsTraced (before ++ name ∷ behind) → ⊥
-  among [] behind name why h all = apart name why h (All-head IsTraced name behind all)
-  among (x ∷ xs) behind name why h all = among xs behind name why h (All-tail IsTraced x (xs ++ name ∷ behind) all)
+  among : (before after : List (List ℕ)) (name : List ℕ) (why : TraceFileRefusal) → HasNoTrace (Some files) name P why
+      → All IsTraced (before ++ name ∷ after) → ⊥
+  among [] after name why h all = apart name why h (All-head IsTraced name after all)
+  among (x ∷ xs) after name why h all = among xs after name why h (All-tail IsTraced x (xs ++ name ∷ after) all)
 
   -- The same names stand before both names, and both names are the same.
   pub record SamePlace (before before' : List (List ℕ)) (name name' : List ℕ) : Type 0 where
     pub fronts : before ≡ before'
     pub names : name ≡ name'
 
-  one_place : (before before' behind behind' : List (List ℕ)) (name name' : List ℕ) (why why' : TraceFileRefusal)
+  one_place : (before before' after after' : List (List ℕ)) (name name' : List ℕ) (why why' : TraceFileRefusal)
       → HasNoTrace (Some files) name P why → HasNoTrace (Some files) name' P why' → All IsTraced before
-      → All IsTraced before' → before ++ name ∷ behind ≡ before' ++ name' ∷ behind'
+      → All IsTraced before' → before ++ name ∷ after ≡ before' ++ name' ∷ after'
       → SamePlace before before' name name'
-  one_place [] [] behind behind' name name' why why' h k t u e =
-      record { fronts = refl; names = heads name name' behind behind' e }
-  one_place [] (x ∷ xs) behind behind' name name' why why' h k t u e =
-      absurd (apart x why (subst (λ n. HasNoTrace (Some files) n P why) (heads name x behind (xs ++ name' ∷ behind') e) h)
+  one_place [] [] after after' name name' why why' h k t u e =
+      record { fronts = refl; names = heads name name' after after' e }
+  one_place [] (x ∷ xs) after after' name name' why why' h k t u e =
+      absurd (apart x why (subst (λ n. HasNoTrace (Some files) n P why) (heads name x after (xs ++ name' ∷ after') e) h)
       (All-head IsTraced x xs u))
-  one_place (x ∷ xs) [] behind behind' name name' why why' h k t u e =
-      absurd (apart x why' (subst (λ n. HasNoTrace (Some files) n P why') (sym (heads x name' (xs ++ name ∷ behind) behind' e)) k)
+  one_place (x ∷ xs) [] after after' name name' why why' h k t u e =
+      absurd (apart x why' (subst (λ n. HasNoTrace (Some files) n P why') (sym (heads x name' (xs ++ name ∷ after) after' e)) k)
       (All-head IsTraced x xs t))
-  one_place (x ∷ xs) (y ∷ ys) behind behind' name name' why why' h k t u e =
-      let first = heads x y (xs ++ name ∷ behind) (ys ++ name' ∷ behind') e in
+  one_place (x ∷ xs) (y ∷ ys) after after' name name' why why' h k t u e =
+      let first = heads x y (xs ++ name ∷ after) (ys ++ name' ∷ after') e in
       let later =
-      one_place xs ys behind behind' name name' why why' h k (All-tail IsTraced x xs t) (All-tail IsTraced y ys u)
-      (tails x y (xs ++ name ∷ behind) (ys ++ name' ∷ behind') e) in
+      one_place xs ys after after' name name' why why' h k (All-tail IsTraced x xs t) (All-tail IsTraced y ys u)
+      (tails x y (xs ++ name ∷ after) (ys ++ name' ∷ after') e) in
       record { fronts = (λ i. first i ∷ later.fronts i); names = later.names }
 
 -- ---- the answers on files that are known
@@ -95,7 +95,7 @@ pub record Untraced (files : List NamedFile) (p : List ℕ) (names : List (List 
   loaded : IsProgramOf (Some files) p program
   number : ℕ
   name : List ℕ
-  behind : ComesBehindRuns (Some files) program names number name
+  follows : FollowsRuns (Some files) program names number name
   why : TraceFileRefusal
   cause : HasNoTrace (Some files) name program why
   is : a ≡ refusal (status_in number why)
@@ -131,28 +131,28 @@ alike unions P runs a b x y =
 module _ (unions : UnionsAreOne) (files : List NamedFile) (p : List ℕ) (names : List (List ℕ)) where
   view : (old new : CabinetState) (a : Answer) → old.files ≡ Some files → ManyAnswers old new p names a
       → View files p names a
-  view old new a told (inl u) = IsUnloaded (record {
+  view old new a known (inl u) = IsUnloaded (record {
     why = u.why;
-    cause = subst (λ fs. HasNoProgram fs p u.why) told u.cause;
+    cause = subst (λ fs. HasNoProgram fs p u.why) known u.cause;
     is = u.is;
   })
-  view old new a told (inr (inl u)) = Faulted (ap (λ (x : Answer). x.status) u.is)
-  view old new a told (inr (inr (inl u))) = IsUntraced (record {
+  view old new a known (inr (inl u)) = Faulted (ap (λ (x : Answer). x.status) u.is)
+  view old new a known (inr (inr (inl u))) = IsUntraced (record {
     program = u.program;
-    loaded = subst (λ fs. IsProgramOf fs p u.program) told u.loaded;
+    loaded = subst (λ fs. IsProgramOf fs p u.program) known u.loaded;
     number = u.number;
     name = u.name;
-    behind = subst (λ fs. ComesBehindRuns fs u.program names u.number u.name) told u.behind;
+    follows = subst (λ fs. FollowsRuns fs u.program names u.number u.name) known u.follows;
     why = u.why;
-    cause = subst (λ fs. HasNoTrace fs u.name u.program u.why) told u.cause;
+    cause = subst (λ fs. HasNoTrace fs u.name u.program u.why) known u.cause;
     is = u.is;
   })
-  view old new a told (inr (inr (inr (inl u)))) = Faulted (ap (λ (x : Answer). x.status) u.is)
-  view old new a told (inr (inr (inr (inr d)))) = IsCarried (record {
+  view old new a known (inr (inr (inr (inl u)))) = Faulted (ap (λ (x : Answer). x.status) u.is)
+  view old new a known (inr (inr (inr (inr d)))) = IsCarried (record {
     program = d.program;
-    loaded = subst (λ fs. IsProgramOf fs p d.program) told d.loaded;
+    loaded = subst (λ fs. IsProgramOf fs p d.program) known d.loaded;
     runs = d.runs;
-    are = subst (λ fs. AreRunsOf fs d.program names d.runs) told d.are;
+    are = subst (λ fs. AreRunsOf fs d.program names d.runs) known d.are;
     texts = d.texts;
   })
 
@@ -163,15 +163,15 @@ module _ (unions : UnionsAreOne) (files : List NamedFile) (p : List ℕ) (names 
   two_untraced a b u v =
       let P = u.program in
       let same = one.programs v.program P v.loaded u.loaded in
-      let behind = subst (λ (Q : Program). ComesBehindRuns (Some files) Q names v.number v.name) same v.behind in
+      let follows = subst (λ (Q : Program). FollowsRuns (Some files) Q names v.number v.name) same v.follows in
       let cause = subst (λ (Q : Program). HasNoTrace (Some files) v.name Q v.why) same v.cause in
-      let place = one_place files P u.behind.before behind.before u.behind.behind behind.behind u.name v.name u.why v.why
-      u.cause cause (all_traced files P u.behind.before u.behind.runs u.behind.are)
-      (all_traced files P behind.before behind.runs behind.are) (sym u.behind.names_are ∙ behind.names_are) in
+      let place = one_place files P u.follows.before follows.before u.follows.after follows.after u.name v.name u.why v.why
+      u.cause cause (all_traced files P u.follows.before u.follows.runs u.follows.are)
+      (all_traced files P follows.before follows.runs follows.are) (sym u.follows.names_are ∙ follows.names_are) in
       let why = untraced_once files v.name P u.why v.why
       (subst (λ (n : List ℕ). HasNoTrace (Some files) n P u.why) place.names u.cause) cause in
       let number : u.number ≡ v.number =
-      u.behind.number_is ∙ ap (λ (ns : List (List ℕ)). suc (length ns)) place.fronts ∙ sym behind.number_is in
+      u.follows.number_is ∙ ap (λ (ns : List (List ℕ)). suc (length ns)) place.fronts ∙ sym follows.number_is in
       same_answer (u.is ∙ ap (λ n. refusal (status_in n u.why)) number ∙ ap (λ w. refusal (status_in v.number w)) why
       ∙ sym v.is)
 
@@ -179,8 +179,8 @@ module _ (unions : UnionsAreOne) (files : List NamedFile) (p : List ℕ) (names 
   untraced_carried a b u d =
       let same = one.programs d.program u.program d.loaded u.loaded in
       let are = subst (λ (Q : Program). AreRunsOf (Some files) Q names d.runs) same d.are in
-      among files u.program u.behind.before u.behind.behind u.name u.why u.cause
-      (subst (λ (ns : List (List ℕ)). All (IsTraced files u.program) ns) u.behind.names_are
+      among files u.program u.follows.before u.follows.after u.name u.why u.cause
+      (subst (λ (ns : List (List ℕ)). All (IsTraced files u.program) ns) u.follows.names_are
       (all_traced files u.program names d.runs are))
 
   two_carried : (a b : Answer) → Carried files p names a → Carried files p names b → a ≡ b
@@ -212,6 +212,6 @@ module _ (unions : UnionsAreOne) (files : List NamedFile) (p : List ℕ) (names 
   two a b (IsCarried c) (IsCarried d) = inr (inr (same_answer (two_carried a b c d)))
 
 pub many_are_one : UnionsAreOne → ManyAreOne
-many_are_one unions p names files old new other other_new a b told told' x y =
-    two unions files p names a b (view unions files p names old new a told x)
-    (view unions files p names other other_new b told' y)
+many_are_one unions p names files old new other other_new a b known known' x y =
+    two unions files p names a b (view unions files p names old new a known x)
+    (view unions files p names other other_new b known' y)

@@ -100,7 +100,7 @@ contains plans plan part u i = record {
 }
 
 pub many_are_answered : PlansCure → ((P : Program) → IsSound P → IsQuiet P (direct P)) → ManyAreAnswered
-many_are_answered cure quiet files old new p names P runs told loaded are met =
+many_are_answered cure quiet files old new p names P runs known loaded are met =
     let plan = union_of P runs in (
       record {
         status = statuses.Done;
@@ -112,9 +112,9 @@ many_are_answered cure quiet files old new p names P runs told loaded are met =
       refl,
       inr (inr (inr (inr (record {
         program = P;
-        loaded = subst (λ (fs : Option (List NamedFile)). IsProgramOf fs p P) (sym told) loaded;
+        loaded = subst (λ (fs : Option (List NamedFile)). IsProgramOf fs p P) (sym known) loaded;
         runs = runs;
-        are = subst (λ (fs : Option (List NamedFile)). AreRunsOf fs P names runs) (sym told) are;
+        are = subst (λ (fs : Option (List NamedFile)). AreRunsOf fs P names runs) (sym known) are;
         met = met;
         texts = record {
           plan = plan;

@@ -30,11 +30,11 @@ pub record AreRunsOf (files : Option (List NamedFile)) (P : Program) (names : Li
   pub each : All (IsRunOf files P) runs
 
 -- The trace of that name is the one of that number, counted from 1, and all traces before it are those of runs.
-pub record ComesBehindRuns (files : Option (List NamedFile)) (P : Program) (names : List (List ℕ)) (number : ℕ)
+pub record FollowsRuns (files : Option (List NamedFile)) (P : Program) (names : List (List ℕ)) (number : ℕ)
     (name : List ℕ) : Type 0 where
   pub before : List (List ℕ)
-  pub behind : List (List ℕ)
-  pub names_are : names ≡ before ++ name ∷ behind
+  pub after : List (List ℕ)
+  pub names_are : names ≡ before ++ name ∷ after
   pub number_is : number ≡ suc (length before)
   pub runs : List TracedRun
   pub are : AreRunsOf files P before runs

@@ -1,8 +1,10 @@
 -- The limit of worths is a limit of scores, and no level is better than one whose score is at the limit.
-use Rattle.std.proofs.Common.{◌≡◌, ℕ, zero, suc, ◌+◌, Bool, true, false, cond, not, List, [], ◌∷◌, length, Option, Some, None, refl, ap, ◌∙◌, subst, arith, sym, ℤ, pos, ◌≤ℤ◌}
+use Rattle.std.proofs.Common.{◌≡◌, ℕ, zero, suc, ◌+◌, Bool, true, false, cond, not, List, [], ◌∷◌, length, Option, Some, None, refl, ap, ◌∙◌, subst, arith, ℤ, pos, ◌≤ℤ◌}
+use Rattle.std.specs.List.{All}
 use Rattle.std.specs.Map.{lookup}
-use Rattle.std.specs.Prelude.{int_lt, unwrap_or}
+use Rattle.std.specs.Prelude.{◌↔◌, int_lt, unwrap_or}
 use Rattle.std.proofs.lemmas.Int.{ints}
+use Rattle.std.proofs.lemmas.List.Elements.{All-cons, All-head, All-nil, All-tail}
 use Rattle.hip_tree.specs.declared.instr.Operand.{Operand}
 use Rattle.hip_tree.specs.declared.program.Program.{Program}
 use Rattle.hip_tree.specs.declared.site.Site.{Site}
@@ -11,7 +13,7 @@ use Rattle.hip_runs.specs.Found.Scores.{greater, greatest_worth, operands_at, sc
 use Rattle.hip_runs.specs.declared.report.Findings.{Findings}
 use Rattle.hip_runs.specs.declared.report.Marks.{Marks}
 use Rattle.hip_repairs.specs.Choice.{Candidate, best_of, better, is_better}
-use Rattle.hip_plan.specs.Worths.{IsLimit, IsTable, OperandKey, greater_one, greatest_among, is_at_limit, same_operand, worth_among}
+use Rattle.hip_plan.specs.Worths.{IsBound, IsGreatest, IsLimit, IsTable, OperandKey, greater_one, is_at_limit, same_operand}
 use Rattle.hip_plan.proofs.Sums.{IsWithin, worth_within}
 
 -- ---- no score is above the limit
@@ -67,30 +69,52 @@ marks_limit marks site operand =
 greater_than : (a b : ℤ) → (a ≤ℤ greater_one a b) × (b ≤ℤ greater_one a b)
 greater_than a b = (grind (arith, ints), grind (arith, ints))
 
-first_at_most : (a : ℤ) (es : List (OperandKey × ℤ)) → a ≤ℤ greatest_among a es
-first_at_most a [] = omega (arith, ints)
-first_at_most a (e ∷ es) =
-    let here = (greater_than a e.1).0 in
-    let rest = first_at_most (greater_one a e.1) es in
-    omega (arith, ints, here, rest)
-
-found_at_most : (a : ℤ) (es : List (OperandKey × ℤ)) (key : OperandKey) → pos 0 ≤ℤ a → unwrap_or (lookup (same_operand key) es) (pos 0) ≤ℤ greatest_among a es
-found_at_most a [] key h = h
-found_at_most a (e ∷ es) key h =
-    let here = (greater_than a e.1).0 in
-    by (same_operand key e.0) (found_at_most (greater_one a e.1) es key (omega (arith, ints, here)))
+found_at_most : (n : ℤ) (es : List (OperandKey × ℤ)) (key : OperandKey) → pos 0 ≤ℤ n → All (λ e. e.1 ≤ℤ n) es
+    → unwrap_or (lookup (same_operand key) es) (pos 0) ≤ℤ n
+found_at_most n [] key h all = h
+found_at_most n (e ∷ es) key h all =
+    by (same_operand key e.0) (All-head (λ e. e.1 ≤ℤ n) e es all)
+    (found_at_most n es key h (All-tail (λ e. e.1 ≤ℤ n) e es all))
   where
-    by : (t : Bool) → unwrap_or (lookup (same_operand key) es) (pos 0) ≤ℤ greatest_among (greater_one a e.1) es →
-        unwrap_or (cond t (Some e.1) (lookup (same_operand key) es)) (pos 0) ≤ℤ greatest_among (greater_one a e.1) es
-    by true later =
-        let here = (greater_than a e.1).1 in
-        let rest = first_at_most (greater_one a e.1) es in
-        omega (arith, ints, here, rest)
-    by false later = later
+    by : (t : Bool) → e.1 ≤ℤ n → unwrap_or (lookup (same_operand key) es) (pos 0) ≤ℤ n
+        → unwrap_or (cond t (Some e.1) (lookup (same_operand key) es)) (pos 0) ≤ℤ n
+    by true here later = here
+    by false here later = later
 
 -- the greatest worth in the table
 pub table_limit : (entries : List (OperandKey × ℤ)) (greatest : ℤ) (marks : Marks) → IsTable entries greatest marks → IsLimit marks greatest
 table_limit entries greatest marks table site operand =
-    let among = found_at_most (pos 0) entries (site, operand) (omega (arith, ints)) in
+    let bounds = table.is_greatest.bounds in
     subst (λ (z : ℤ). z ≤ℤ greatest) (table.worths.worth site operand)
-    (subst (λ (z : ℤ). worth_among entries (site, operand) ≤ℤ z) (sym table.is_greatest) among)
+    (found_at_most greatest entries (site, operand) bounds.0 bounds.1)
+
+-- ---- the greatest worth in the table
+
+-- what bounds the greatest so far and the worths that are left bounds all of them
+abbrev pub AreBounds : ℤ → List (OperandKey × ℤ) → List (OperandKey × ℤ) → Type 0
+AreBounds so_far left entries = (n : ℤ) → ((so_far ≤ℤ n) × All (λ e. e.1 ≤ℤ n) left) ↔ IsBound entries n
+
+pub no_bounds : (entries : List (OperandKey × ℤ)) → AreBounds (pos 0) entries entries
+no_bounds entries n = (λ h. h, λ h. h)
+
+pub more_bounds : (so_far : ℤ) (e : OperandKey × ℤ) (left entries : List (OperandKey × ℤ))
+    → AreBounds so_far (e ∷ left) entries → AreBounds (greater_one so_far e.1) left entries
+more_bounds so_far e left entries h n = (
+  λ g. (h n).0 (first n g.0, All-cons (λ e. e.1 ≤ℤ n) e left (second n g.0) g.1),
+  λ b. let g = (h n).1 b in (
+    either_at_most n (int_lt so_far e.1) so_far e.1 g.0 (All-head (λ e. e.1 ≤ℤ n) e left g.1),
+    All-tail (λ e. e.1 ≤ℤ n) e left g.1,
+  ),
+)
+  where
+    first : (n : ℤ) → greater_one so_far e.1 ≤ℤ n → so_far ≤ℤ n
+    first n g = let here = (greater_than so_far e.1).0 in omega (arith, ints, here, g)
+
+    second : (n : ℤ) → greater_one so_far e.1 ≤ℤ n → e.1 ≤ℤ n
+    second n g = let here = (greater_than so_far e.1).1 in omega (arith, ints, here, g)
+
+pub all_bounds : (greatest : ℤ) (entries : List (OperandKey × ℤ)) → AreBounds greatest [] entries → IsGreatest entries greatest
+all_bounds greatest entries h = record {
+  bounds = (h greatest).0 (omega (arith, ints), All-nil (λ e. e.1 ≤ℤ greatest));
+  least = λ n b. ((h n).1 b).0;
+}

@@ -17,7 +17,8 @@ store_at level path = cond (nat_eq level 0) (slice_get path 0) None
 abbrev pub call_at : ℕ → List Site → Option Site
 call_at level path = cond (nat_eq level 0) None (slice_get path level)
 
--- the site that a report asks a flush, or a fence, behind, and the call that it asks to hoist
+-- the store after which a report asks for a flush; none where a fence alone is missing, and none where a call is
+-- hoisted
 abbrev pub flush_asked : Kind → ℕ → List Site → Option Site
 flush_asked MissingFence level path = None
 flush_asked MissingFlush level path = store_at level path

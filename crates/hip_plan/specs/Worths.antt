@@ -1,6 +1,7 @@
 -- Worths as they are added up, and the greatest of them.
-use Rattle.std.specs.Prelude.{ℕ, ◌≡◌, Bool, true, false, cond, not, ◌&&◌, nat_eq, List, [], ◌∷◌, Option, Some, None, ℤ, pos, int_lt, ◌≤ℤ◌, FitsSigned, unwrap_or}
+use Rattle.std.specs.Prelude.{ℕ, ◌≡◌, Bool, true, false, cond, not, ◌&&◌, nat_eq, List, Option, Some, None, ℤ, pos, int_lt, ◌≤ℤ◌, FitsSigned, unwrap_or}
 use Rattle.std.specs.Int.{w128}
+use Rattle.std.specs.List.{All}
 use Rattle.std.specs.Map.{lookup}
 use Rattle.hip_types.specs.declared.number.Scalar.{Scalar}
 use Rattle.hip_types.specs.declared.number.Scalar.TheVariants.{Int, Ptr}
@@ -63,13 +64,17 @@ pub record HasWorths (entries : List (OperandKey × ℤ)) (hit : List ℕ) (mark
 abbrev pub greater_one : ℤ → ℤ → ℤ
 greater_one a b = cond (int_lt a b) b a
 
--- the greatest of a number and the worths in the table
-abbrev pub greatest_among : ℤ → List (OperandKey × ℤ) → ℤ
-greatest_among a [] = a
-greatest_among a (e ∷ es) = greatest_among (greater_one a e.1) es
+-- the number is at least 0, and at least each worth in the table
+abbrev pub IsBound : List (OperandKey × ℤ) → ℤ → Type 0
+IsBound entries n = (pos 0 ≤ℤ n) × All (λ e. e.1 ≤ℤ n) entries
+
+-- the greatest of 0 and the worths in the table: the least bound
+pub record IsGreatest (entries : List (OperandKey × ℤ)) (greatest : ℤ) : Type 0 where
+  pub bounds : IsBound entries greatest
+  pub least : (n : ℤ) → IsBound entries n → greatest ≤ℤ n
 
 -- the table has the worths by these marks, and this is the greatest of them and of 0, which has 128 bits
 pub record IsTable (entries : List (OperandKey × ℤ)) (greatest : ℤ) (marks : Marks) : Type 0 where
   pub worths : HasWorths entries marks.hit marks.pointed
-  pub is_greatest : greatest ≡ greatest_among (pos 0) entries
+  pub is_greatest : IsGreatest entries greatest
   pub fits : FitsSigned w128 greatest

@@ -1,7 +1,7 @@
-ghost use Rattle.std.specs.Prelude.{◌≡◌, ℕ, nat_eq, pos, IfOk};
+ghost use Rattle.std.specs.Prelude.{◌≡◌, ℕ, nat_eq, IfOk};
 ghost use Rattle.std.specs.List.{list_any};
 ghost use Rattle.hip_runs.specs.Found.Scores.{is_marked};
-ghost use Rattle.hip_plan.specs.Worths.{HasWorths, greater_one, greatest_among, worth_among};
+ghost use Rattle.hip_plan.specs.Worths.{HasWorths, IsGreatest, greater_one, worth_among};
 
 use crate::worths::{Worths, worth_of};
 use hip_findings::SharedFindings;
@@ -103,7 +103,7 @@ fn greater_one(a: i128, b: i128) -> i128
 
 /// The greatest worth in the table; 0 where none is above it.
 fn greatest_among(worths: &BTreeMap<OperandKey, i128>) -> i128
-    ensures { result ≡ greatest_among (pos 0) worths.now.entries }
+    ensures { IsGreatest worths.now.entries result }
 {
     let mut greatest = 0i128;
     'each: for (_, worth) in worths.iter() {

@@ -1,2 +1,3 @@
 pub mod Consts
 pub mod ListTexts
+pub mod Regrouped

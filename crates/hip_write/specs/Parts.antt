@@ -1,7 +1,7 @@
 -- The texts of parts of a program that its writer meets one by one.
 use Rattle.std.specs.Prelude.{ℕ, zero, suc, List, [], codes}
 use Rattle.hip_tree.specs.declared.instr.Instr.{Instr}
-use Rattle.hip_tree.specs.declared.instr.Instr.TheVariants.{Binary, Compare, Select, Cast, Alloca, Load, Store, Gep}
+use Rattle.hip_tree.specs.declared.instr.Instr.TheVariants.{Binary, Compare, Alloca, Load, Store, Gep}
 use Rattle.hip_grammar.specs.Show.{instr_text}
 
 -- what precedes the item of that number
@@ -9,13 +9,11 @@ abbrev pub separator_at : ℕ → List ℕ
 separator_at zero = []
 separator_at (suc n) = codes ", "
 
--- the text of an instruction that computes a value from its operands alone; of any other nothing
-abbrev pub computed_text : Instr → List ℕ
-computed_text (Binary dest op flags w a b) = instr_text (Binary dest op flags w a b)
-computed_text (Compare dest pred ty a b) = instr_text (Compare dest pred ty a b)
-computed_text (Select dest cond ty a b) = instr_text (Select dest cond ty a b)
-computed_text (Cast dest op from a to) = instr_text (Cast dest op from a to)
-computed_text _ = []
+-- the text of an operation or a comparison; of any other instruction nothing
+abbrev pub calculation_text : Instr → List ℕ
+calculation_text (Binary dest op flags w a b) = instr_text (Binary dest op flags w a b)
+calculation_text (Compare dest pred ty a b) = instr_text (Compare dest pred ty a b)
+calculation_text _ = []
 
 -- the text of an instruction on memory or on addresses; of any other nothing
 abbrev pub memory_text : Instr → List ℕ

@@ -3,17 +3,19 @@
 ghost use Rattle.std.specs.Prelude.{◌++◌, codes, map};
 ghost use Rattle.std.specs.Fmt.{decimal};
 ghost use Rattle.hip_io.specs.Sinks.{Writes};
-ghost use Rattle.hip_grammar.specs.Show.{operand_text, arg_text, align_text, result_text, instr_text, commas, after_commas};
-ghost use Rattle.hip_write.specs.Parts.{computed_text, memory_text};
+ghost use Rattle.hip_grammar.specs.Show.{operand_text, arg_text, align_text, assigned_text, result_text, instr_text, flags_text, inbounds_text, type_text, commas, after_commas};
+ghost use Rattle.hip_grammar.specs.Words.{binary_text, cast_text, pred_text, scalar_text};
+ghost use Rattle.hip_write.specs.Parts.{calculation_text, memory_text};
 
 use crate::constants::{put_const, put_inbounds};
 use crate::lists::{Written, put_more, put_parenthesized};
 use crate::text::{put_assigned, put_name, put_natural, put_register};
 use crate::types::{put_ret, put_type};
 use crate::words::{put_flags, put_keyword};
+use hip_grammar::Keyword;
 use hip_io::{Put, Sink, put_after};
 use hip_tree::{Arg, Flags, Instr, Operand};
-use hip_types::{BinaryOp, CastOp, Name, Pred, Row, Scalar, Ty, Width};
+use hip_types::{BinaryOp, CastOp, Name, Pred, Row, Scalar, Ty};
 
 pub fn put_operand<S: Sink>(before: Put, out: &mut S, operand: &Operand) -> Put
     ensures { Writes before result (S.state out.old) (S.state out.new) (operand_text operand.now) }
@@ -68,66 +70,62 @@ fn put_operands<S: Sink>(before: Put, out: &mut S, a: &Operand, b: &Operand) -> 
     put_operand(put, out, b)
 }
 
-fn put_binary<S: Sink>(
-    before: Put,
-    out: &mut S,
-    dest: &Name,
-    op: BinaryOp,
-    flags: Flags,
-    width: Width,
-    a: &Operand,
-    b: &Operand,
-) -> Put
+/// Puts the begin of an operation: its register, its word and its flags.
+fn put_operation<S: Sink>(before: Put, out: &mut S, dest: &Name, op: BinaryOp, flags: Flags) -> Put
     ensures { Writes before result (S.state out.old) (S.state out.new)
-        (instr_text (Instr.Binary dest.now op flags width a.now b.now)) }
+        (assigned_text dest.now ++ (binary_text op ++ (codes " " ++ flags_text flags))) }
 {
     let put = put_assigned(before, out, dest);
     let put = put_keyword(put, out, op);
     let put = put_after(put, out, b" ");
-    let put = put_flags(put, out, flags);
-    let put = put_keyword(put, out, width);
-    let put = put_after(put, out, b" ");
-    put_operands(put, out, a, b)
+    put_flags(put, out, flags)
 }
 
-fn put_compare<S: Sink>(
-    before: Put,
-    out: &mut S,
-    dest: &Name,
-    pred: Pred,
-    ty: Scalar,
-    a: &Operand,
-    b: &Operand,
-) -> Put
+/// Puts the begin of a comparison: its register and its predicate.
+fn put_comparison<S: Sink>(before: Put, out: &mut S, dest: &Name, pred: Pred) -> Put
     ensures { Writes before result (S.state out.old) (S.state out.new)
-        (instr_text (Instr.Compare dest.now pred ty a.now b.now)) }
+        (assigned_text dest.now ++ (codes "icmp " ++ (pred_text pred ++ codes " "))) }
 {
     let put = put_assigned(before, out, dest);
     let put = put_after(put, out, b"icmp ");
     let put = put_keyword(put, out, pred);
-    let put = put_after(put, out, b" ");
-    let put = put_keyword(put, out, ty);
-    let put = put_after(put, out, b" ");
-    put_operands(put, out, a, b)
+    put_after(put, out, b" ")
 }
 
-fn put_select<S: Sink>(
+/// Puts two operands after their type.
+fn put_typed_operands<S: Sink, K: Keyword>(
     before: Put,
     out: &mut S,
-    dest: &Name,
-    cond: &Operand,
-    ty: Scalar,
+    ty: K,
     a: &Operand,
     b: &Operand,
 ) -> Put
     ensures { Writes before result (S.state out.old) (S.state out.new)
-        (instr_text (Instr.Select dest.now cond.now ty a.now b.now)) }
+        (K.text ty ++ (codes " " ++ (operand_text a.now ++ (codes ", " ++ operand_text b.now)))) }
+{
+    let put = put_keyword(before, out, ty);
+    let put = put_after(put, out, b" ");
+    put_operands(put, out, a, b)
+}
+
+/// Puts the begin of a choice: its register and its condition.
+fn put_condition<S: Sink>(before: Put, out: &mut S, dest: &Name, cond: &Operand) -> Put
+    ensures { Writes before result (S.state out.old) (S.state out.new)
+        (assigned_text dest.now ++ (codes "select i1 " ++ (operand_text cond.now ++ codes ", "))) }
 {
     let put = put_assigned(before, out, dest);
     let put = put_after(put, out, b"select i1 ");
     let put = put_operand(put, out, cond);
-    let put = put_after(put, out, b", ");
-    let put = put_keyword(put, out, ty);
+    put_after(put, out, b", ")
+}
+
+/// Puts the two operands of a choice, each after their type.
+fn put_choices<S: Sink>(before: Put, out: &mut S, ty: Scalar, a: &Operand, b: &Operand) -> Put
+    ensures { Writes before result (S.state out.old) (S.state out.new)
+        (scalar_text ty ++ (codes " " ++ (operand_text a.now
+        ++ (codes ", " ++ (scalar_text ty ++ (codes " " ++ operand_text b.now)))))) }
+{
+    let put = put_keyword(before, out, ty);
     let put = put_after(put, out, b" ");
     let put = put_operand(put, out, a);
     let put = put_after(put, out, b", ");
@@ -136,23 +134,23 @@ fn put_select<S: Sink>(
     put_operand(put, out, b)
 }
 
-fn put_cast<S: Sink>(
-    before: Put,
-    out: &mut S,
-    dest: &Name,
-    op: CastOp,
-    from: Scalar,
-    a: &Operand,
-    to: Scalar,
-) -> Put
+/// Puts the begin of a conversion: its register, its word and the type that it converts from.
+fn put_conversion<S: Sink>(before: Put, out: &mut S, dest: &Name, op: CastOp, from: Scalar) -> Put
     ensures { Writes before result (S.state out.old) (S.state out.new)
-        (instr_text (Instr.Cast dest.now op from a.now to)) }
+        (assigned_text dest.now ++ (cast_text op ++ (codes " " ++ scalar_text from))) }
 {
     let put = put_assigned(before, out, dest);
     let put = put_keyword(put, out, op);
     let put = put_after(put, out, b" ");
-    let put = put_keyword(put, out, from);
-    let put = put_after(put, out, b" ");
+    put_keyword(put, out, from)
+}
+
+/// Puts the operand of a conversion, and the type that it converts to.
+fn put_converted<S: Sink>(before: Put, out: &mut S, a: &Operand, to: Scalar) -> Put
+    ensures { Writes before result (S.state out.old) (S.state out.new)
+        (codes " " ++ (operand_text a.now ++ (codes " to " ++ scalar_text to))) }
+{
+    let put = put_after(before, out, b" ");
     let put = put_operand(put, out, a);
     let put = put_after(put, out, b" to ");
     put_keyword(put, out, to)
@@ -207,23 +205,23 @@ fn put_store<S: Sink>(
     put_align(put, out, align)
 }
 
-fn put_gep<S: Sink>(
-    before: Put,
-    out: &mut S,
-    dest: &Name,
-    inbounds: bool,
-    ty: &Ty,
-    base: &Operand,
-    indices: &Row<Arg>,
-) -> Put
+/// Puts the begin of an address: its register and the type that the indices go into.
+fn put_indexed_type<S: Sink>(before: Put, out: &mut S, dest: &Name, inbounds: bool, ty: &Ty) -> Put
     ensures { Writes before result (S.state out.old) (S.state out.new)
-        (instr_text (Instr.Gep dest.now inbounds ty.now base.now indices.now)) }
+        (assigned_text dest.now ++ (codes "getelementptr " ++ (inbounds_text inbounds ++ type_text ty.now))) }
 {
     let put = put_assigned(before, out, dest);
     let put = put_after(put, out, b"getelementptr ");
     let put = put_inbounds(put, out, inbounds);
-    let put = put_type(put, out, ty);
-    let put = put_after(put, out, b", ptr ");
+    put_type(put, out, ty)
+}
+
+/// Puts the pointer that an address is computed from, and the indices.
+fn put_indexed<S: Sink>(before: Put, out: &mut S, base: &Operand, indices: &Row<Arg>) -> Put
+    ensures { Writes before result (S.state out.old) (S.state out.new)
+        (codes ", ptr " ++ (operand_text base.now ++ after_commas (map arg_text indices.now))) }
+{
+    let put = put_after(before, out, b", ptr ");
     let put = put_operand(put, out, base);
     put_more(put, out, indices)
 }
@@ -247,9 +245,9 @@ fn put_call<S: Sink>(
     put_parenthesized(put, out, args)
 }
 
-/// Puts an instruction that computes a value from its operands alone, and nothing of any other.
-fn put_computed<S: Sink>(before: Put, out: &mut S, instr: &Instr) -> Put
-    ensures { Writes before result (S.state out.old) (S.state out.new) (computed_text instr.now) }
+/// Puts an operation or a comparison, and nothing of any other instruction.
+fn put_calculation<S: Sink>(before: Put, out: &mut S, instr: &Instr) -> Put
+    ensures { Writes before result (S.state out.old) (S.state out.new) (calculation_text instr.now) }
 {
     match instr {
         Instr::Binary {
@@ -259,28 +257,20 @@ fn put_computed<S: Sink>(before: Put, out: &mut S, instr: &Instr) -> Put
             width,
             a,
             b,
-        } => put_binary(before, out, dest, *op, *flags, *width, a, b),
+        } => {
+            let put = put_operation(before, out, dest, *op, *flags);
+            put_typed_operands(put, out, *width, a, b)
+        }
         Instr::Compare {
             dest,
             pred,
             ty,
             a,
             b,
-        } => put_compare(before, out, dest, *pred, *ty, a, b),
-        Instr::Select {
-            dest,
-            cond,
-            ty,
-            a,
-            b,
-        } => put_select(before, out, dest, cond, *ty, a, b),
-        Instr::Cast {
-            dest,
-            op,
-            from,
-            a,
-            to,
-        } => put_cast(before, out, dest, *op, *from, a, *to),
+        } => {
+            let put = put_comparison(before, out, dest, *pred);
+            put_typed_operands(put, out, *ty, a, b)
+        }
         _ => put_after(before, out, b""),
     }
 }
@@ -309,7 +299,10 @@ fn put_memory_instr<S: Sink>(before: Put, out: &mut S, instr: &Instr) -> Put
             ty,
             base,
             indices,
-        } => put_gep(before, out, dest, *inbounds, ty, base, indices),
+        } => {
+            let put = put_indexed_type(before, out, dest, *inbounds, ty);
+            put_indexed(put, out, base, indices)
+        }
         _ => put_after(before, out, b""),
     }
 }
@@ -328,6 +321,26 @@ pub fn put_instr<S: Sink>(before: Put, out: &mut S, instr: &Instr) -> Put
             callee,
             args,
         } => put_call(before, out, dest, *ret, callee, args),
-        _ => put_computed(before, out, instr),
+        Instr::Select {
+            dest,
+            cond,
+            ty,
+            a,
+            b,
+        } => {
+            let put = put_condition(before, out, dest, cond);
+            put_choices(put, out, *ty, a, b)
+        }
+        Instr::Cast {
+            dest,
+            op,
+            from,
+            a,
+            to,
+        } => {
+            let put = put_conversion(before, out, dest, *op, *from);
+            put_converted(put, out, a, *to)
+        }
+        _ => put_calculation(before, out, instr),
     }
 }

@@ -8,10 +8,9 @@ use crate::places::targets::{Targets, targets_known, targets_name_entry};
 use crate::places::uses::Uses;
 use crate::refused::{Refused, ask};
 use crate::rules::externs::is_same_scalar;
-use crate::tables::registers::RegisterTable;
-use hip_names::NameSet;
+use crate::tables::{FunctionTables, ProgramTables};
 use hip_sound::{Fault, Place};
-use hip_tree::{Arg, Case, End, Function};
+use hip_tree::{Arg, Case, End};
 use hip_types::{NoMemory, Scalar};
 use indexmap::IndexSet;
 use std::alloc::Global;
@@ -63,32 +62,32 @@ fn end_cases_differ(alloc: Global, end: &End) -> Result<bool, NoMemory>
 /// and no branch goes to the entry block.
 pub fn check_end(
     alloc: Global,
-    registers: &RegisterTable<'_>,
-    globals: &NameSet<'_>,
-    labels: &NameSet<'_>,
-    function: &Function,
+    program: &ProgramTables<'_>,
+    function: &FunctionTables<'_>,
     end: &End,
     place: Place,
 ) -> Result<(), Refused>
     ensures { Answers result
-        (end_found registers.now.names registers.now.values globals.now labels.now function.now end.now place) }
+        (end_found function.now.registers.names function.now.registers.values program.now.globals function.now.labels
+        function.now.function.now end.now place) }
 {
     let uses = Uses::of_end(end);
     let targets = Targets::of_end(end);
+    let registers = &function.registers;
     ask(
-        uses_known(registers, globals, &uses) && targets_known(labels, &targets),
+        uses_known(registers, &program.globals, &uses) && targets_known(&function.labels, &targets),
         Fault::Unknown,
         place,
     )?;
     ask(uses_fit(&uses), Fault::TooLarge, place)?;
     ask(
-        uses_agree(registers, &uses) && end_agrees(function.ret, end),
+        uses_agree(registers, &uses) && end_agrees(function.function.ret, end),
         Fault::Mismatch,
         place,
     )?;
     ask(end_cases_differ(alloc, end)?, Fault::Duplicate, place)?;
     ask(
-        !targets_name_entry(function.blocks.as_slice(), &targets),
+        !targets_name_entry(function.function.blocks.as_slice(), &targets),
         Fault::BadEdge,
         place,
     )

@@ -1,6 +1,6 @@
 use Rattle.hip_answers.specs.Answers.{sinks}
-use Rattle.hip_commands.proofs.Records.{has_recorded, ran_out, was_cut}
-use Rattle.hip_commands.proofs.record.put_trace.Goals as goal
+use Rattle.hip_trace_writing.proofs.Recorded.{has_recorded, ran_out, was_cut}
+use Rattle.hip_trace_writing.proofs.written.put_trace.Goals as goal
 
 pub returns-in-Ok-clause-answered : goal.returns-in-Ok-clause-answered
 returns-in-Ok-clause-answered g c =

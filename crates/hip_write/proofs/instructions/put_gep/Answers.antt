@@ -1,5 +1,0 @@
-use Rattle.hip_io.specs.Laws.SinkLaws.{and_then}
-use Rattle.hip_write.proofs.instructions.put_gep.Goals as goal
-
-pub returns : goal.returns
-returns g c = and_then c.put_assigned-put.ensures (and_then c.put_after-put.ensures (and_then c.put_inbounds-put.ensures (and_then c.put_type-put.ensures (and_then c.put_after-put-2.ensures (and_then c.put_operand-put.ensures (c.put_more.ensures))))))

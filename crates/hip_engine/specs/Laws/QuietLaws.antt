@@ -81,7 +81,9 @@ comes_further old new e c going = go (state_of at).world.ending refl
     later = ap (λ (m : Seen). m.taken) c.step
 
     ended : (x : Ending) → (state_of at).world.ending ≡ Some x → ⊥
-    ended x q = let none : Some x ≡ None = sym (ending_then at x q) ∙ ap ending_by (sym c.is) ∙ going in let z : ⊥ = cc in z
+    ended x q =
+        let none : Some x ≡ None = sym (ending_then at x q) ∙ ap ending_by (sym c.is) ∙ going in
+        let z : ⊥ = cc in z
 
     go : (o : Option Ending) → (state_of at).world.ending ≡ o → old.taken < new.taken
     go (Some x) q = absurd (ended x q)

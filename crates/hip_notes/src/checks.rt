@@ -35,29 +35,35 @@ pub struct Check<'a> {
     pub fence: Option<u128>,
 }
 
+/// A range of the region, by its offset and its size.
+#[derive(Clone, Copy)]
+pub struct ByteRange {
+    pub offset: u64,
+    pub size: u64,
+}
+
 /// Appends the reports of a check of a range, in the order of the stores' steps.
 pub fn check_range(
     alloc: Global,
     pending: &Pending,
     check: &Check<'_>,
     lines: &Lines,
-    offset: u64,
-    size: u64,
+    range: ByteRange,
     reports: &mut SharedReports,
 ) -> Result<(), NoMemory>
-    requires within { offset + size ≤ LINE_SIZE * length lines.now.lines }
+    requires within { range.offset + range.size ≤ LINE_SIZE * length lines.now.lines }
     requires stores { StoresAscend 0 (2 ^ 128) pending.now.stores.items }
     requires flushes { (j : ℕ) → (l : Line) → lines_of pending.now.lines j ≡ Some l
         → FlushesAscend 0 (2 ^ 128) l.flushes }
     ensures { OnOk result ((groups : Map ℕ Told) × tree.IsOrdered nat_cmp groups
         × ((tag : ℕ)
         → tree.get nat_cmp groups tag ≡ group_from (lines_of pending.now.lines) tag None
-        (loose_from lines.now.lines offset size))
+        (loose_from lines.now.lines range.offset range.size))
         × (reports.new
         ≡ reports.old ++ reports_told check.now.births.now check.now.entry check.now.fence pending.now.stores.items
         groups.entries)) }
 {
-    let groups = groups_of(alloc, &pending.lines, lines, offset, size)?;
+    let groups = groups_of(alloc, &pending.lines, lines, range)?;
     let stores = stores_of(alloc, pending, check, &groups)?;
     reports.push(alloc, check.entry, stores)
 }
@@ -67,18 +73,17 @@ fn groups_of(
     alloc: Global,
     notes: &BTreeMap<u64, LineNote>,
     lines: &Lines,
-    offset: u64,
-    size: u64,
+    range: ByteRange,
 ) -> Result<BTreeMap<u128, Group>, NoMemory>
-    requires within { offset + size ≤ LINE_SIZE * length lines.now.lines }
+    requires within { range.offset + range.size ≤ LINE_SIZE * length lines.now.lines }
     requires flushes { (j : ℕ) → (l : Line) → lines_of notes.now j ≡ Some l
         → FlushesAscend 0 (2 ^ 128) l.flushes }
     ensures told { IfOk result (λ groups. (tag : ℕ)
         → tree.get nat_cmp groups tag ≡ group_from (lines_of notes.now) tag None
-        (loose_from lines.now.lines offset size)) }
+        (loose_from lines.now.lines range.offset range.size)) }
 {
     let mut groups = BTreeMap::new(alloc);
-    'bytes: for byte in lines.not_durable(offset, size) {
+    'bytes: for byte in lines.not_durable(range.offset, range.size) {
         let flush = flush_of(notes, byte);
         join(&mut groups, byte.tag, byte.flushed, flush)?;
     }

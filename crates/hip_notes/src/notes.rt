@@ -12,7 +12,7 @@ ghost use Rattle.hip_notes.specs.Pending.{AreInOrder, lines_of};
 ghost use Rattle.hip_notes.specs.Regions.{IsWhole};
 
 use crate::calls::Calls;
-use crate::checks::{Check, check_range};
+use crate::checks::{ByteRange, Check, check_range};
 use crate::forget::forget_in;
 use crate::marks::{none_recent, note_marks};
 use crate::pending::{FlushNote, Pending, StoreNote};
@@ -137,6 +137,10 @@ impl Notes {
     {
         let from = offset.min(region.size);
         let count = size.min(region.size - from);
+        let range = ByteRange {
+            offset: from,
+            size: count,
+        };
         let check = Check {
             births: self.births.as_slice(),
             entry,
@@ -147,8 +151,7 @@ impl Notes {
             &self.pending,
             &check,
             region.lines,
-            from,
-            count,
+            range,
             &mut self.reports,
         )
     }

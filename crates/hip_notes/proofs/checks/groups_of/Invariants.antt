@@ -7,4 +7,4 @@ use Rattle.hip_notes.specs.Pending.{lines_of}
 use Rattle.hip_notes.proofs.checks.groups_of.Given as goal
 
 abbrev pub invariant-bytes : goal.invariant-bytes
-invariant-bytes l = (tag : ℕ) → group_from (lines_of l.notes) tag (tree.get nat_cmp l.groups tag) l.byte-iterator ≡ group_from (lines_of l.notes) tag None (loose_from l.lines.lines l.offset l.size)
+invariant-bytes l = (tag : ℕ) → group_from (lines_of l.notes) tag (tree.get nat_cmp l.groups tag) l.byte-iterator ≡ group_from (lines_of l.notes) tag None (loose_from l.lines.lines l.fn.range.offset l.fn.range.size)

@@ -44,6 +44,13 @@ begins (Some (Rerun program trace)) = true
 begins (Some (Crash program trace entry picks)) = true
 begins _ = false
 
+-- whether an order writes what one run of the program does, as it is: `run`, `record` and `crash`
+abbrev pub is_run : Order → Bool
+is_run (Run program limit numbers) = true
+is_run (Record program base limit numbers) = true
+is_run (Crash program trace entry picks) = true
+is_run _ = false
+
 -- an order's base, limit, numbers, seed and size are within their bounds
 abbrev pub IsFit : Order → Type 0
 IsFit (Run program limit numbers) = (limit ≤ MOST_TURNS) × (length numbers ≤ MOST_NUMBERS)

@@ -1,8 +1,8 @@
 //! The top call.
 
-ghost use Rattle.std.specs.Prelude.{◌≡◌, Some, map, string_bytes};
+ghost use Rattle.std.specs.Prelude.{◌≡◌, true, Some, map, string_bytes};
 ghost use Rattle.hip_answers.specs.Answers.{HasAnswered, IsDelivered, sinks};
-ghost use Rattle.hip_tool.specs.Call.{AnswersTo, IsFit, begins};
+ghost use Rattle.hip_tool.specs.Call.{AnswersTo, IsFit, begins, is_run};
 ghost use Rattle.hip_words.specs.Order.{order};
 
 use hip_answers::{Status, refuse};
@@ -59,28 +59,9 @@ fn carry_out<C: Cabinet, S: Sink, N: Sink>(
     ensures delivered { S.held out.old ≡ 0 → IsDelivered result (S.held out.new) }
 {
     match order {
-        Order::Run {
-            program,
-            limit,
-            numbers,
-        } => { run_file(alloc, program.as_str(), limit, numbers, cabinet, out, notes) }
-        Order::Record {
-            program,
-            base,
-            limit,
-            numbers,
-        } => {
-            record_file(
-                alloc,
-                program.as_str(),
-                base,
-                limit,
-                numbers,
-                cabinet,
-                out,
-                notes,
-            )
-        }
+        Order::Run { .. } => carry_out_run(alloc, order, cabinet, out, notes),
+        Order::Record { .. } => carry_out_run(alloc, order, cabinet, out, notes),
+        Order::Crash { .. } => carry_out_run(alloc, order, cabinet, out, notes),
         Order::Check { program, trace } => {
             check_file(alloc, program.as_str(), trace.as_str(), cabinet, out, notes)
         }
@@ -104,6 +85,46 @@ fn carry_out<C: Cabinet, S: Sink, N: Sink>(
                 notes,
             )
         }
+    }
+}
+
+/// Carries out an order that writes what one run of the program does.
+fn carry_out_run<C: Cabinet, S: Sink, N: Sink>(
+    alloc: Global,
+    order: Order,
+    cabinet: &mut C,
+    out: &mut S,
+    notes: &mut N,
+) -> Status
+    requires fit { IsFit order }
+    requires kind { is_run order ≡ true }
+    ensures answered { HasAnswered
+        (AnswersTo (Some order) (C.state cabinet.old) (C.state cabinet.new)) (begins (Some order))
+        (C.state cabinet.old) (C.state cabinet.new)
+        (sinks (S.state out.old) (S.state out.new) (N.state notes.old) (N.state notes.new)) result }
+    ensures delivered { S.held out.old ≡ 0 → IsDelivered result (S.held out.new) }
+{
+    match order {
+        Order::Run {
+            program,
+            limit,
+            numbers,
+        } => run_file(alloc, program.as_str(), limit, numbers, cabinet, out, notes),
+        Order::Record {
+            program,
+            base,
+            limit,
+            numbers,
+        } => record_file(
+            alloc,
+            program.as_str(),
+            base,
+            limit,
+            numbers,
+            cabinet,
+            out,
+            notes,
+        ),
         Order::Crash {
             program,
             trace,
@@ -119,5 +140,6 @@ fn carry_out<C: Cabinet, S: Sink, N: Sink>(
             out,
             notes,
         ),
+        _ => unreachable!(),
     }
 }

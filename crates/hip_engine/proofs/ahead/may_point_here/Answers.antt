@@ -1,6 +1,5 @@
 use Rattle.std.proofs.Common.{◌≡◌, ap, ◌∙◌}
 use Rattle.std.proofs.lemmas.Option.{get_or_from_slice_get}
-use Rattle.hip_code.specs.declared.op.Op.{Op}
 use Rattle.hip_engine.specs.OpsAhead.{may_point}
 use Rattle.hip_engine.proofs.ahead.may_point_here.Goals as goal
 

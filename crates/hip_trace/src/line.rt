@@ -170,7 +170,8 @@ fn flush_or_fence(bytes: &[u8]) -> Option<(Usual, &[u8])>
     }
 }
 
-/// The line that stands first, if it is STORE, FLUSH, FENCE, PERSIST or ASSERT in its canonical text.
+/// The line that stands first, if it is STORE, FLUSH, FENCE, PERSIST or ASSERT in its canonical text, and 16 bytes or
+/// more are there for the digits of each number.
 pub(crate) fn first_line(bytes: &[u8]) -> Option<Line>
     ensures { IfSome result (λ line. IsFirstLine bytes.now line) }
 {

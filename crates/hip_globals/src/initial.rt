@@ -8,13 +8,13 @@ ghost use Rattle.hip_globals.specs.Values.{aligned, sized, placed, written, gep_
 
 use crate::indices::index;
 use crate::table::{AddressTable, address_of};
+use hip_image::Image;
 use hip_tree::{Const, ConstGep, TypedConst};
 use hip_types::{Bits, NoMemory, Row, Ty, align, gep_offset, size};
 use std::alloc::Global;
-use std::mem;
 
 /// Adds the low bytes of a number, the lowest first.
-fn push_number(bytes: &mut Row<u8>, count: u64, number: u64) -> Result<(), NoMemory>
+fn push_number(bytes: &mut Image, count: u64, number: u64) -> Result<(), NoMemory>
     ensures { OnOk result (bytes.new ≡ bytes.old ++ bytes_of count number) }
 {
     let mut rest = number;
@@ -25,21 +25,8 @@ fn push_number(bytes: &mut Row<u8>, count: u64, number: u64) -> Result<(), NoMem
     Ok(())
 }
 
-/// Adds n bytes of 0, in place: an object may be as large as the region.
-fn push_zeros(alloc: Global, bytes: &mut Row<u8>, count: usize) -> Result<(), NoMemory>
-    ensures { OnOk result (bytes.new ≡ bytes.old ++ replicate count 0) }
-{
-    let mut items = mem::replace(bytes, Row::new(alloc)).into_vec();
-    let Some(len) = items.len().checked_add(count) else {
-        return Err(NoMemory);
-    };
-    items.resize(len, 0)?;
-    *bytes = Row::from_vec(items);
-    Ok(())
-}
-
 /// Cuts what is after a place to a size, or fills it up with zeros.
-pub fn set_size(alloc: Global, bytes: &mut Row<u8>, start: usize, size: u64) -> Result<(), NoMemory>
+pub fn set_size(bytes: &mut Image, start: usize, size: u64) -> Result<(), NoMemory>
     requires { start ≤ length bytes.old }
     ensures { OnOk result (bytes.new ≡ take start bytes.old ++ sized size (drop start bytes.old)) }
 {
@@ -49,17 +36,11 @@ pub fn set_size(alloc: Global, bytes: &mut Row<u8>, start: usize, size: u64) -> 
         bytes.truncate(start + size);
         return Ok(());
     }
-    push_zeros(alloc, bytes, size - len)
+    bytes.push_zeros(size - len)
 }
 
 /// Fills up with zeros to the next multiple of an alignment, if what is after a place begins at an address.
-pub fn set_align(
-    alloc: Global,
-    bytes: &mut Row<u8>,
-    start: usize,
-    address: u64,
-    align: u64,
-) -> Result<(), NoMemory>
+pub fn set_align(bytes: &mut Image, start: usize, address: u64, align: u64) -> Result<(), NoMemory>
     requires { start ≤ length bytes.old }
     ensures { OnOk result (bytes.new ≡ take start bytes.old ++ aligned address align (drop start bytes.old)) }
 {
@@ -67,7 +48,7 @@ pub fn set_align(
         return Err(NoMemory);
     };
     match at.checked_next_multiple_of(align) {
-        Some(next) => push_zeros(alloc, bytes, (next - at) as usize),
+        Some(next) => bytes.push_zeros((next - at) as usize),
         None => Err(NoMemory),
     }
 }
@@ -122,7 +103,7 @@ fn element_of(alloc: Global, addresses: &AddressTable<'_>, gep: &ConstGep) -> Re
 #[cycle(bytes)]
 pub fn push_constant(
     alloc: Global,
-    bytes: &mut Row<u8>,
+    bytes: &mut Image,
     addresses: &AddressTable<'_>,
     value: &Const,
 ) -> Result<(), NoMemory>
@@ -143,7 +124,7 @@ pub fn push_constant(
 #[cycle(bytes)]
 fn push_item(
     alloc: Global,
-    bytes: &mut Row<u8>,
+    bytes: &mut Image,
     addresses: &AddressTable<'_>,
     item: &TypedConst,
 ) -> Result<(), NoMemory>
@@ -152,14 +133,14 @@ fn push_item(
 {
     let start = bytes.len();
     push_constant(alloc, bytes, addresses, &item.value)?;
-    set_size(alloc, bytes, start, size(&item.ty))
+    set_size(bytes, start, size(&item.ty))
 }
 
 /// Adds the items of an array.
 #[cycle(bytes)]
 fn push_items(
     alloc: Global,
-    bytes: &mut Row<u8>,
+    bytes: &mut Image,
     addresses: &AddressTable<'_>,
     items: &[TypedConst],
 ) -> Result<(), NoMemory>
@@ -178,7 +159,7 @@ fn push_items(
 #[cycle(bytes)]
 fn push_fields(
     alloc: Global,
-    bytes: &mut Row<u8>,
+    bytes: &mut Image,
     addresses: &AddressTable<'_>,
     items: &[TypedConst],
 ) -> Result<(), NoMemory>
@@ -188,7 +169,7 @@ fn push_fields(
 {
     let start = bytes.len();
     'fields: for item in items {
-        set_align(alloc, bytes, start, 0, align(&item.ty))?;
+        set_align(bytes, start, 0, align(&item.ty))?;
         push_item(alloc, bytes, addresses, item)?;
     }
     Ok(())

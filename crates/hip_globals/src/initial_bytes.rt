@@ -12,14 +12,15 @@ ghost use Rattle.hip_globals.specs.Values.{aligned, constant_bytes};
 use crate::addresses::alignment;
 use crate::initial::{push_constant, set_align, set_size};
 use crate::table::{AddressTable, address_table};
+use hip_image::Image;
 use hip_tree::{GlobalVar, Program};
-use hip_types::{LINE_SIZE, NoMemory, Row, VOLATILE_START, size};
+use hip_types::{LINE_SIZE, NoMemory, VOLATILE_START, size};
 use std::alloc::Global;
 
 /// Adds the bytes of a global after those of the globals before it. The first of them lies at an address.
 fn add_global(
     alloc: Global,
-    bytes: &mut Row<u8>,
+    bytes: &mut Image,
     addresses: &AddressTable<'_>,
     start: u64,
     global: &GlobalVar,
@@ -29,10 +30,10 @@ fn add_global(
         (bytes.new ≡ aligned start (global_align global.now) bytes.old
         ++ constant_bytes (address_beside addresses.now) global.now.init global.now.ty) }
 {
-    set_align(alloc, bytes, 0, start, alignment(global))?;
+    set_align(bytes, 0, start, alignment(global))?;
     let len = bytes.len();
     push_constant(alloc, bytes, addresses, &global.init)?;
-    set_size(alloc, bytes, len, size(&global.ty))
+    set_size(bytes, len, size(&global.ty))
 }
 
 /// The bytes of those of the globals that are persistent, or that are not, the first of which lies at an address.
@@ -42,12 +43,12 @@ fn laid_bytes(
     globals: &[GlobalVar],
     persistent: bool,
     start: u64,
-) -> Result<Row<u8>, NoMemory>
+) -> Result<Image, NoMemory>
     requires { GlobalsFit globals.now }
     ensures { IfOk result
         (λ bytes. bytes ≡ spec.laid_bytes (address_beside addresses.now) persistent start [] globals.now) }
 {
-    let mut bytes = Row::new(alloc);
+    let mut bytes = Image::new(alloc);
     'globals: for index in 0..globals.len() {
         let global = &globals[index];
         if global.persistent == persistent {
@@ -59,7 +60,7 @@ fn laid_bytes(
 
 /// What the volatile globals hold before a run, from the first one's place on, where the region begins at a base. The
 /// time is that of the bytes and of the program's constants.
-pub fn volatile_bytes(alloc: Global, program: &Program, base: u64) -> Result<Row<u8>, NoMemory>
+pub fn volatile_bytes(alloc: Global, program: &Program, base: u64) -> Result<Image, NoMemory>
     requires globals { All TypesFitIn program.now.globals }
     requires persistent { end_of true base program.now.globals < 2 ^ 64 }
     requires volatile { volatile_end program.now < 2 ^ 64 }
@@ -74,7 +75,7 @@ pub fn volatile_bytes(alloc: Global, program: &Program, base: u64) -> Result<Row
 
 /// What the region holds before a run, where it begins at a base: the persistent globals, and zeros between and after
 /// them. The time is linear in the bytes and in the program's constants.
-pub fn region_bytes(alloc: Global, program: &Program, base: u64) -> Result<Row<u8>, NoMemory>
+pub fn region_bytes(alloc: Global, program: &Program, base: u64) -> Result<Image, NoMemory>
     requires globals { All TypesFitIn program.now.globals }
     requires persistent { end_of true base program.now.globals < 2 ^ 64 }
     requires volatile { volatile_end program.now < 2 ^ 64 }
@@ -85,6 +86,6 @@ pub fn region_bytes(alloc: Global, program: &Program, base: u64) -> Result<Row<u
     let globals = program.globals.as_slice();
     let addresses = address_table(alloc, globals, base)?;
     let mut bytes = laid_bytes(alloc, &addresses, globals, true, 0)?;
-    set_align(alloc, &mut bytes, 0, 0, LINE_SIZE)?;
+    set_align(&mut bytes, 0, 0, LINE_SIZE)?;
     Ok(bytes)
 }

@@ -1,5 +1,6 @@
 -- Writes part by part.
 use Rattle.std.proofs.Common.{◌≡◌, ◌⊎◌, inl, inr, ℕ, zero, suc, ◌+◌, ◌-◌, ◌<◌, ◌≤◌, true, false, cond, List, [], ◌∷◌, ◌++◌, length, take, drop, slice_index, slice_range, refl, sym, ap, ◌∙◌, arith, length-append}
+use Rattle.std.proofs.lemmas.List.{get_or_past}
 use Rattle.hip_mem.specs.Memory.{write_covers, byte_written}
 use Rattle.hip_mem.specs.Laws.AreasLaws.{covered_or_not, not_written, index-append_left, index-append_right}
 use Rattle.hip_mem.specs.declared.pages.Pages.{Pages}
@@ -73,3 +74,22 @@ fill-all start i xs old m h k f a = f a ∙ ap (λ (ys : List ℕ). byte_written
     take-all zero (y ∷ ys) h = absurd (omega arith)
     take-all (suc n) [] h = refl
     take-all (suc n) (y ∷ ys) h = ap (λ zs. y ∷ zs) (take-all n ys (omega arith))
+
+-- a list and zeros after it are written where there are zeros
+pub fill-image : (start : ℕ) (stored image : List ℕ) (old m : Pages) → length stored ≤ length image → ((i : ℕ) → slice_index stored i ≡ slice_index image i)
+    → ((a : ℕ) → start ≤ a → a < start + length image → page_byte old a ≡ 0)
+    → ((a : ℕ) → page_byte m a ≡ byte_written (record { addr = start; bytes = stored }) a (page_byte old a))
+    → (a : ℕ) → page_byte m a ≡ byte_written (record { addr = start; bytes = image }) a (page_byte old a)
+fill-image start stored image old m few same z f a = f a ∙ go (split a start) (split a (start + length stored)) (split a (start + length image))
+  where
+    split : (m n : ℕ) → (m < n) ⊎ (n ≤ m)
+    split m n = grind arith
+
+    go : (a < start) ⊎ (start ≤ a) → (a < start + length stored) ⊎ (start + length stored ≤ a) → (a < start + length image) ⊎ (start + length image ≤ a)
+        → byte_written (record { addr = start; bytes = stored }) a (page_byte old a) ≡ byte_written (record { addr = start; bytes = image }) a (page_byte old a)
+    go (inl l) y w = not_written (record { addr = start; bytes = stored }) a (page_byte old a) (inl l) ∙ sym (not_written (record { addr = start; bytes = image }) a (page_byte old a) (inl l))
+    go (inr l) (inl m) w = written start stored a (page_byte old a) l m ∙ same (a - start) ∙ sym (written start image a (page_byte old a) l (omega (arith, m, few)))
+    go (inr l) (inr m) (inl n) =
+        not_written (record { addr = start; bytes = stored }) a (page_byte old a) (inr m) ∙ z a l n
+        ∙ sym (written start image a (page_byte old a) l n ∙ sym (same (a - start)) ∙ get_or_past stored (a - start) 0 (omega (arith, m)))
+    go (inr l) (inr m) (inr n) = not_written (record { addr = start; bytes = stored }) a (page_byte old a) (inr m) ∙ sym (not_written (record { addr = start; bytes = image }) a (page_byte old a) (inr n))

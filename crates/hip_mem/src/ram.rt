@@ -2,9 +2,11 @@ ghost use Rattle.std.specs.Prelude.{◌≡◌, ◌==◌, ℕ, ◌+◌, ◌-◌, 
 ghost use Rattle.hip_mem.specs.Memory.{byte_written};
 ghost use Rattle.hip_types.specs.Bytes.{little_endian};
 ghost use Rattle.hip_mem.specs.Pages.{page_byte, page_bytes};
+ghost use Rattle.hip_mem.specs.declared.TheConstants.{PAGE_SIZE};
 
 use crate::pages::Pages;
 use crate::refusal::{MemTrap, PushRefusal, StoreRefusal};
+use hip_image::Image;
 use hip_types::{
     LARGEST_REGION, LARGEST_VOLATILE, NoMemory, STACK_END, STACK_START, VOLATILE_START,
 };
@@ -40,7 +42,7 @@ impl Ram {
     ghost use Rattle.hip_mem.specs.Areas.{IsLaidOut, mark_of, is_valid, are_valid, access_trap, loaded, after_write, block_address, pushed_mark, after_push, after_pop};
 
     /// The initial bytes of the volatile globals and of the region, and an empty stack.
-    pub fn new(alloc: Global, base: u64, volatile: &[u8], region: &[u8]) -> Result<Ram, NoMemory>
+    pub fn new(alloc: Global, base: u64, volatile: &Image, region: &Image) -> Result<Ram, NoMemory>
         requires low { 2 ^ 32 ≤ base }
         requires high { base ≤ 2 ^ 46 }
         requires aligned { base % 4096 ≡ 0 }
@@ -54,8 +56,8 @@ impl Ram {
         }) }
     {
         let mut pages = Pages::new(alloc, base)?;
-        pages.fill(VOLATILE_START, volatile)?;
-        pages.fill(base, region)?;
+        put_image(&mut pages, VOLATILE_START, volatile)?;
+        put_image(&mut pages, base, region)?;
         Ok(Ram {
             base,
             volatile: volatile.len() as u64,
@@ -229,6 +231,17 @@ fn lies_in(start: u64, len: u64, addr: u64, size: u64) -> bool
     ensures { IsTrue result ↔ ((start ≤ addr) × (addr + size ≤ start + len)) }
 {
     addr >= start && addr - start <= len && size <= len - (addr - start)
+}
+
+// Writes the bytes of an image where there are zeros, in time of those that it stores.
+fn put_image(pages: &mut Pages, start: u64, image: &Image) -> Result<(), NoMemory>
+    requires aligned { start % PAGE_SIZE ≡ 0 }
+    requires fits { start + length image.now + 8192 < 2 ^ 64 }
+    requires zeros { (a : ℕ) → start ≤ a → a < start + length image.now → page_byte pages.old a ≡ 0 }
+    ensures { OnOk result ((a : ℕ) → page_byte pages.new a
+        ≡ byte_written (record { addr = start; bytes = image.now }) a (page_byte pages.old a)) }
+{
+    pages.fill(start, image.stored())
 }
 
 #[inline(always)]

@@ -1,3 +1,4 @@
+use hip_image::Image;
 use hip_types::Row;
 
 /// What a run is given: where the persistent region lies and what it holds, the numbers that are read, and a limit.
@@ -6,7 +7,7 @@ pub struct Input {
     /// The address of the region's first byte: a multiple of 4,096 from 2^32 to 2^46.
     pub base: u64,
     /// The initial bytes of the region, as many as the program's region has.
-    pub image: Row<u8>,
+    pub image: Image,
     /// The numbers that `read_i64` gives, in order; at most 1,048,576.
     pub numbers: Row<i64>,
     /// How many turns the run has; at most 2^40.

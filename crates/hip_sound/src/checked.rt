@@ -10,8 +10,9 @@ ghost use Rattle.hip_sound.specs.Numbering.{function_names, function_number};
 ghost use Rattle.hip_sound.specs.Sound.{RegistersAssigned, HasMain, IsSound};
 
 use hip_globals::{address, region_bytes, region_size, volatile_bytes};
+use hip_image::Image;
 use hip_tree::{Function, Program};
-use hip_types::{NoMemory, Row};
+use hip_types::NoMemory;
 use std::alloc::Global;
 use std::marker::Model;
 
@@ -77,7 +78,7 @@ impl Checked {
 
     /// The bytes that the region has before a run, from a base on: those of the initialisers, each where its global
     /// lies, with zeros between them.
-    pub fn region_bytes(&self, alloc: Global, base: u64) -> Result<Row<u8>, NoMemory>
+    pub fn region_bytes(&self, alloc: Global, base: u64) -> Result<Image, NoMemory>
         requires { IsBase base }
         ensures bytes { IfOk result (λ bytes. bytes ≡ initial.region_bytes self.now base) }
         ensures length { IfOk result (λ bytes. length bytes ≡ spec.region_size self.now) }
@@ -87,7 +88,7 @@ impl Checked {
     }
 
     /// The bytes that the volatile globals have before a run, where the region begins at a base.
-    pub fn volatile_bytes(&self, alloc: Global, base: u64) -> Result<Row<u8>, NoMemory>
+    pub fn volatile_bytes(&self, alloc: Global, base: u64) -> Result<Image, NoMemory>
         requires { IsBase base }
         ensures bytes { IfOk result (λ bytes. bytes ≡ initial.volatile_bytes self.now base) }
         ensures length { IfOk result (λ bytes. volatile_start + length bytes ≡ spec.volatile_end self.now) }

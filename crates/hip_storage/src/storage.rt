@@ -49,9 +49,8 @@ impl Storage {
     {
         let _program = checked.program();
         let volatile = checked.volatile_bytes(alloc, input.base)?;
-        let region = input.image.as_slice();
-        let ram = Ram::new(alloc, input.base, volatile.as_slice(), region)?;
-        let size = region.len() as u64;
+        let ram = Ram::new(alloc, input.base, &volatile, &input.image)?;
+        let size = input.image.len() as u64;
         Ok(Storage {
             base: input.base,
             size,

@@ -10,4 +10,4 @@ returns-then-size-len c =
 pub returns : goal.returns
 returns c =
     let long : length c.args.bytes.now - c.args.start ≤ c.args.size = omega arith in
-    rw (← fill_behind c.args.bytes.now c.args.start c.args.size c.requires long, ← c.len.ensures) c.push_zeros.ensures
+    rw (← fill_behind c.args.bytes.now c.args.start c.args.size c.requires long, ← c.len.ensures) c.push_zeros.ensures.ok

@@ -1,6 +1,6 @@
 //! What stores, flushes and fences do to the kept lines.
 
-ghost use Rattle.std.specs.Prelude.{◌≡◌, ℕ, ◌+◌, ◌*◌, ◌/◌, ◌%◌, ◌^◌, ◌<◌, ◌≤◌, ◌==◌, ◌&&◌, [], cond, nat_le, nat_lt, nat_eq, true, drop, length, take, option_map, IsSome, OnErr, OnOk};
+ghost use Rattle.std.specs.Prelude.{◌≡◌, ℕ, ◌+◌, ◌*◌, ◌/◌, ◌%◌, ◌^◌, ◌<◌, ◌≤◌, ◌==◌, ◌&&◌, [], cond, nat_le, nat_lt, nat_eq, true, length, option_map, IsSome, OnErr, OnOk};
 ghost use Rattle.std.specs.List.{list_any};
 ghost use Rattle.hip_lines.specs.Line.{has_bytes};
 ghost use Rattle.hip_types.specs.declared.areas.TheConstants.{LINE_SIZE};
@@ -10,6 +10,7 @@ ghost use Rattle.hip_crash.specs.Now.{now_at};
 
 use crate::kept_lines::KeptLines;
 use crate::values::StoredValue;
+use hip_image::Image;
 use hip_types::{LINE_SIZE, NoMemory};
 
 /// One more than the last line that has a byte of a range; 0 where the range has no bytes.
@@ -25,21 +26,10 @@ pub fn end_line(offset: u64, len: u64) -> u64
     (offset + len - 1) / LINE_SIZE + 1
 }
 
-/// The initial bytes of a line.
-pub fn line_bytes(image: &[u8], line: u64) -> [u8; LINE_SIZE as usize]
-    requires { LINE_SIZE * line + LINE_SIZE ≤ length image.now }
-    ensures { result ≡ take LINE_SIZE (drop (LINE_SIZE * line) image.now) }
-{
-    let start = line as usize * LINE_SIZE as usize;
-    let mut bytes = [0; 64];
-    bytes.copy_from_slice(&image[start..start + LINE_SIZE as usize]);
-    bytes
-}
-
 /// Takes up the part of a store in one line. Keeps the line's initial bytes if nothing was stored into it so far.
 pub fn push_in(
     lines: &mut KeptLines,
-    image: &[u8],
+    image: &Image,
     line: u64,
     stored: StoredValue,
 ) -> Result<(), NoMemory>
@@ -56,7 +46,7 @@ pub fn push_in(
 }
 
 // Keeps the initial bytes of a line if nothing was stored into it so far.
-fn ensure_line(lines: &mut KeptLines, image: &[u8], line: u64) -> Result<(), NoMemory>
+fn ensure_line(lines: &mut KeptLines, image: &Image, line: u64) -> Result<(), NoMemory>
     requires low { line < 2 ^ 32 }
     requires within { LINE_SIZE * line + LINE_SIZE ≤ length image.now }
     ensures same { (j : ℕ) → now_at lines.new image.now j ≡ now_at lines.old image.now j }
@@ -64,7 +54,7 @@ fn ensure_line(lines: &mut KeptLines, image: &[u8], line: u64) -> Result<(), NoM
 {
     match lines.get(line) {
         Some(_) => Ok(()),
-        None => lines.add(line, line_bytes(image, line)),
+        None => lines.add(line, image.line(line)),
     }
 }
 

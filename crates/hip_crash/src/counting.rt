@@ -5,6 +5,7 @@ ghost use Rattle.hip_types.specs.declared.areas.TheConstants.{LINE_SIZE};
 ghost use Rattle.hip_runs.specs.Outputs.{ending_by};
 ghost use Rattle.hip_runs.specs.Step.{has_entry, header_entries, image_lines, some_byte};
 
+use hip_image::Image;
 use hip_runs::{Event, Input};
 use hip_types::LINE_SIZE;
 
@@ -12,18 +13,17 @@ use hip_types::LINE_SIZE;
 pub fn count_header(input: &Input) -> u128
     ensures { result ≡ header_entries input.now }
 {
-    let lines = count_lines(input.image.as_slice());
+    let lines = count_lines(&input.image);
     2 + input.numbers.len() as u128 + lines as u128
 }
 
 // The number of lines with an initial byte other than 0.
-fn count_lines(image: &[u8]) -> u64
+fn count_lines(image: &Image) -> u64
     ensures { result ≡ image_lines (length image.now / LINE_SIZE) image.now }
 {
     let mut count = 0;
-    'lines: for line in 0..image.len() / LINE_SIZE as usize {
-        let start = line * LINE_SIZE as usize;
-        if has_byte(&image[start..start + LINE_SIZE as usize]) {
+    'lines: for line in 0..image.len() as u64 / LINE_SIZE {
+        if has_byte(&image.line(line)) {
             count += 1;
         }
     }

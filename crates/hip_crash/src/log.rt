@@ -10,11 +10,11 @@ ghost use Rattle.hip_types.specs.declared.areas.TheConstants.{LINE_SIZE};
 ghost use Rattle.hip_runs.specs.Crash.{IsCrashImage, crash_image};
 ghost use Rattle.hip_runs.specs.Seen.{after_step, state_of};
 
-use crate::changes::line_bytes;
 use crate::counting::{count_header, is_counted, is_end};
 use crate::noting::note;
 use crate::region_log::RegionLog;
 use hip_cache::Machine;
+use hip_image::Image;
 use hip_picks::{Bounds, Pick, PickRefusal};
 use hip_runs::{Event, Input, longest};
 use hip_sound::Checked;
@@ -89,7 +89,7 @@ impl<'a> CrashLog<'a> {
         if self.ended {
             return machine.step();
         }
-        self.region.take_up(self.input.image.as_slice())?;
+        self.region.take_up(&self.input.image)?;
         let event = machine.step()?;
         note(&mut self.region, self.input.base, event);
         self.taken += 1;
@@ -118,8 +118,8 @@ impl<'a> CrashLog<'a> {
     }
 
     /// The image that picks give, in which a line that is not named keeps only its durable stores; or how the first
-    /// failing pick fails. It takes memory of the region's size.
-    pub fn pick_image(&self, alloc: Global, picks: &[Pick]) -> Result<Row<u8>, PickRefusal>
+    /// failing pick fails. It takes memory for the bytes up to the last one that is not 0.
+    pub fn pick_image(&self, alloc: Global, picks: &[Pick]) -> Result<Image, PickRefusal>
         ensures image { IfOk result (λ image. image
             ≡ crash_image self.now.input (state_of self.now) (picked (state_of self.now) picks.now)) }
         ensures is { IfOk result (λ image. IsCrashImage self.now.input (state_of self.now) image) }
@@ -130,7 +130,7 @@ impl<'a> CrashLog<'a> {
         // Lemma: the program is sound.
         let _ = &self.checked;
         let numbers = self.numbers_of(alloc, picks)?;
-        let mut image = Row::new(alloc);
+        let mut image = Image::new(alloc);
         'lines: for line in 0..self.count() {
             let number = number_in(numbers.as_slice(), line as usize);
             let bytes = self.bytes_at(line, number);
@@ -144,7 +144,7 @@ impl<'a> CrashLog<'a> {
 
     /// The picks of each line, ascending, that give an image, in one pass over it. None exactly when it is not a crash
     /// image.
-    pub fn find_picks(&self, alloc: Global, image: &[u8]) -> Result<Option<Row<Pick>>, NoMemory>
+    pub fn find_picks(&self, alloc: Global, image: &Image) -> Result<Option<Row<Pick>>, NoMemory>
         requires { length image.now ≡ length self.now.input.image }
         ensures { IfOk result (λ found. MatchOption found
             (¬ IsCrashImage self.now.input (state_of self.now) image.now)
@@ -167,7 +167,7 @@ impl<'a> CrashLog<'a> {
         requires { line < length (state_of self.now).lines }
         ensures { result ≡ bounds_of (state_of self.now) line }
     {
-        let view = self.region.view(self.input.image.as_slice(), line);
+        let view = self.region.view(&self.input.image, line);
         Bounds {
             least: view.least,
             most: view.most(),
@@ -223,18 +223,18 @@ impl<'a> CrashLog<'a> {
         ensures { (pick : ℕ → ℕ) → pick line ≡ number_or (bounds_of (state_of self.now) line).least number →
             result ≡ take LINE_SIZE (drop (LINE_SIZE * line) (crash_image self.now.input (state_of self.now) pick)) }
     {
-        let view = self.region.view(self.input.image.as_slice(), line);
+        let view = self.region.view(&self.input.image, line);
         view.bytes_after(line * LINE_SIZE, behind(view.least, number))
     }
 
     // The number of first parts that an image has of a line, if it is a crash image there.
-    fn number_of(&self, line: u64, image: &[u8]) -> Option<u64>
+    fn number_of(&self, line: u64, image: &Image) -> Option<u64>
         requires line { line < length (state_of self.now).lines }
         requires whole { length image.now ≡ length self.now.input.image }
         ensures { IsNumberOf self.now.input (state_of self.now) image.now line result }
     {
-        let view = self.region.view(self.input.image.as_slice(), line);
-        match view.find(line * LINE_SIZE, &line_bytes(image, line)) {
+        let view = self.region.view(&self.input.image, line);
+        match view.find(line * LINE_SIZE, &image.line(line)) {
             Some(count) => Some(view.least + count as u64),
             None => None,
         }

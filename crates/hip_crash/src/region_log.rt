@@ -10,11 +10,12 @@ ghost use Rattle.hip_crash.specs.Views.{later_in};
 ghost use Rattle.hip_crash.specs.Waiting.{WaitsWithin, waiting_in};
 ghost use Rattle.hip_crash.specs.declared.waiting.Waiting.TheVariants as waits;
 
-use crate::changes::{end_line, fence_in, flush_in, line_bytes, persist_in, push_in};
+use crate::changes::{end_line, fence_in, flush_in, persist_in, push_in};
 use crate::kept_lines::KeptLines;
 use crate::values::StoredValue;
 use crate::views::LineView;
 use crate::waiting::Waiting;
+use hip_image::Image;
 use hip_types::{LINE_SIZE, NoMemory};
 use std::alloc::Global;
 
@@ -48,7 +49,7 @@ impl RegionLog {
 
     /// Takes up what waits. What is seen of the lines stays, also out of memory.
     #[inline(always)]
-    pub fn take_up(&mut self, image: &[u8]) -> Result<(), NoMemory>
+    pub fn take_up(&mut self, image: &Image) -> Result<(), NoMemory>
         requires room { HasRoom self.old image.now }
         requires within { WaitsWithin self.old.waiting image.now }
         ensures same { (j : ℕ) → seen_at self.new image.now j ≡ seen_at self.old image.now j }
@@ -62,7 +63,7 @@ impl RegionLog {
     }
 
     #[inline(never)]
-    fn take_up_last(&mut self, image: &[u8]) -> Result<(), NoMemory>
+    fn take_up_last(&mut self, image: &Image) -> Result<(), NoMemory>
         requires room { HasRoom self.old image.now }
         requires within { WaitsWithin self.old.waiting image.now }
         ensures same { (j : ℕ) → seen_at self.new image.now j ≡ seen_at self.old image.now j }
@@ -78,7 +79,7 @@ impl RegionLog {
 
     fn take_up_store(
         &mut self,
-        image: &[u8],
+        image: &Image,
         stored: StoredValue,
         from: u64,
     ) -> Result<(), NoMemory>
@@ -163,7 +164,7 @@ impl RegionLog {
     }
 
     /// What is seen of a line.
-    pub fn view(&self, image: &[u8], line: u64) -> LineView<'_>
+    pub fn view(&self, image: &Image, line: u64) -> LineView<'_>
         requires { LINE_SIZE * line + LINE_SIZE ≤ length image.now }
         ensures bytes { result.bytes ≡ (seen_at self.now image.now line).bytes }
         ensures least { result.least ≡ (seen_at self.now image.now line).least }
@@ -178,7 +179,7 @@ impl RegionLog {
                 last,
             },
             None => LineView {
-                bytes: line_bytes(image, line),
+                bytes: image.line(line),
                 least: 0,
                 later: &[],
                 last,

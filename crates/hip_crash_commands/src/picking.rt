@@ -7,11 +7,11 @@ use crate::advancing::advance_to;
 use crate::refusal::{ImageRefusal, failure_of_picks};
 use hip_cache::Machine;
 use hip_crash::{CrashLog, Pick};
+use hip_image::Image;
 use hip_program_files::Failure;
 use hip_runs::Input;
 use hip_sound::Checked;
 use hip_step::Begin;
-use hip_types::Row;
 use std::alloc::Global;
 
 /// The image that picks give at an entry of a run's trace, which has `entries` entries.
@@ -22,7 +22,7 @@ pub(crate) fn image_at(
     entries: u128,
     entry: u64,
     picks: &[Pick],
-) -> Result<Row<u8>, Failure<ImageRefusal>>
+) -> Result<Image, Failure<ImageRefusal>>
     requires valid { IsValid checked.now input.now }
     requires counted { HasEntries checked.now input.now entries }
     ensures { PicksImage checked.now input.now entry picks.now result }
@@ -48,7 +48,7 @@ fn image_later<'a>(
     machine: &mut Machine<'a>,
     entry: u64,
     picks: &[Pick],
-) -> Result<Row<u8>, Failure<ImageRefusal>>
+) -> Result<Image, Failure<ImageRefusal>>
     requires same { log.old ≡ machine.old }
     requires fresh { log.old.taken ≡ 0 }
     requires has { HasEntry log.old.program log.old.input entry }
@@ -66,7 +66,7 @@ fn image_now(
     log: &CrashLog<'_>,
     entry: u64,
     picks: &[Pick],
-) -> Result<Row<u8>, Failure<ImageRefusal>>
+) -> Result<Image, Failure<ImageRefusal>>
     requires { StandsAt log.now.program log.now.input entry (state_of log.now) }
     ensures { PicksImage log.now.program log.now.input entry picks.now result }
 {

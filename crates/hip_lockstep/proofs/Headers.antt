@@ -116,10 +116,7 @@ next_lines base image line lt =
     ∙ ap (λ es. es ++ image_entries (length image / 64 - (line + 1)) (base + 64 * (line + 1)) (drop (64 * (line + 1)) image))
     (ap (λ bs. entry_here (base + 64 * line) bs) (sym first) ∙ sym (append-nil (entry_here (base + 64 * line) (take 64 (take 64 (drop (64 * line) image))))))
 
--- the cut of one cache line
-pub cut_of_line : (line : ℕ) (image : List ℕ) → take (64 * line + 64 - 64 * line) (drop (64 * line) image) ≡ take 64 (drop (64 * line) image)
-cut_of_line line image = let e : 64 * line + 64 - 64 * line ≡ 64 = omega arith in ap (λ n. take n (drop (64 * line) image)) e
-
+-- one more cache line, whose bytes are a list
 module _ {base line count : ℕ} {image : List ℕ} {old mid : SinkState} (is : IsWriting base image line count old mid) (lt : line < length image / 64) (cut : List ℕ) (same : cut ≡ take 64 (drop (64 * line) image)) where
   grown : image_entries (length image / 64) base image ≡ (is.front ++ image_entries 1 (base + 64 * line) cut) ++ image_entries (length image / 64 - (line + 1)) (base + 64 * (line + 1)) (drop (64 * (line + 1)) image)
   grown =

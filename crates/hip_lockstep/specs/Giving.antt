@@ -9,11 +9,11 @@ use Rattle.hip_lockstep.specs.declared.given.Given.{Given}
 
 -- no INPUT or IMAGE entry has given anything
 abbrev pub IsEmpty : Given → Type 0
-IsEmpty g = (g.numbers ≡ []) × (g.image.items ≡ [])
+IsEmpty g = (g.numbers ≡ []) × (g.image ≡ [])
 
 -- the input that a header has given so far; its initial bytes go up to the end of the last IMAGE's cache line
 abbrev pub input_of : Given → Input
-input_of g = record { base = g.base; image = g.image.items; numbers = g.numbers; limit = g.limit }
+input_of g = record { base = g.base; image = g.image; numbers = g.numbers; limit = g.limit }
 
 -- whether there is a next input, and whether it was taken; after out of memory nothing is said
 abbrev pub Takes : Option Input → Input → Input → Result Bool NoMemory → Type 0

@@ -6,6 +6,7 @@ ghost use Rattle.hip_types.specs.Bytes.{zeros};
 ghost use Rattle.hip_lockstep.specs.Giving.{TakesEntry, TakesLine, TakesNumber, input_of};
 
 use crate::header::some_byte;
+use hip_image::Image;
 use hip_runs::{Input, MOST_NUMBERS};
 use hip_sound::Checked;
 use hip_trace::Entry;
@@ -17,7 +18,7 @@ pub(crate) struct Given {
     pub base: u64,
     pub limit: u64,
     pub numbers: Row<i64>,
-    pub image: Vec<u8>,
+    pub image: Image,
 }
 
 impl Given {
@@ -71,9 +72,9 @@ impl Given {
 
     // The input, in which the bytes after the last line are 0.
     pub(crate) fn fill(self, size: u64) -> Result<Input, NoMemory>
-        requires { length self.image.items ≤ size }
+        requires { length self.image ≤ size }
         ensures { IfOk result (λ i. i ≡ record (input_of self) {
-          image = self.image.items ++ zeros (size - length self.image.items);
+          image = self.image ++ zeros (size - length self.image);
         }) }
     {
         let Given {
@@ -85,7 +86,7 @@ impl Given {
         lengthen(&mut image, size as usize)?;
         Ok(Input {
             base,
-            image: Row::from_vec(image),
+            image,
             numbers,
             limit,
         })
@@ -100,21 +101,19 @@ fn has_line(held: u64, size: u64, offset: u64) -> bool
 }
 
 // Puts bytes of 0 at the end, up to a length.
-fn lengthen(image: &mut Vec<u8>, len: usize) -> Result<(), NoMemory>
-    requires { length image.old.items ≤ len }
-    ensures { OnOk result (image.new.items ≡ image.old.items ++ zeros (len - length image.old.items)) }
+fn lengthen(image: &mut Image, len: usize) -> Result<(), NoMemory>
+    requires { length image.old ≤ len }
+    ensures { OnOk result (image.new ≡ image.old ++ zeros (len - length image.old)) }
 {
-    image.resize(len, 0)?;
-    Ok(())
+    image.push_zeros(len - image.len())
 }
 
 // Puts a cache line at an offset after the bytes, with bytes of 0 between.
-fn put_line(image: &mut Vec<u8>, offset: usize, line: &[u8]) -> Result<(), NoMemory>
-    requires { length image.old.items ≤ offset }
+fn put_line(image: &mut Image, offset: usize, line: &[u8]) -> Result<(), NoMemory>
+    requires { length image.old ≤ offset }
     ensures { OnOk result
-        (image.new.items ≡ image.old.items ++ (zeros (offset - length image.old.items) ++ line.now)) }
+        (image.new ≡ image.old ++ (zeros (offset - length image.old) ++ line.now)) }
 {
     lengthen(image, offset)?;
-    image.extend_from_slice(line)?;
-    Ok(())
+    image.extend_from_slice(line)
 }

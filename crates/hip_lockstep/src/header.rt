@@ -8,9 +8,11 @@ ghost use Rattle.hip_runs.specs.Step.{some_byte};
 ghost use Rattle.hip_trace.specs.Texts.{line_of, lines_of};
 ghost use Rattle.hip_trace.specs.declared.entry.Entry.TheVariants as entries;
 
+use hip_image::Image;
 use hip_io::{Sink, WriteFault};
 use hip_runs::Input;
 use hip_trace::{Entry, write_entry};
+use hip_types::LINE_SIZE;
 
 /// Writes START and REGISTER, an INPUT for each number, and an IMAGE for each cache line of the initial region that has
 /// a byte other than 0, and answers how many entries these are.
@@ -27,7 +29,7 @@ pub fn put_header<S: Sink>(input: &Input, out: &mut S) -> Result<u128, WriteFaul
         Ok(()) => {}
         Err(fault) => return Err(fault),
     }
-    match put_image(input.base, input.image.as_slice(), out) {
+    match put_image(input.base, &input.image, out) {
         Ok(lines) => Ok(2 + input.numbers.len() as u128 + u128::from(lines)),
         Err(fault) => Err(fault),
     }
@@ -83,16 +85,15 @@ fn put_number<S: Sink>(number: i64, out: &mut S) -> Result<(), WriteFault>
 }
 
 // Writes an IMAGE for each whole cache line that has a byte other than 0, and answers how many they are.
-fn put_image<S: Sink>(base: u64, image: &[u8], out: &mut S) -> Result<u64, WriteFault>
+fn put_image<S: Sink>(base: u64, image: &Image, out: &mut S) -> Result<u64, WriteFault>
     requires { base + length image.now < 2 ^ 64 }
     ensures wrote { Wrote (S.state out.old) (S.state out.new)
         (lines_of (image_entries (length image.now / 64) base image.now)) result }
     ensures count { IfOk result (λ n. n ≡ length (image_entries (length image.now / 64) base image.now)) }
 {
     let mut count = 0;
-    'lines: for line in 0..image.len() / 64 {
-        let at = 64 * line;
-        match put_line(base + at as u64, &image[at..at + 64], out) {
+    'lines: for line in 0..image.len() as u64 / LINE_SIZE {
+        match put_line(base + LINE_SIZE * line, &image.line(line), out) {
             Ok(more) => count += more,
             Err(fault) => return Err(fault),
         }

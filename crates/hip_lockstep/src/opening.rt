@@ -14,6 +14,7 @@ use crate::next::next_entry;
 use crate::refusal::ReplayRefusal;
 use crate::steps::Lockstep;
 use hip_globals::is_base;
+use hip_image::Image;
 use hip_io::Cabinet;
 use hip_run_traces::MisfitKind;
 use hip_runs::{Input, MOST_TURNS};
@@ -161,7 +162,7 @@ pub fn read_header<C: Cabinet>(
         base,
         limit,
         numbers: Row::new(alloc),
-        image: Vec::new(alloc),
+        image: Image::new(alloc),
     };
     let size = checked.region_size();
     let lockstep = match read_values(checked, &mut given, size, reader, cabinet) {

@@ -5,9 +5,9 @@ ghost use Rattle.std.specs.Prelude.{◌≡◌};
 use crate::machines::{checked, input};
 use hip_crash::{Bounds, CrashLog, Pick, PickRefusal};
 use hip_examples::{AMPLE, OVERWRITTEN};
+use hip_image::Image;
 use hip_sound::Checked;
 use hip_step::{Begin, Input, Machine, why_not};
-use hip_types::Row;
 use std::alloc::Global;
 use std::process::Abort;
 
@@ -254,11 +254,12 @@ fn log_at<'a>(
 }
 
 /// Asserts that an image has these bytes, and zeros elsewhere.
-fn assert_bytes(rt: &impl Abort, image: &[u8], bytes: &[(usize, u8)], name: &str) {
-    let count = image.iter().filter(|byte| **byte != 0).count();
+fn assert_bytes(rt: &impl Abort, image: &Image, bytes: &[(usize, u8)], name: &str) {
+    let stored = image.stored();
+    let count = stored.iter().filter(|byte| **byte != 0).count();
     assert!(rt; count == bytes.len(), "{name}");
     for (place, byte) in bytes {
-        assert!(rt; image.get(*place) == Some(byte), "{name}");
+        assert!(rt; stored.get(*place) == Some(byte), "{name}");
     }
 }
 
@@ -268,7 +269,7 @@ fn assert_found(
     alloc: Global,
     log: &CrashLog,
     input: &Input,
-    image: &[u8],
+    image: &Image,
     name: &str,
 )
     requires { log.now.input ≡ input.now }
@@ -278,7 +279,7 @@ fn assert_found(
     let picks = found.expect(rt, "the image is found");
     assert!(rt; picks.len() == image.len() / 64, "{name}");
     match log.pick_image(alloc, picks.as_slice()) {
-        Ok(again) => assert!(rt; again.as_slice() == image, "{name}"),
+        Ok(again) => assert!(rt; again.stored() == image.stored(), "{name}"),
         Err(_) => assert!(rt; false, "{name}"),
     }
 }
@@ -288,8 +289,8 @@ fn assert_answer(rt: &impl Abort, alloc: Global, log: &CrashLog, input: &Input, 
 {
     match (log.pick_image(alloc, picked.picks), picked.answer) {
         (Ok(image), Ok(bytes)) => {
-            assert_bytes(rt, image.as_slice(), bytes, picked.name);
-            assert_found(rt, alloc, log, input, image.as_slice(), picked.name);
+            assert_bytes(rt, &image, bytes, picked.name);
+            assert_found(rt, alloc, log, input, &image, picked.name);
         }
         (Err(refusal), Err(wanted)) => assert!(rt; refusal == wanted, "{}", picked.name),
         _ => assert!(rt; false, "{}", picked.name),
@@ -340,8 +341,8 @@ fn lines_have_bounds(rt: HostRuntime) {
 }
 
 /// An image of the region that begins with a 7 and has zeros elsewhere.
-fn seven_in_front(rt: &impl Abort, alloc: Global, len: usize) -> Row<u8> {
-    let mut image = Row::new(alloc);
+fn seven_in_front(rt: &impl Abort, alloc: Global, len: usize) -> Image {
+    let mut image = Image::new(alloc);
     image.push(7).expect(rt, AMPLE);
     for _place in 1..len {
         image.push(0).expect(rt, AMPLE);
@@ -349,7 +350,7 @@ fn seven_in_front(rt: &impl Abort, alloc: Global, len: usize) -> Row<u8> {
     image
 }
 
-fn assert_not_found(rt: &impl Abort, alloc: Global, log: &CrashLog, input: &Input, image: &[u8])
+fn assert_not_found(rt: &impl Abort, alloc: Global, log: &CrashLog, input: &Input, image: &Image)
     requires { log.now.input ≡ input.now }
 {
     assert!(rt; image.len() == input.image.len());
@@ -363,5 +364,5 @@ fn what_no_crash_leaves_is_not_found(rt: HostRuntime) {
     let input = input(&rt, rt.alloc(), &checked, &[], 100);
     let log = log_at(&rt, rt.alloc(), &checked, &input, 4);
     let image = seven_in_front(&rt, rt.alloc(), input.image.len());
-    assert_not_found(&rt, rt.alloc(), &log, &input, image.as_slice());
+    assert_not_found(&rt, rt.alloc(), &log, &input, &image);
 }

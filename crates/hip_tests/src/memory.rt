@@ -1,8 +1,9 @@
 //! Memory: loads, stores, and blocks of the stack.
 
-ghost use Rattle.std.specs.Prelude.{◌≤◌};
+ghost use Rattle.std.specs.Prelude.{◌≡◌, ◌≤◌, length};
 
 use hip_examples::AMPLE;
+use hip_image::Image;
 use hip_mem::{MemTrap, PushRefusal, Ram, StoreRefusal};
 use std::alloc::Global;
 use std::process::Abort;
@@ -94,6 +95,21 @@ fn assert_calls(rt: &impl Abort, ram: &mut Ram, calls: &[Call]) {
     }
 }
 
+/// The image of bytes.
+fn image(rt: &impl Abort, alloc: Global, bytes: &[u8]) -> Image
+    ensures { length result ≡ length bytes.now }
+{
+    let mut image = Image::new(alloc);
+    image.extend_from_slice(bytes).expect(rt, AMPLE);
+    image
+}
+
+/// A memory with no volatile bytes and no region.
+fn empty_ram(rt: &impl Abort, alloc: Global) -> Ram {
+    let none = image(rt, alloc, &[]);
+    Ram::new(alloc, BASE, &none, &none).expect(rt, AMPLE)
+}
+
 /// Three volatile bytes, no region, and a block that fills the stack.
 const FRESH: &[Call] = &[
     Call::Load {
@@ -143,7 +159,9 @@ const FRESH: &[Call] = &[
 
 #[test]
 fn fresh_memory(rt: HostRuntime) {
-    let mut ram = Ram::new(rt.alloc(), BASE, &[1, 2, 3], &[]).expect(&rt, AMPLE);
+    let volatile = image(&rt, rt.alloc(), &[1, 2, 3]);
+    let region = image(&rt, rt.alloc(), &[]);
+    let mut ram = Ram::new(rt.alloc(), BASE, &volatile, &region).expect(&rt, AMPLE);
     assert_calls(&rt, &mut ram, FRESH);
 }
 
@@ -246,8 +264,10 @@ const TWO_PAGES: &[Call] = &[
 
 #[test]
 fn stores_are_read(rt: HostRuntime) {
-    let region = vec![in rt.alloc(); 0xabu8; 8192].expect(&rt, AMPLE);
-    let mut ram = Ram::new(rt.alloc(), BASE, &[], region.as_slice()).expect(&rt, AMPLE);
+    let bytes = vec![in rt.alloc(); 0xabu8; 8192].expect(&rt, AMPLE);
+    let volatile = image(&rt, rt.alloc(), &[]);
+    let region = image(&rt, rt.alloc(), bytes.as_slice());
+    let mut ram = Ram::new(rt.alloc(), BASE, &volatile, &region).expect(&rt, AMPLE);
     assert_calls(&rt, &mut ram, TWO_PAGES);
 }
 
@@ -318,7 +338,7 @@ const TWO_FRAMES: &[Call] = &[
 
 #[test]
 fn block_is_zeros_again(rt: HostRuntime) {
-    let mut ram = Ram::new(rt.alloc(), BASE, &[], &[]).expect(&rt, AMPLE);
+    let mut ram = empty_ram(&rt, rt.alloc());
     assert_calls(&rt, &mut ram, TWO_FRAMES);
 }
 
@@ -356,7 +376,7 @@ const LEFT: &[Call] = &[
 
 /// A memory whose stack is full.
 fn full_ram(rt: &impl Abort, alloc: Global) -> Ram {
-    let mut ram = Ram::new(alloc, BASE, &[], &[]).expect(rt, AMPLE);
+    let mut ram = empty_ram(rt, alloc);
     assert_calls(rt, &mut ram, FULL_STACK);
     ram
 }

@@ -112,7 +112,9 @@ const VOLATILE_BYTES: [u8; 16] = [1, 0, 1, 2, 0, 0, 0, 0, 0, 0, 1, 0, 0, 0, 0, 0
 
 fn assert_volatile(rt: &impl Abort, alloc: Global, checked: &Checked) {
     let volatile = checked.volatile_bytes(alloc, BASE).expect(rt, AMPLE);
-    assert!(rt; volatile.as_slice() == VOLATILE_BYTES.as_slice());
+    let bytes = volatile.stored();
+    assert!(rt; volatile.len() == 16 && VOLATILE_BYTES.as_slice().starts_with(bytes));
+    assert!(rt; bytes.iter().filter(|byte| **byte != 0).count() == 4);
 }
 
 #[test]
@@ -127,8 +129,8 @@ const REGION_BYTES: [u8; 16] = [255, 255, 2, 0, 0, 0, 0, 0, 12, 0, 0, 0, 1, 0, 0
 
 fn assert_region(rt: &impl Abort, alloc: Global, checked: &Checked) {
     let region = checked.region_bytes(alloc, BASE).expect(rt, AMPLE);
-    let bytes = region.as_slice();
-    assert!(rt; bytes.len() == 64 && bytes.starts_with(REGION_BYTES.as_slice()));
+    let bytes = region.stored();
+    assert!(rt; region.len() == 64 && REGION_BYTES.as_slice().starts_with(bytes));
     assert!(rt; bytes.iter().filter(|byte| **byte != 0).count() == 5);
 }
 

@@ -1,6 +1,5 @@
-use Rattle.std.proofs.Common.{◌+◌, ◌/◌, length, ap, ◌∙◌, subst}
+use Rattle.std.proofs.Common.{◌+◌, ap, ◌∙◌, subst}
 use Rattle.hip_io.specs.Sinks.{AppendsAll, AppendsPrefix}
-use Rattle.hip_run_traces.specs.Traces.{image_entries}
 use Rattle.hip_trace.specs.Texts.{lines_of}
 use Rattle.hip_lockstep.proofs.Headers.{header_count, header_written, images_failed, inputs, inputs_failed, start_failed}
 use Rattle.hip_lockstep.proofs.header.put_header.Goals as goal
@@ -17,15 +16,15 @@ pub returns-in-Ok-put_image-clause-wrote : goal.returns-in-Ok-put_image-clause-w
 returns-in-Ok-put_image-clause-wrote g c =
     header_written c.args.input.now (g.S.Sink.state c.put_start.new.out) (g.S.Sink.state c.put_numbers.new.out) (g.S.Sink.state c.put_image.new.out) c.in-Ok.ensures
     (subst (λ zs. AppendsAll (g.S.Sink.state c.put_start.new.out) (g.S.Sink.state c.put_numbers.new.out) (lines_of (inputs zs))) c.as_slice.ensures c.in-Ok-put_numbers.ensures)
-    (subst (λ bytes. AppendsAll (g.S.Sink.state c.put_numbers.new.out) (g.S.Sink.state c.put_image.new.out) (lines_of (image_entries (length bytes / 64) c.args.input.now.base bytes))) c.as_slice-2.ensures c.in-Ok-put_image.ensures.wrote)
+    c.in-Ok-put_image.ensures.wrote
 
 pub returns-in-Ok-put_image-clause-count : goal.returns-in-Ok-put_image-clause-count
 returns-in-Ok-put_image-clause-count g c =
     ap (λ n. 2 + n + c.from.result) c.len.ensures
-    ∙ header_count c.args.input.now c.from.result (c.from.ensures ∙ c.in-Ok-put_image.ensures.count ∙ ap (λ bytes. length (image_entries (length bytes / 64) c.args.input.now.base bytes)) c.as_slice-2.ensures)
+    ∙ header_count c.args.input.now c.from.result (c.from.ensures ∙ c.in-Ok-put_image.ensures.count)
 
 pub returns-in-Err-put_image-clause-wrote : goal.returns-in-Err-put_image-clause-wrote
 returns-in-Err-put_image-clause-wrote g c =
     images_failed c.args.input.now (g.S.Sink.state c.put_start.new.out) (g.S.Sink.state c.put_numbers.new.out) (g.S.Sink.state c.put_image.new.out) c.in-Ok.ensures
     (subst (λ zs. AppendsAll (g.S.Sink.state c.put_start.new.out) (g.S.Sink.state c.put_numbers.new.out) (lines_of (inputs zs))) c.as_slice.ensures c.in-Ok-put_numbers.ensures)
-    (subst (λ bytes. AppendsPrefix (g.S.Sink.state c.put_numbers.new.out) (g.S.Sink.state c.put_image.new.out) (lines_of (image_entries (length bytes / 64) c.args.input.now.base bytes))) c.as_slice-2.ensures c.in-Err-put_image.ensures.wrote)
+    c.in-Err-put_image.ensures.wrote

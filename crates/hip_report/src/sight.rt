@@ -1,7 +1,7 @@
-ghost use Rattle.std.specs.Prelude.{◌≡◌, ◌+◌, ◌++◌, ◌∷◌, [], None, Some, map, IfOk, OnOk};
+ghost use Rattle.std.specs.Prelude.{◌≡◌, ◌+◌, ◌++◌, ◌∷◌, ℕ, [], None, Some, map, slice_get, IfOk, OnOk};
 ghost use Rattle.hip_engine.specs.Quiet.{next_event};
 ghost use Rattle.hip_runs.specs.Found.Objects.{global_at, object_at};
-ghost use Rattle.hip_runs.specs.Seen.{next_site, state_of};
+ghost use Rattle.hip_runs.specs.Seen.{next_site, pointer_of, state_of};
 ghost use Rattle.hip_notes.specs.MetMarks.{AreMet};
 ghost use Rattle.hip_notes.specs.Sights.{AddAlike, AddUnlessEnded, mark_by, marks_ahead};
 ghost use Rattle.hip_report.specs.Stepping.{Sees, TellsGlobal, global_of};
@@ -137,10 +137,30 @@ fn all_pointed(
         (marks_ahead machine.now.program machine.now.input (state_of machine.now))) }
     ensures last { IfOk result (λ pointed. TellsGlobal machine.now.program machine.now.input pointed.last) }
 {
+    let values = machine.pointers(alloc)?;
+    pointed_among(alloc, notes, machine, site, values.as_slice())
+}
+
+// What they point into, where these are their values.
+fn pointed_among(
+    alloc: Global,
+    notes: &Notes,
+    machine: &Machine<'_>,
+    site: Site,
+    values: &[u64],
+) -> Result<Pointed, NoMemory>
+    requires known { AreMet notes.now.marks.keys notes.now.recent.items }
+    requires site { next_site machine.now.program (state_of machine.now) ≡ Some site }
+    requires values { (operand : ℕ) → slice_get values.now operand
+        ≡ pointer_of machine.now.program machine.now.input (state_of machine.now) operand }
+    ensures marks { IfOk result (λ pointed. AddAlike notes.now.marks.keys pointed.marks
+        (marks_ahead machine.now.program machine.now.input (state_of machine.now))) }
+    ensures last { IfOk result (λ pointed. TellsGlobal machine.now.program machine.now.input pointed.last) }
+{
     let mut pointed = nothing_pointed(alloc);
     let mut operand = 0;
     'operands: loop {
-        match machine.pointer(operand) {
+        match value_at(values, operand) {
             None => return Ok(pointed),
             Some(addr) => {
                 push_operand(notes, machine, site, operand, addr, &mut pointed)?;
@@ -149,6 +169,13 @@ fn all_pointed(
             }
         }
     }
+}
+
+#[inline(always)]
+fn value_at(values: &[u64], operand: usize) -> Option<u64>
+    ensures { result ≡ slice_get values.now operand }
+{
+    values.get(operand).copied()
 }
 
 // The number after this one. There is no memory for an instruction with as many operands.

@@ -1,33 +1,5 @@
-use Rattle.std.proofs.Common.{Option, ◌∙◌, ap, map, subst, sym}
-use Rattle.hip_types.specs.Distinct.{met}
-use Rattle.hip_runs.specs.Found.Marks.{same_mark}
-use Rattle.hip_runs.specs.Seen.{state_of}
-use Rattle.hip_notes.specs.Sights.{AddAlike, marks_to}
-use Rattle.hip_report.specs.Stepping.{TellsGlobal}
-use Rattle.hip_report.specs.declared.sight.Target.{Target}
-use Rattle.hip_report.proofs.Sighted.{all_marked, one_marked}
+use Rattle.std.proofs.Common.{◌∙◌, ℕ, List, ap, slice_get}
 use Rattle.hip_report.proofs.sight.all_pointed.Goals as goal
 
-pub operands-init : goal.operands-init
-operands-init c =
-    let m = c.args.machine.now in
-    record {
-      marks = ap (met same_mark c.args.notes.now.marks.keys) c.nothing_pointed-pointed.ensures.marks;
-      last = subst (λ (o : Option Target). TellsGlobal m.program m.input o) (sym c.nothing_pointed-pointed.ensures.last) tt;
-    }
-
-pub operands-preserved : goal.operands-preserved
-operands-preserved c =
-    let m = c.args.machine.now in
-    let before = c.args.notes.now.marks.keys in
-    record {
-      marks = subst (λ k. AddAlike before c.push_operand.new.pointed.marks (marks_to m.program m.input (state_of m) c.args.site k)) (sym c.in_ok-next-in-Some.ensures)
-          (one_marked m.program m.input (state_of m) c.args.site before c.operands.pointed.marks c.push_operand.new.pointed.marks c.operands.operand c.in-Some.addr (sym c.in-Some.ensures)
-          c.operands.invariant.marks c.in_ok-push_operand-in-Some.ensures.marks);
-      last = c.in_ok-push_operand-in-Some.ensures.last;
-    }
-
-pub returns-in-None-clause-marks : goal.returns-in-None-clause-marks
-returns-in-None-clause-marks c =
-    let m = c.args.machine.now in
-    all_marked m.program m.input (state_of m) c.args.site c.args.notes.now.marks.keys c.operands.pointed.marks c.operands.operand c.requires.site (sym c.in-None.ensures) c.operands.invariant.marks
+pub pointed_among-requires-clause-values : goal.pointed_among-requires-clause-values
+pointed_among-requires-clause-values c operand = ap (λ (values : List ℕ). slice_get values operand) c.as_slice.ensures ∙ c.in_ok-pointers.ensures operand

@@ -2,7 +2,7 @@ use Rattle.std.proofs.Common.{◌-◌, ◌^◌, map}
 use Rattle.hip_runs.specs.Seen.{state_of}
 use Rattle.hip_notes.specs.Sights.{AddAlike, marks_to}
 use Rattle.hip_report.specs.Stepping.{TellsGlobal}
-use Rattle.hip_report.proofs.sight.all_pointed.Given as goal
+use Rattle.hip_report.proofs.sight.pointed_among.Given as goal
 
 abbrev pub invariant-operands : goal.invariant-operands
 invariant-operands l = record {

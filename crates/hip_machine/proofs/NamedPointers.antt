@@ -10,13 +10,11 @@ use Rattle.hip_types.specs.declared.number.Scalar.TheVariants.{Int, Ptr}
 use Rattle.hip_tree.specs.declared.instr.Arg.{Arg}
 use Rattle.hip_tree.specs.declared.instr.Instr.TheVariants.{Store, Call}
 use Rattle.hip_tree.specs.declared.instr.Operand.{Operand}
-use Rattle.hip_tree.specs.declared.program.Function.{Function}
 use Rattle.hip_tree.specs.declared.program.Program.{Program}
-use Rattle.hip_names.specs.Laws.NumberLaws.{number_of-there}
 use Rattle.hip_sound.specs.Given.{CallsFunction, CallsExtern}
-use Rattle.hip_sound.specs.Laws.Decided.{all-at}
-use Rattle.hip_sound.specs.Numbering.{function_names, function_number}
-use Rattle.hip_sound.specs.Sound.{IsSound, IsFree}
+use Rattle.hip_sound.specs.Laws.CalleeLaws.{not_numbered}
+use Rattle.hip_sound.specs.Numbering.{function_number}
+use Rattle.hip_sound.specs.Sound.{IsSound}
 use Rattle.hip_runs.specs.declared.input.Input.{Input}
 use Rattle.hip_runs.specs.Found.Marks.{pointer_arg, pointer_operands}
 use Rattle.hip_runs.specs.Operands.{value_of, values_of}
@@ -66,26 +64,6 @@ module _ {code : Code} {c : Core} where
         let v = value_of P.globals I.base rs addr in
         told v (subst (stores_at (numbers_of code c) v) same names.is) ∙ ap (λ j. option_map (value_of P.globals I.base rs) (slice_get (addr ∷ []) j)) (sym first);
   }
-
--- a function of the program has no name of an external one
-number_free : (P : Program) → IsSound P → (callee : List ℕ) (g : ℕ) → function_number P callee ≡ Some g → call_of callee ≡ None
-number_free P s callee g named = go (slice_get P.functions g) refl
-  where
-    there : option_map (λ (f : Function). f.name) (slice_get P.functions g) ≡ Some callee
-    there = sym (slice_get-map (λ (f : Function). f.name) P.functions g) ∙ number_of-there (function_names P.functions) callee g named
-
-    go : (o : Option Function) → slice_get P.functions g ≡ o → call_of callee ≡ None
-    go None e = absurd (let no : None ≡ Some callee = sym (ap (option_map (λ (f : Function). f.name)) e) ∙ there in let z : ⊥ = cc in z)
-    go (Some f) e =
-        let same : f.name ≡ callee = same_Some _ _ (sym (ap (option_map (λ (h : Function). h.name)) e) ∙ there) in
-        subst (λ n. call_of n ≡ None) same (all-at (λ (h : Function). IsFree h.name) P.functions g f s.externs.functions e)
-
-pub not_numbered : (P : Program) → IsSound P → (callee : List ℕ) (x : ExternCall) → call_of callee ≡ Some x → is_some (function_number P callee) ≡ false
-not_numbered P s callee x known = go (function_number P callee) refl
-  where
-    go : (o : Option ℕ) → function_number P callee ≡ o → is_some o ≡ false
-    go None e = refl
-    go (Some g) e = absurd (let free = number_free P s callee g e in let no : None ≡ Some x = sym free ∙ known in let z : ⊥ = cc in z)
 
 -- as many arguments as parameters
 enough : (P : Program) (n : Numbers) (callee : List ℕ) (ret : Option Scalar) (args : List Arg) (vs : List ℕ) (call : op_call.Call) → IsSound P → call_of callee ≡ None → length vs ≡ length args → CallsFunction P callee ret args ⊎ CallsExtern callee ret args →

@@ -23,7 +23,8 @@ use Rattle.hip_code.specs.Named.{is_memory, passes_or_effects, stores_at}
 use Rattle.hip_machine.specs.declared.core_parts.Core.{Core}
 use Rattle.hip_machine.specs.Acts.{numbers_of}
 use Rattle.hip_machine.specs.Pointing.{TellsPointer, calls_with, pointer_passed, pointers_among}
-use Rattle.hip_machine.proofs.NamedPointers.{called_with, not_numbered}
+use Rattle.hip_machine.proofs.NamedPointers.{called_with}
+use Rattle.hip_sound.specs.Laws.CalleeLaws.{not_numbered}
 
 -- ---- the pointers among the values that are passed
 

@@ -1,5 +1,6 @@
 -- Laws of the definitions.
 pub mod AssignedExact
+pub mod CalleeLaws
 pub mod CheckLaws
 pub mod ConstLaws
 pub mod Decided

@@ -3,56 +3,21 @@
 use Rattle.std.proofs.Common.{◌≡◌, ℕ, zero, suc, ◌+◌, ◌-◌, ◌*◌, ◌/◌, ◌≤◌, ◌<◌, ◌^◌, Bool, true, false, cond, List, [], ◌∷◌, length, drop, Option, Some, None, is_some, refl, sym, ap, ◌∙◌, subst, arith}
 use Rattle.std.proofs.lemmas.Nat.{mul-le}
 use Rattle.hip_tree.specs.declared.program.Program.{Program}
-use Rattle.hip_lines.specs.Line.{Line}
 use Rattle.hip_sound.specs.Sound.{IsSound}
 use Rattle.hip_runs.specs.declared.event.Ending.{Ending}
-use Rattle.hip_runs.specs.declared.event.Ending.TheVariants.{Cut}
+use Rattle.hip_runs.specs.Laws.NextLaws.{carry_counts}
 use Rattle.hip_runs.specs.declared.input.Input.{Input}
-use Rattle.hip_runs.specs.Actions.{Action, Traps, Assigns, Allocates, Stores, Flushes, Persists, Fences, Asserts, Prints, Reads, Calls, Jumps, Returns, Deed}
 use Rattle.hip_runs.specs.Ends.{longest, steps_left}
 use Rattle.hip_runs.specs.Laws.EndLaws.{code_short, more_turns, Goes, ended, turned, moved, next_goes}
 use Rattle.hip_runs.specs.Places.{code_at}
-use Rattle.hip_runs.specs.State.{StorePart, Frame, World, Counts, State}
-use Rattle.hip_runs.specs.Step.{stop, with_turn, leave, perform, is_cut, carry_out, deed_at, on_frames, on_ending, step, event_at, has_entry, counted, image_lines, header_entries, start_frame, main_number, run}
+use Rattle.hip_runs.specs.State.{Frame, Counts, State}
+use Rattle.hip_runs.specs.Step.{deed_at, on_frames, on_ending, step, event_at, has_entry, counted, image_lines, header_entries, start_frame, main_number, run}
 use Rattle.hip_runs.specs.Laws.StepLaws.{standing-frame, counted-steps}
 use Rattle.hip_runs.specs.Validity.{IsValid}
 use Rattle.hip_invariants.specs.Bounds.{IsBounded, CountsFit}
 use Rattle.hip_invariants.specs.Laws.Places.{first_frame}
 
 -- ---- a step is counted
-
-leave_counts : (v : ℕ) (w : World) (f : Frame) (fs : List Frame) (ls : List (Line StorePart)) (after : Counts)
-    → (leave v w f fs ls after).counts ≡ after
-unfolding leave
-leave_counts v w f [] ls after = refl
-leave_counts v w f (g ∷ fs) ls after = refl
-
-perform_counts : (I : Input) (w : World) (f : Frame) (fs : List Frame) (ls : List (Line StorePart))
-    (before after : Counts) (x : Action) → (perform I w f fs ls before after x).counts ≡ after
-unfolding perform
-perform_counts I w f fs ls before after (Traps kind) = refl
-perform_counts I w f fs ls before after (Assigns dest v) = refl
-perform_counts I w f fs ls before after (Allocates dest a n) = refl
-perform_counts I w f fs ls before after (Stores a bytes) = refl
-perform_counts I w f fs ls before after (Flushes a n) = refl
-perform_counts I w f fs ls before after (Persists a n) = refl
-perform_counts I w f fs ls before after Fences = refl
-perform_counts I w f fs ls before after (Asserts a n) = refl
-perform_counts I w f fs ls before after (Prints z) = refl
-perform_counts I w f fs ls before after (Reads dest z rest) = refl
-perform_counts I w f fs ls before after (Calls g registers dest) = refl
-perform_counts I w f fs ls before after (Jumps b registers) = refl
-perform_counts I w f fs ls before after (Returns v) = leave_counts v w f fs ls after
-
-carry_out_counts : (I : Input) (w : World) (f : Frame) (fs : List Frame) (ls : List (Line StorePart))
-    (before after : Counts) (d : Deed) → (carry_out I w f fs ls before after d).counts ≡ after
-unfolding carry_out
-carry_out_counts I w f fs ls before after d = go (is_cut I w d)
-  where
-    go : (b : Bool) → (cond b (stop Cut w (f ∷ fs) ls after)
-        (perform I (cond d.turn (with_turn w) w) f fs ls before after d.action)).counts ≡ after
-    go true = refl
-    go false = perform_counts I (cond d.turn (with_turn w) w) f fs ls before after d.action
 
 module _ (P : Program) (I : Input) where
   step_counts : (s : State) (f : Frame) (fs : List Frame) → s.world.ending ≡ None → s.frames ≡ f ∷ fs
@@ -61,7 +26,7 @@ module _ (P : Program) (I : Input) where
   step_counts s f fs going frames =
       ap (λ o. (on_ending P I s o).counts) going
       ∙ ap (λ gs. (on_frames P I s.world s.lines s.counts gs).counts) frames
-      ∙ carry_out_counts I s.world f fs s.lines s.counts
+      ∙ carry_counts I s.world f fs s.lines s.counts
       (counted (event_at I s.world fs (deed_at P I s.world f fs)) s.counts) (deed_at P I s.world f fs)
 
   step_ended : (s : State) (e : Ending) → s.world.ending ≡ Some e → step P I s ≡ s

@@ -126,7 +126,8 @@ perform_counts I w f fs ls before after (Calls g rs to) = refl
 perform_counts I w f fs ls before after (Jumps b rs) = refl
 perform_counts I w f fs ls before after (Returns v) = leave_counts v w f fs ls after
 
-carry_counts : (I : Input) (w : World) (f : Frame) (fs : List Frame) (ls : List (Line StorePart))
+-- a deed leaves the counts that it is given
+pub carry_counts : (I : Input) (w : World) (f : Frame) (fs : List Frame) (ls : List (Line StorePart))
     (before after : Counts) (d : Deed) → (carry_out I w f fs ls before after d).counts ≡ after
 unfolding carry_out
 carry_counts I w f fs ls before after d = go (is_cut I w d)

@@ -170,6 +170,7 @@ impl RegionLog {
         ensures least { result.least ≡ (seen_at self.now image.now line).least }
         ensures later { later_in result ≡ (seen_at self.now image.now line).later }
     {
+        let _len = image.len();
         let last = waiting_part(self.waiting, line);
         match self.lines.get(line) {
             Some(kept) => LineView {

@@ -1,4 +1,4 @@
-ghost use Rattle.std.specs.Prelude.{◌≡◌, ℕ, ◌+◌, ◌-◌, ◌*◌, ◌^◌, ◌<◌, ◌≤◌, ◌↔◌, ◌∷◌, ◌++◌, [], length, replicate, take, drop, slice_index, IsTrue, OnOk, OnErr};
+ghost use Rattle.std.specs.Prelude.{◌≡◌, ℕ, ◌+◌, ◌-◌, ◌*◌, ◌^◌, ◌<◌, ◌≤◌, ◌↔◌, ◌∷◌, ◌++◌, [], length, replicate, take, drop, slice_index, IsTrue, OnOk, OnErr, IsErr};
 ghost use Rattle.hip_types.specs.declared.areas.TheConstants.{LINE_SIZE};
 
 use hip_types::{LINE_SIZE, NoMemory};
@@ -67,7 +67,7 @@ impl Image {
         bytes_from(self.stored.as_slice(), line as usize * LINE_SIZE as usize)
     }
 
-    /// Puts a byte at the end.
+    /// Puts a byte at the end. It refuses out of memory, and where there would be 2^64 bytes.
     pub fn push(&mut self, byte: u8) -> Result<(), NoMemory>
         ensures ok { OnOk result (self.new ≡ self.old ++ byte ∷ []) }
         ensures err { OnErr result (self.new ≡ self.old) }
@@ -75,7 +75,7 @@ impl Image {
         self.extend_from_slice(&[byte])
     }
 
-    /// Puts bytes at the end.
+    /// Puts bytes at the end. It refuses out of memory, and where there would be 2^64 bytes or more.
     pub fn extend_from_slice(&mut self, bytes: &[u8]) -> Result<(), NoMemory>
         ensures ok { OnOk result (self.new ≡ self.old ++ bytes.now) }
         ensures err { OnErr result (self.new ≡ self.old) }
@@ -93,10 +93,11 @@ impl Image {
         Ok(())
     }
 
-    /// Puts n bytes of 0 at the end. It takes no memory, and is refused only if there would be 2^64 bytes.
+    /// Puts n bytes of 0 at the end. It takes no memory, and refuses only where there would be 2^64 bytes or more.
     pub fn push_zeros(&mut self, count: usize) -> Result<(), NoMemory>
         ensures ok { OnOk result (self.new ≡ self.old ++ replicate count 0) }
         ensures err { OnErr result (self.new ≡ self.old) }
+        ensures refused { IsErr result ↔ (2 ^ 64 ≤ length self.old + count) }
     {
         if self.len().checked_add(count).is_none() {
             return Err(NoMemory);

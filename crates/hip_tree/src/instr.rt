@@ -104,68 +104,27 @@ pub enum Instr {
     },
 }
 
+/// Takes an instruction apart, and drops its fields. After the instruction come the variants, each with all its fields.
+macro_rules! drop_fields {
+    ($instr:expr, $($variant:ident { $($field:ident)* },)*) => {
+        match $instr {
+            $(Instr::$variant { $($field: _,)* } => {})*
+        }
+    };
+}
+
 impl Drop for Instr {
     fn drop(self) {
-        match self {
-            Instr::Binary {
-                dest: _,
-                op: _,
-                flags: _,
-                width: _,
-                a: _,
-                b: _,
-            } => {}
-            Instr::Compare {
-                dest: _,
-                pred: _,
-                ty: _,
-                a: _,
-                b: _,
-            } => {}
-            Instr::Select {
-                dest: _,
-                cond: _,
-                ty: _,
-                a: _,
-                b: _,
-            } => {}
-            Instr::Cast {
-                dest: _,
-                op: _,
-                from: _,
-                a: _,
-                to: _,
-            } => {}
-            Instr::Alloca {
-                dest: _,
-                ty: _,
-                align: _,
-            } => {}
-            Instr::Load {
-                dest: _,
-                ty: _,
-                addr: _,
-                align: _,
-            } => {}
-            Instr::Store {
-                ty: _,
-                value: _,
-                addr: _,
-                align: _,
-            } => {}
-            Instr::Gep {
-                dest: _,
-                inbounds: _,
-                ty: _,
-                base: _,
-                indices: _,
-            } => {}
-            Instr::Call {
-                dest: _,
-                ret: _,
-                callee: _,
-                args: _,
-            } => {}
-        }
+        drop_fields!(self,
+            Binary { dest op flags width a b },
+            Compare { dest pred ty a b },
+            Select { dest cond ty a b },
+            Cast { dest op from a to },
+            Alloca { dest ty align },
+            Load { dest ty addr align },
+            Store { ty value addr align },
+            Gep { dest inbounds ty base indices },
+            Call { dest ret callee args },
+        )
     }
 }

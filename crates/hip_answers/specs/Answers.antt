@@ -9,7 +9,7 @@ use Rattle.hip_io.specs.declared.sink.Put.{Put}
 use Rattle.hip_io.specs.declared.sink.Put.TheVariants as puts
 use Rattle.hip_program_files.specs.Outside.{HasMet}
 
--- A status, the text for out and the text for notes. Which answers there are, each command defines by a table.
+-- A status, the text for out and the text for notes. Each command defines by a table which answers it may give.
 pub record Answer : Type 0 where
   pub status : Status
   pub out : List ℕ
@@ -19,16 +19,16 @@ pub record Answer : Type 0 where
 abbrev pub refusal : Status → Answer
 refusal status = record { status = status; out = []; notes = line_of status }
 
--- How a call may end: the command was carried out; it was refused; a text could not be written whole; or there was no
--- memory.
+-- How a call may end: the command was carried out; it was refused; a text could not be written whole; or memory ran
+-- out.
 pub data Outcome : Type 0 where
   CarriedOut : Outcome
   Refused : Outcome
   CutShort : Outcome
   RanOut : Outcome
 
--- A command is carried out also where its run trapped or was cut. Each other status but a write fault and out of
--- memory is that of a refusal.
+-- A command is carried out also where its run trapped or was cut. Each other status is a refusal, except a write fault
+-- and out of memory.
 abbrev pub outcome_of : Status → Outcome
 outcome_of Done = CarriedOut
 outcome_of (Trapped kind) = CarriedOut
@@ -101,13 +101,13 @@ pub record HasBeenCut (table : Answer → Type 0) (s : Sinks) : Type 0 where
   pub carried_out : outcome_of answer.status ≡ CarriedOut
   pub written : CutsOut s answer ⊎ CutsNotes s answer
 
--- a command whose text goes out while it is made has written a front of it
+-- a command that writes its text for out while it makes it has written a front of the text
 abbrev pub HasBegun : Bool → (Answer → Type 0) → Sinks → Type 0
 HasBegun true table s = (answer : Answer) × table answer × WritesFront s answer
 HasBegun false table s = ⊥
 
--- There was no memory: no file was missing and none could not be read, and either nothing is on out, or the command
--- had begun to write.
+-- Memory ran out. No file was missing and no read failed; and either nothing is on out, or the command had begun to
+-- write.
 pub record HasRunOut (table : Answer → Type 0) (begins : Bool) (old new : CabinetState) (s : Sinks) : Type 0 where
   pub met : HasMet false false old new
   pub out : (s.out_new ≡ s.out) ⊎ HasBegun begins table s
@@ -122,13 +122,13 @@ answered Refused table begins old new s status = table (refusal status) × Write
 answered CutShort table begins old new s status = HasBeenCut table s
 answered RanOut table begins old new s status = HasRunOut table begins old new s
 
--- What a call does that answers this status, where `table` has the command's answers, and `begins` says that its text
--- goes out while it is made.
+-- What a call does that ends with this status. `table` has the command's answers, and `begins` says whether the command
+-- writes its text for out while it makes it.
 pub record HasAnswered (table : Answer → Type 0) (begins : Bool) (old new : CabinetState) (s : Sinks)
     (status : Status) : Type 0 where
   pub how : answered (outcome_of status) table begins old new s status
 
--- what a command does on a run, once it has read its files: it answers by the table, and looks at no file
+-- what a command does on a run, once it has read its files: it gives an answer of the table and reads no more
 abbrev pub AnswersOnRun : (Answer → Type 0) → Bool → Sinks → Status → Type 0
 AnswersOnRun table begins s status =
     (old new : CabinetState) → HasMet false false old new → HasAnswered table begins old new s status
@@ -141,7 +141,7 @@ IsDelivered status held = status ≢ WriteFault → held ≡ 0
 
 -- ---- the end of a call
 
--- The text for notes was tried: the status, or a write fault with its line.
+-- The call has tried to write the text for notes: it ends with the status, or with a write fault and its line.
 abbrev pub Finishes : Put → Status → SinkState → SinkState → Status → Type 0
 Finishes puts.Done status old new result = (result ≡ status) × (new ≡ old)
 Finishes puts.Failed status old new result = (result ≡ WriteFault) × PutsLine WriteFault old new

@@ -1,4 +1,4 @@
--- A run ends in one way, and the answer with its trace is one.
+-- A run ends in one way, so only one answer has its trace.
 use Rattle.std.proofs.Common.{◌≡◌, ◌≤◌, ◌<◌, ◌+◌, ◌-◌, ◌⊎◌, ℕ, zero, suc, true, false, List, Option, Some, None, is_some, refl, sym, ap, ◌∙◌, inl, inr, arith}
 use Rattle.std.proofs.lemmas.Bool.{cases_order}
 use Rattle.hip_answers.specs.Answers.{Answer, CarriedOut, outcome_of}
@@ -19,13 +19,13 @@ use Rattle.hip_tree.specs.declared.program.Program.{Program}
 
 -- ---- the answer of a run
 
--- every ending is one of a command that was carried out
+-- with every ending the command was carried out
 pub is_carried_out : (ending : Ending) → outcome_of (status_of_ending ending) ≡ CarriedOut
 is_carried_out (endings.Stop code) = refl
 is_carried_out (endings.Trap kind) = refl
 is_carried_out endings.Cut = refl
 
--- the answer of a run that has this text and ends so
+-- the answer for a run with this text and this ending
 abbrev pub answer_of : List ℕ → Ending → Answer
 answer_of text ending = record { status = status_of_ending ending; out = text; notes = ending_line ending }
 
@@ -42,7 +42,7 @@ text_of P I trace t = by_end (run P I t.steps).world.ending refl
 answer_is : {a : Answer} (b : Answer) → a.status ≡ b.status → a.out ≡ b.out → a.notes ≡ b.notes → a ≡ b
 answer_is b e f g = λ i. record { status = e i; out = f i; notes = g i }
 
--- the answer with the trace of a run is one
+-- two answers that have the trace of a run are equal
 pub one_given : (P : Program) (I : Input) (a b : Answer) → GivesTrace P I a → GivesTrace P I b → a ≡ b
 one_given P I a b x y =
     let u = x.traced in

@@ -15,7 +15,7 @@ status_of_ending (endings.Stop code) = statuses.Done
 status_of_ending (endings.Trap kind) = statuses.Trapped kind
 status_of_ending endings.Cut = statuses.Cut
 
--- the word that stands in traces for the kind of a trap
+-- the word for a kind of trap, as a trace has it
 abbrev pub trap_text_of : TrapKind → List ℕ
 trap_text_of kind = trap_text (trap_word kind)
 

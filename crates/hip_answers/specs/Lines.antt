@@ -34,7 +34,7 @@ missing_text role.Program = codes "hippo: no file: program\n"
 missing_text role.Trace = codes "hippo: no file: trace\n"
 missing_text (role.Number number) = codes "hippo: no file: trace " ++ decimal number ++ codes "\n"
 
--- the word for in which way an entry of a trace is not the run's
+-- the word for how an entry of a trace differs from the run
 abbrev pub kind_word : MisfitKind → List ℕ
 kind_word kinds.Malformed = codes "malformed"
 kind_word kinds.Differs = codes "differs"
@@ -118,19 +118,19 @@ pick_number (picks.Repeated at) = at
 pick_number (picks.OutOfRange at least most) = at
 pick_number picks.NoMemory = 0
 
--- in which way a pick fails: `line`, `repeated` or `range G to L`
+-- how a pick fails: `line`, `repeated` or `range G to L`
 abbrev pub pick_words : PickRefusal → List ℕ
 pick_words (picks.NoLine at) = codes "line"
 pick_words (picks.Repeated at) = codes "repeated"
 pick_words (picks.OutOfRange at least most) = codes "range " ++ decimal least ++ codes " to " ++ decimal most
 pick_words picks.NoMemory = codes "out of memory"
 
--- `hippo: pick N: ` and in which way the pick fails
+-- `hippo: pick N: ` and how the pick fails
 abbrev pub bad_pick_text : PickRefusal → List ℕ
 bad_pick_text refusal =
     codes "hippo: pick " ++ decimal (pick_number refusal) ++ codes ": " ++ pick_words refusal ++ codes "\n"
 
--- each refusal has a line; what was carried out has none
+-- each refusal has a line; a command that was carried out has none
 unfoldable pub line_of : Status → List ℕ
 line_of status.Done = []
 line_of status.Usage = usage_text

@@ -1,4 +1,4 @@
--- What a command answers where there is no program for it.
+-- What a command answers where its file has no program.
 use Rattle.std.specs.Prelude.{ℕ, ◌≡◌, true, false, List, IfSome, ◌⊎◌}
 use Rattle.hip_answers.specs.Answers.{Answer, refusal}
 use Rattle.hip_answers.specs.Statuses.{status_of_refusal}
@@ -21,6 +21,6 @@ pub record IsUnread (old new : CabinetState) (name : List ℕ) (answer : Answer)
   pub current : (new.is_current ≡ false) ⊎ IfSome new.name (λ n. n ≡ name)
   pub is : answer ≡ refusal statuses.ReadFault
 
--- what a command answers that has no program: why there is none in the file, or a read fault
+-- what a command answers without a program: why there is none in the file, or a read fault
 abbrev pub LacksProgram : CabinetState → CabinetState → List ℕ → Answer → Type 0
 LacksProgram old new name answer = IsUnloaded old new name answer ⊎ IsUnread old new name answer

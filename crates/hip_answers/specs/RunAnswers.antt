@@ -1,4 +1,4 @@
--- What a command answers that is given a program and the trace of one of its runs.
+-- The answers of a command that takes a program and the trace of one of its runs.
 use Rattle.std.specs.Prelude.{ℕ, ◌⊎◌, false, List, IfSome}
 use Rattle.hip_answers.specs.Answers.{Answer}
 use Rattle.hip_answers.specs.Programs.{IsUnloaded, IsUnread}
@@ -12,8 +12,8 @@ use Rattle.hip_runs.specs.Validity.{IsValid}
 use Rattle.hip_runs.specs.declared.input.Input.{Input}
 use Rattle.hip_runs.specs.declared.report.Findings.{Findings}
 
--- The one file has the program, and the other is the trace of its run on the input, which found this. What the answer
--- has is given by the program, the input and what was found.
+-- One file has the program, and the other is the trace of its run on the input, which found this. The program, the
+-- input and the findings determine what the answer has.
 pub record HasRunOf (Texts : Program → Input → Findings → Answer → Type 0) (old new : CabinetState)
     (program_name trace_name : List ℕ) (answer : Answer) : Type 0 where
   pub program : Program
@@ -26,7 +26,7 @@ pub record HasRunOf (Texts : Program → Input → Findings → Answer → Type 
   pub met : HasMet false false old new
   pub texts : Texts program input found answer
 
--- the answers of a command that is given a program and a trace: no program, no trace of a run of it, or a run
+-- the answers of such a command: for no program, for no trace of a run of it, or for a run
 abbrev pub TraceAnswers : (Program → Input → Findings → Answer → Type 0) → CabinetState → CabinetState
     → List ℕ
     → List ℕ → Answer → Type 0

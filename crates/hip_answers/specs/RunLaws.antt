@@ -18,7 +18,7 @@ use Rattle.hip_runs.specs.declared.report.Findings.{Findings}
 abbrev pub GivesOne : (Program → Input → Findings → Answer → Type 0) → Type 0
 GivesOne Texts = (p t : List ℕ) → AreOne (λ old new answer. TraceAnswers Texts old new p t answer)
 
--- where the one file has a program and the other is the trace of a run of it, and nothing is missing and nothing fails,
+-- where one file has a program and the other is the trace of a run of it, and no file is missing and no read fails,
 -- there is an answer by which the command is carried out
 abbrev pub AnswersRuns : (Program → Input → Findings → Answer → Type 0) → Type 0
 AnswersRuns Texts =
@@ -27,8 +27,8 @@ AnswersRuns Texts =
     → HasMet false false old new
     → (a : Answer) × (a.status ≡ statuses.Done) × TraceAnswers Texts old new p t a
 
--- where the trace's file is current after a read fault, and is not the program's, its bytes that were taken show no
--- misfit
+-- where the trace's file is current after a read fault, and is not the program's, the bytes that were taken from it
+-- show no misfit
 abbrev pub FaultsHideNone : (Program → Input → Findings → Answer → Type 0) → Type 0
 FaultsHideNone Texts =
     (files : List NamedFile) → (old new : CabinetState) → (p t : List ℕ) → (P : Program) → (a : Answer)

@@ -1,4 +1,4 @@
--- What is the same of two answers: equal ones, and refusals of a program that differ in a path alone.
+-- Equal answers are the same, and so are refusals of a program that differ in a path alone.
 use Rattle.std.specs.Prelude.{◌≡◌}
 use Rattle.std.proofs.Common.{refl, sym, ap, ◌∙◌}
 use Rattle.hip_answers.specs.Answers.{Answer, refusal}

@@ -32,8 +32,7 @@ pub record IsMisfitFile (files : List NamedFile) (name : List ℕ) (P : Program)
   pub found : file_of files name ≡ Some bytes
   pub misfit : IsMisfit P bytes true entry kind
 
--- Some bytes of the file were taken, and the rest is left. The bytes that were taken show no misfit, whatever follows
--- them.
+-- Some bytes of the file were taken, and the rest is left. The taken bytes show no misfit, whatever follows them.
 pub record ShowsNoMisfit (files : List NamedFile) (name : List ℕ) (P : Program)
     (rest : Option (List ℕ)) : Type 0 where
   pub taken : List ℕ
@@ -42,8 +41,8 @@ pub record ShowsNoMisfit (files : List NamedFile) (name : List ℕ) (P : Program
   pub rest_is : rest ≡ Some left
   pub none : (entry : ℕ) → (kind : MisfitKind) → IsMisfit P taken false entry kind → ⊥
 
--- The file is the current one, and some of it was taken. Those bytes show no misfit: if they show one, that is the
--- answer.
+-- The file is the current one, and some of it was taken. The taken bytes show no misfit, since a misfit is answered as
+-- soon as they show it.
 pub record IsReadInPart (files : Option (List NamedFile)) (name : List ℕ) (P : Program) (new : CabinetState) : Type 0
   where
     pub current : new.is_current ≡ true
@@ -66,7 +65,7 @@ abbrev pub is_missing : TraceFileRefusal → Bool
 is_missing traces.Missing = true
 is_missing (traces.Misfit entry kind) = false
 
--- the status that says why the one trace of a command is none of a run
+-- the status that says why the only trace of a command is not the trace of a run
 abbrev pub status_of_refusal : TraceFileRefusal → Status
 status_of_refusal traces.Missing = statuses.Missing roles.Trace
 status_of_refusal (traces.Misfit entry kind) = statuses.Misfit entry kind
@@ -98,7 +97,7 @@ pub record IsTraceUnread (old new : CabinetState) (program_name trace_name : Lis
   pub unread : FailsToRead old.files trace_name program new
   pub is : answer ≡ refusal statuses.ReadFault
 
--- what a command answers that has a program and no trace of a run of it
+-- what a command answers that has a program but no trace of a run of it
 abbrev pub LacksTrace : CabinetState → CabinetState → List ℕ → List ℕ → Answer → Type 0
 LacksTrace old new program_name trace_name answer =
     IsUntraced old new program_name trace_name answer ⊎ IsTraceUnread old new program_name trace_name answer

@@ -1,4 +1,4 @@
--- A file that is known is the trace of one run of a program, or of none for one reason.
+-- A known file is the trace of at most one run of a program, and if it is the trace of none, there is one reason.
 use Rattle.std.specs.Prelude.{ℕ, ◌≡◌, true, List, Some}
 use Rattle.std.proofs.Common.{refl, sym, ◌∙◌, subst}
 use Rattle.hip_answers.specs.TraceFiles.{HasNoTrace, IsTraceFile}
@@ -14,7 +14,7 @@ use Rattle.hip_run_traces.specs.declared.misfit.MisfitKind.{MisfitKind}
 use Rattle.hip_runs.specs.declared.input.Input.{Input}
 use Rattle.hip_tree.specs.declared.program.Program.{Program}
 
--- a trace is that of one input
+-- a trace is the trace of one input
 pub one_input : (P : Program) (bytes : List ℕ) (I J : Input) → IsTraceOf P bytes I → IsTraceOf P bytes J → I ≡ J
 one_input P bytes I J t u = let same : Gives t.entries I ≡ Gives u.entries J = sym t.header_is ∙ u.header_is in cc
 

@@ -1,4 +1,4 @@
--- What a command answers that writes the trace of a run.
+-- The answer of a command that writes the trace of a run.
 use Rattle.std.specs.Prelude.{◌≡◌}
 use Rattle.hip_answers.specs.Answers.{Answer}
 use Rattle.hip_answers.specs.Endings.{ending_line, status_of_ending}

@@ -1,4 +1,4 @@
--- Names for copies of functions that nothing has yet.
+-- Names for copies of functions, none of which is in use.
 use Rattle.std.specs.Prelude.{ℕ, zero, suc, ◌+◌, ◌/◌, ◌%◌, nat_lt, cond, if◌then◌else◌, List, [], ◌∷◌, ◌++◌, map, length, codes, slice_get}
 use Rattle.hip_tree.specs.declared.program.Program.{Program}
 use Rattle.hip_names.specs.Names.{is_among}
@@ -26,11 +26,12 @@ fresh_from taken name zero k = candidate name k
 fresh_from taken name (suc more) k =
     cond (is_among taken (candidate name k)) (fresh_from taken name more (suc k)) (candidate name k)
 
--- one of more candidates than names are taken is free
+-- The first candidate that is not taken. One more candidate than there are taken names is tried, so one of them is
+-- free.
 abbrev pub fresh_name : List (List ℕ) → List ℕ → List ℕ
 fresh_name taken name = fresh_from taken name (length taken) 0
 
--- a fresh name for each of these names, which differ from one another too
+-- a fresh name for each of these names; the fresh names differ from one another too
 abbrev pub fresh_for : List (List ℕ) → List (List ℕ) → List (List ℕ)
 fresh_for taken [] = []
 fresh_for taken (name ∷ names) = fresh_name taken name ∷ fresh_for (fresh_name taken name ∷ taken) names

@@ -1,4 +1,4 @@
--- The defined functions that calls can reach, in the order of first meeting by breadth.
+-- The defined functions that calls can reach, in breadth-first order.
 use Rattle.std.specs.Prelude.{ℕ, zero, suc, nat_eq, List, [], Option, Some, None, slice_get, option_to_list, length}
 use Rattle.std.specs.List.{flat_map}
 use Rattle.hip_types.specs.Distinct.{met}

@@ -28,7 +28,7 @@ abbrev pub edge_from : List named_edge.Edge → List ℕ → Option named.Operan
 edge_from [] from = None
 edge_from (e ∷ es) from = cond (bytes_eq e.label from) (Some e.value) (edge_from es from)
 
--- a move is a phi's for control from a label
+-- the move is that of a phi, for control from a label
 pub record IsMove (globals : List GlobalVar) (region : ℕ) (names : List (List ℕ)) (constants from : List ℕ)
     (m : Move)
     (p : Phi) : Type 0 where
@@ -37,7 +37,7 @@ pub record IsMove (globals : List GlobalVar) (region : ℕ) (names : List (List 
   pub dest : number_of names p.dest ≡ Some m.dest
   pub value : IsOperand globals region names constants m.value operand
 
--- the moves are those of a block's phis, one for each
+-- the moves are those of the phis of a block, one for each phi
 abbrev pub are_moves : List GlobalVar → ℕ → List (List ℕ) → List ℕ → List ℕ → List Move → List Phi
     → Type 0
 are_moves globals region names constants from [] [] = Unit {0}
@@ -46,7 +46,7 @@ are_moves globals region names constants from (m ∷ ms) (p ∷ ps) =
 are_moves globals region names constants from [] (p ∷ ps) = ⊥
 are_moves globals region names constants from (m ∷ ms) [] = ⊥
 
--- the moves are those of arguments, one for each parameter, into slots of the function that is called
+-- the moves are those of the arguments of a call, one for each parameter, into slots of the callee
 abbrev pub are_arguments : List GlobalVar → ℕ → List (List ℕ) → List (List ℕ) → List ℕ → List Move
     → List Param
     → List Arg → Type 0
@@ -70,7 +70,7 @@ pub record IsEdge (P : Program) (I : Input) (f b : ℕ) (tables : Tables) (numbe
   pub moves : are_moves P.globals I.base (names_at P f) tables.constants (label_of (block_at P f b))
       (entries_of edge.moves tables.moves) (phis_of (block_at P f edge.block))
 
--- the cases of a switch, one for each
+-- the cases are those of a switch, in order
 abbrev pub are_cases : Program → Input → ℕ → ℕ → Tables → List Case → List named_case.Case → Type 0
 are_cases P I f b tables [] [] = Unit {0}
 are_cases P I f b tables (c ∷ cs) (d ∷ ds) =
@@ -78,7 +78,7 @@ are_cases P I f b tables (c ∷ cs) (d ∷ ds) =
 are_cases P I f b tables [] (d ∷ ds) = ⊥
 are_cases P I f b tables (c ∷ cs) [] = ⊥
 
--- the call is one of a defined function
+-- the call is that of a defined function
 pub record IsCall (P : Program) (I : Input) (f : ℕ) (tables : Tables) (call : Call) (callee : List ℕ)
     (args : List Arg)
     (dest : Option (List ℕ)) : Type 0 where

@@ -1,4 +1,4 @@
--- What an op tells of the operands of its instruction: where a store goes, and what a call passes.
+-- The operands of its instruction that an op has: the address of a store, and the arguments of a call.
 use Rattle.std.specs.Prelude.{ℕ, ◌≤◌, ◌≡◌, List, length, map, Option, Some, None, slice_get}
 use Rattle.hip_externs.specs.Externs.{call_of}
 use Rattle.hip_externs.specs.declared.call.ExternCall.{ExternCall}
@@ -43,7 +43,8 @@ abbrev pub is_memory : Op → Type 0
 is_memory (ops.Memory memory) = Unit {0}
 is_memory _ = ⊥
 
--- a call of a function of the program passes its arguments; one of an external function is none of control
+-- the op of a call: for a function of the program it passes the arguments; for an external function it acts on memory,
+-- on cache lines or on the outside
 abbrev pub passes_or_effects : Program → Numbers → Option ExternCall → List ℕ → List ℕ → Op → Type 0
 passes_or_effects P n None callee values o = passes P n callee values o
 passes_or_effects P n (Some call) callee values o = is_memory o
@@ -55,6 +56,6 @@ names_operands P I n rs o (instrs.Call dest ret callee args) =
     passes_or_effects P n (call_of callee) callee (values_of P.globals I.base rs args) o
 names_operands P I n rs o _ = Unit {0}
 
--- The op tells the operands of its instruction: a store's address, and the values of a call's arguments.
+-- The op has the operands of its instruction: a store's address, and the values of a call's arguments.
 pub record NamesOperands (P : Program) (I : Input) (n : Numbers) (rs : Registers) (o : Op) (i : Instr) : Type 0 where
   pub is : names_operands P I n rs o i

@@ -1,4 +1,4 @@
--- What the indices of a `getelementptr` add to its base: an offset, and terms for the indices that registers hold.
+-- What the indices of a `getelementptr` add to its base: an offset, and terms for the indices in registers.
 use Rattle.std.specs.Prelude.{ℕ, ◌⊎◌, ◌+◌, ◌*◌, ◌≡◌, List, [], ◌∷◌, Some}
 use Rattle.hip_types.specs.Layout.{Part, enter, size_of}
 use Rattle.hip_types.specs.declared.ty.Ty.{Ty, out-Ty}
@@ -13,20 +13,21 @@ use Rattle.hip_types.specs.Scalars.{width_of}
 use Rattle.hip_code.specs.Resolved.{IsOperand}
 use Rattle.hip_code.specs.declared.op.Term.{Term}
 
--- a constant index
+-- the index is a constant
 pub record IsFixed (globals : List GlobalVar) (region : ℕ) (a : Arg) (index : ℕ) : Type 0 where
   pub value : Const
   pub is : a.value ≡ Fixed value
   pub index_is : index_value a.ty (const_value globals region value) ≡ index
 
--- an index times a scale
+-- the term is an index in a register times a scale
 pub record IsScaled (globals : List GlobalVar) (region : ℕ) (names : List (List ℕ)) (constants : List ℕ) (a : Arg)
     (size : ℕ) (t : Term) : Type 0 where
   pub index : IsOperand globals region names constants t.index a.value
   pub width : t.width ≡ width_of a.ty
   pub scale : t.scale ≡ size
 
--- The indices lead into a type, one after another: a constant one enters a part, another one an element of an array.
+-- The indices lead into a type, one after another: a constant index enters a part, any other index an element of an
+-- array.
 abbrev pub is_path : List GlobalVar → ℕ → List (List ℕ) → List ℕ → Ty → List Arg → ℕ → List Term
     → Type 0
 is_path globals region names constants t [] offset terms = (offset ≡ 0) × (terms ≡ [])

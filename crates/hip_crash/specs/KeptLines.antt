@@ -19,7 +19,7 @@ pub record ChangesLine (change : Kept → Kept) (line : ℕ) (old new : KeptLine
   pub here : kept_at new line ≡ option_map change (kept_at old line)
   pub others : (j : ℕ) → j ≢ line → kept_at new j ≡ kept_at old j
 
--- this is kept of one cache line now, of which nothing was, and nothing else is changed
+-- this is kept now of one cache line of which nothing was kept, and nothing else is changed
 pub record GivesLine (kept : Kept) (line : ℕ) (old new : KeptLines) : Type 0 where
   pub here : kept_at new line ≡ Some kept
   pub others : (j : ℕ) → j ≢ line → kept_at new j ≡ kept_at old j

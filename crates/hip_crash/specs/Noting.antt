@@ -1,4 +1,4 @@
--- What a step's event does to what is kept of the region.
+-- What the event of a step does to what is kept of the region.
 use Rattle.std.specs.Prelude.{ℕ, ◌-◌, cond}
 use Rattle.hip_lines.specs.Line.{has_bytes}
 use Rattle.hip_runs.specs.declared.event.Event.{Event}

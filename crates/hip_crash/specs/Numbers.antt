@@ -9,7 +9,7 @@ use Rattle.hip_crash.specs.Picks.{number_for}
 use Rattle.hip_picks.specs.declared.pick.Bounds.{Bounds}
 use Rattle.hip_picks.specs.declared.pick.Pick.{Pick}
 
--- for each of the first n lines the number that picks give it, if they do
+-- the numbers that picks give to the first n lines; none for a line that no pick names
 pub record AreNumbers (count : ℕ) (picks : List Pick) (numbers : List (Option ℕ)) : Type 0 where
   pub many : length numbers ≡ count
   pub are : (j : ℕ) → j < count → slice_get numbers j ≡ Some (number_for picks j)

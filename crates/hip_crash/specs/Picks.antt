@@ -30,7 +30,7 @@ abbrev pub number_or : ℕ → Option ℕ → ℕ
 number_or least None = least
 number_or least (Some upto) = upto
 
--- The pick of each line that a list of picks stands for: a line that is not named keeps its durable number of parts.
+-- The number of parts that these picks give each line; a line that they do not name keeps its durable number of parts.
 abbrev pub picked : State → List Pick → ℕ → ℕ
 picked s picks j = number_or (bounds_of s j).least (number_for picks j)
 

@@ -10,8 +10,8 @@ use Rattle.hip_types.specs.declared.areas.TheConstants.{LINE_SIZE}
 unfoldable pub seen_at : RegionLog → List ℕ → ℕ → Kept
 seen_at r image j = with_waiting r.waiting j (now_at r.lines image j)
 
--- There is room for what waits: the initial bytes are whole lines, 2^32 bytes at most, and each line has fewer than 2^63
--- stores.
+-- There is room to take up what waits: the initial bytes are whole lines, 2^32 bytes at most, and each line has fewer
+-- than 2^63 stores.
 pub record HasRoom (log : RegionLog) (image : List ℕ) : Type 0 where
   pub whole : length image % LINE_SIZE ≡ 0
   pub small : length image ≤ 2 ^ 32

@@ -16,7 +16,7 @@ abbrev pub bytes_with : StoredValue → ℕ → List ℕ → List ℕ
 bytes_with v b [] = []
 bytes_with v b (x ∷ xs) = cond (stored_covers v b) (stored_byte v b) x ∷ bytes_with v (suc b) xs
 
--- and after values were stored, in this order
+-- those bytes after these values were stored, in this order
 abbrev pub bytes_after : List StoredValue → ℕ → List ℕ → List ℕ
 bytes_after [] b xs = xs
 bytes_after (v ∷ vs) b xs = bytes_after vs b (bytes_with v b xs)

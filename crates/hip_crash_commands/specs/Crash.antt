@@ -24,7 +24,7 @@ pub record HasCrashed (P : Program) (I : Input) (entry : ℕ) (picks : List Pick
   pub image : HasImage P I entry picks content
   pub recorded : GivesTrace P (begun_with I content) answer
 
--- what the answer has, by the program and the input of the run whose trace was given; what that run found plays no part
+-- what the answer has, by the program and the input of the traced run; the findings of that run play no part
 abbrev pub CrashTexts : ℕ → List Pick → Program → Input → Findings → Answer → Type 0
 CrashTexts entry picks P I found answer = IsUnpicked P I entry picks answer ⊎ HasCrashed P I entry picks answer
 

@@ -63,7 +63,7 @@ pub record HasImage (P : Program) (I : Input) (entry : ℕ) (ps : List Pick) (co
   pub image : IsCrashImage I state content
   pub valid : IsValid P (begun_with I content)
 
--- at the entry this is how the first of the picks fails that does
+-- at the entry, the first pick that fails does so in this way
 pub record LacksPick (P : Program) (I : Input) (entry : ℕ) (ps : List Pick) (why : PickRefusal) : Type 0 where
   pub state : State
   pub at : StandsAt P I entry state
@@ -81,7 +81,7 @@ abbrev pub status_of_refusal : ImageRefusal → Status
 status_of_refusal (images.NoEntry entries) = statuses.NoEntry entries
 status_of_refusal (images.BadPick why) = statuses.BadPick why
 
--- a read fault never comes
+-- the same, or a fault that is no refusal; picking never gives a read fault
 abbrev pub status_of_image : Failure ImageRefusal → Status
 status_of_image (failures.Refused why) = status_of_refusal why
 status_of_image failures.ReadFault = statuses.ReadFault

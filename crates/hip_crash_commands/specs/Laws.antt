@@ -17,12 +17,12 @@ use Rattle.hip_runs.specs.declared.input.Input.{Input}
 abbrev pub CrashesAreOne : Type 0
 CrashesAreOne = (entry : ℕ) → (picks : List Pick) → GivesOne (CrashTexts entry picks)
 
--- where the trace's file is current after a read fault, and is not the program's, its bytes that were taken show no
--- misfit
+-- where the trace's file is current after a read fault, and is not the program's, the bytes that were taken from it
+-- show no misfit
 abbrev pub CrashFaultsHideNone : Type 0
 CrashFaultsHideNone = (entry : ℕ) → (picks : List Pick) → FaultsHideNone (CrashTexts entry picks)
 
--- where the one file has a program and the other is the trace of a run of it, and nothing is missing and nothing fails,
+-- where one file has a program and the other is the trace of a run of it, and no file is missing and no read fails,
 -- there is an answer, which is no read fault
 abbrev pub CrashesAreAnswered : Type 0
 CrashesAreAnswered =

@@ -74,6 +74,6 @@ pub record HasDemonstrated (seed size : ℕ) (old new : CabinetState) (answer : 
   pub out_is : answer.out ≡ demo_text seed size shown
   pub notes_is : answer.notes ≡ []
 
--- the answers of `demo`, of which none is a refusal: no file is looked at
+-- the answers of `demo`; none is a refusal, since it reads no file
 abbrev pub DemoAnswers : ℕ → ℕ → CabinetState → CabinetState → Answer → Type 0
 DemoAnswers = HasDemonstrated

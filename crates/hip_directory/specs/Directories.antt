@@ -8,11 +8,11 @@ use Rattle.hip_directory.specs.Tables.{number_in}
 unfoldable pub number_at : Directory → ℕ → ℕ
 number_at d k = number_in d.groups.items d.entries.items k
 
--- the group of the key's entry, which is not the first where one was made
+-- the number of the group with the key's entry; 0, the group of zeros, until one is made for the key
 unfoldable pub group_of : Directory → ℕ → ℕ
 group_of d k = slice_index d.groups.items (k / GROUP_SIZE)
 
--- a number can be set at the key without memory
+-- setting a number at the key takes no memory
 abbrev pub HasRoom : Directory → ℕ → Type 0
 HasRoom d k = 0 < group_of d k
 

@@ -13,7 +13,7 @@ use Rattle.hip_scope.specs.Scopes.{Ends}
 use Rattle.hip_end_ops.specs.declared.edges.Source.{Source}
 use Rattle.hip_scope.specs.declared.scope.Scope.{Scope}
 
--- the op is that of the end of a block
+-- the op resolves the end of a block
 pub record EndsHere (s : Scope) (t u : Tables) (source : Source) (o : Op) : Type 0 where
   pub end_is : is_end o ≡ true
   pub makes : Makes t u (λ v. Ends s.program.now s.base s.number source.number v o source.block.now.«end»)
@@ -33,7 +33,7 @@ pub record HasCases (s : Scope) (t u : Tables) (source : Source) (ds : List name
   pub makes : Makes t u (λ v. are_cases_of s v source.number cases ds)
   pub lead : LeadFrom s source.number source.first u
 
--- the labels of the cases are named by the block's end
+-- the block's end names the labels of the cases
 pub record CasesNamed (source : Source) (ds : List named_case.Case) : Type 0 where
   pub at : (k : ℕ) (d : named_case.Case) → slice_get ds k ≡ Some d
       → IsAmong (end_labels source.block.now.«end») d.label

@@ -57,7 +57,7 @@ pub record Signature : Type 0 where
   pub ret : Option Scalar
   pub params : List Scalar
 
--- the signature of an external function, as the table has it
+-- the signature of an external function, by the table
 abbrev pub signature : ExternCall → Signature
 signature c = record { ret = (row_of c).ret; params = (row_of c).params }
 

@@ -10,7 +10,7 @@ abbrev pub levels_in : Link → List Level
 levels_in End = []
 levels_in (Call site birth count outer) = record { call = site; birth = birth } ∷ outer.value
 
--- a call knows how many calls there are, with it
+-- the innermost call of the path has the number of calls of the path
 abbrev pub HasCount : Link → Type 0
 HasCount End = Unit {0}
 HasCount (Call site birth count outer) = count ≡ length outer.value + 1
@@ -19,13 +19,13 @@ HasCount (Call site birth count outer) = count ≡ length outer.value + 1
 abbrev pub call_sites : List Level → List Site
 call_sites levels = map (λ l. l.call) levels
 
--- whether there is a birth, that of the call that stands at a depth, and it is this one
+-- whether the call that stands at a depth has this birth; false if there is none
 abbrev pub is_birth : ℕ → Option ℕ → Bool
 is_birth birth None = false
 is_birth birth (Some b) = nat_eq b birth
 
--- How many of the calls have returned, where those that stand have these births: at a call's depth another one was born,
--- or none. They are the innermost ones, since a call outside of one that stands stands too.
+-- How many of the calls have returned, where the standing calls have these births: those at whose depth a call with
+-- another birth stands, or none. They are the innermost ones, since each call outside of a standing one stands too.
 abbrev pub closed_by : List ℕ → List Level → ℕ
 closed_by births [] = 0
 closed_by births (l ∷ ls) = cond (is_birth l.birth (slice_get births (length ls))) 0 (suc (closed_by births ls))

@@ -1,4 +1,4 @@
--- Reports whose paths are shared, and what is left of iterators over them.
+-- Reports whose paths are shared, and what iterators over them have left.
 use Rattle.std.specs.Prelude.{ℕ, List, ◌∷◌, ◌++◌, map, Option, Some, None}
 use Rattle.std.specs.List.{flat_map}
 use Rattle.hip_tree.specs.declared.site.Site.{Site}
@@ -26,7 +26,7 @@ reports_of checks = flat_map (λ c. map (report_at c.check_entry) c.stores.value
 abbrev pub reports_left : ℕ → List StoreReport → List CheckReports → List Report
 reports_left check stores checks = map (report_at check) stores ++ reports_of checks
 
--- the sites that are left of a path: the store's, unless it was given, and those of calls
+-- the sites that are left of a path: that of the store, if it was not given yet, and those of calls
 abbrev pub sites_left : Option Site → List Site → List Site
 sites_left None calls = calls
 sites_left (Some store) calls = store ∷ calls

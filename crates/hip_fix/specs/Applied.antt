@@ -15,8 +15,8 @@ use Rattle.hip_repairs.specs.Repaired.{repaired}
 use Rattle.hip_repairs.specs.declared.plan.Plan.{Plan}
 use Rattle.hip_repairs.specs.declared.repaired.Repaired.{Repaired}
 
--- The program repaired by a plan, with its clones; clones do not flush the stores to skip. It does no harm, and a fence
--- follows each hoisted call.
+-- r is the program repaired by a plan, with its clones; the clones do not flush the stores to skip. It does no harm,
+-- and a fence follows each hoisted call.
 pub record IsApplied (P : Program) (plan : Plan) (skip : Site → Bool) (r : Repaired) : Type 0 where
   pub program_is : r.checked ≡ repaired P plan skip
   pub clones_are : r.clones ≡ clone_numbers P plan

@@ -1,4 +1,4 @@
--- The direct stores, as one walk finds them by sets of names: of the volatile globals and, for each function, of the
+-- The direct stores, as one walk finds them by two sets of names: the volatile globals and, for each function, the
 -- registers that `alloca` assigns.
 use Rattle.std.specs.Prelude.{ℕ, suc, Bool, false, cond, List, [], ◌∷◌, ◌++◌}
 use Rattle.std.specs.List.{flat_map}
@@ -37,12 +37,12 @@ body_allocas is = flat_map allocated is
 abbrev pub alloca_names : List Block → List (List ℕ)
 alloca_names blocks = flat_map (λ b. body_allocas b.body) blocks
 
--- the constant is the address of one of these globals itself, and no `getelementptr`
+-- the constant is the name of one of these globals, and no `getelementptr`
 abbrev pub names_one_of : List (List ℕ) → Const-F Const ConstGep TypedConst → Bool
 names_one_of volatile (Const-F.Address name) = is_among volatile name
 names_one_of volatile _ = false
 
--- an address is one of these registers, or one of these globals itself
+-- an address is one of these registers, or the name of one of these globals
 abbrev pub lies_by : List (List ℕ) → List (List ℕ) → Operand → Bool
 lies_by volatile registers (Reg name) = is_among registers name
 lies_by volatile registers (Fixed value) = names_one_of volatile (out-Const value)
@@ -57,7 +57,7 @@ abbrev pub direct_in_function : List (List ℕ) → ℕ → Function → List Si
 direct_in_function volatile f x =
     passing_in_blocks (stores_by volatile (met bytes_eq [] (alloca_names x.blocks))) f 0 x.blocks
 
--- those of functions, the first of which has number f
+-- the same for a list of functions, the first of which has number f
 abbrev pub direct_in_functions : List (List ℕ) → ℕ → List Function → List Site
 direct_in_functions volatile f [] = []
 direct_in_functions volatile f (x ∷ xs) =

@@ -18,7 +18,7 @@ use Rattle.hip_lockstep.specs.declared.ended.Ended.{Ended}
 use Rattle.hip_following.specs.declared.compared.Followed.{Followed}
 use Rattle.hip_following.specs.declared.compared.Replayed.{Replayed}
 
--- The file, read to its end, is the trace of the run on the input that its header gives; nothing failed. As many
+-- The file, read to its end, is the trace of the run on the input that its header gives, and no read failed. As many
 -- entries were read as the trace has.
 pub record HasReplayed (P : Program) (r : ReaderState) (old new : CabinetState) (replayed : Replayed) : Type 0 where
   pub reading : IsReading old new
@@ -33,22 +33,22 @@ pub record HasReplayed (P : Program) (r : ReaderState) (old new : CabinetState) 
   pub count : r.count ≡ length trace
   pub progress : r.progress ≡ progresses.Ended
 
--- what is known of a run whose steps were compared, since a cabinet stood in a state
+-- what is known of a run whose steps were compared with the trace, from a state of the cabinet on
 abbrev pub FollowsSteps : Program → Input → CabinetState → ReaderState → CabinetState
     → Result Ended ReplayRefusal
     → Type 0
 FollowsSteps P I start r s (Ok done) = (n : ℕ) × HasFollowed P I start n r s done.entries done.ending
 FollowsSteps P I start r s (Err refusal) = Refuses P r start s refusal
 
--- The run was followed to its end, and found this.
+-- The run was followed to its end, with these findings.
 pub record HasFound (P : Program) (I : Input) (start : CabinetState) (r : ReaderState) (s : CabinetState)
     (followed : Followed) : Type 0 where
   pub steps : ℕ
   pub over : HasFollowed P I start steps r s followed.entries followed.ending
   pub found : IsFound P I followed.findings
 
--- what is known of a run whose steps were compared and noted, since a cabinet stood in a state; at its end, what it
--- found too
+-- what is known of a run whose steps were compared with the trace and noted, from a state of the cabinet on; at the end
+-- of the run also what it found
 abbrev pub Follows : Program → Input → CabinetState → ReaderState → CabinetState
     → Result Followed ReplayRefusal
     → Type 0

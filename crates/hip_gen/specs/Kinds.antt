@@ -22,7 +22,7 @@ kind_numbered n =
     else (if n == 2 then PersistentCall
     else VolatileCall))
 
--- the two lowest bits of what is left of a draw without its sixteen lowest ones
+-- the lowest two bits of a draw that is shifted right by 16
 abbrev pub kind_by : ℕ → Kind
 kind_by draw = kind_numbered (draw / 65536 % 4)
 

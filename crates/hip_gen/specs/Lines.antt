@@ -14,7 +14,7 @@ element_text name length index =
     codes "getelementptr ([" ++ (decimal length ++ (codes " x i64], ptr @" ++ (name ++ (codes ", i64 0, i64 "
     ++ (decimal index ++ codes ")")))))
 
--- the element of a group: in the persistent array the one of its number, in the volatile one modulo the length
+-- the text of the element of `@data` for a group: the element of its number
 abbrev pub persistent_element : ℕ → ℕ → List ℕ
 persistent_element size group = element_text (codes "data") size group
 
@@ -62,7 +62,7 @@ first_lines size =
     ++ (codes "define i32 @main() {\n"
     ++ codes "entry:\n"))))))))))
 
--- and after them
+-- and the text after them
 abbrev pub last_lines : List ℕ
 last_lines = codes "  ret i32 0\n" ++ codes "}\n"
 

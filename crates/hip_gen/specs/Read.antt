@@ -1,4 +1,4 @@
--- What a generated text is to the reader and to the checker.
+-- How the reader and the checker take a generated text.
 use Rattle.std.specs.Prelude.{ℕ, ◌≡◌}
 use Rattle.hip_grammar.specs.Reading.{Reads}
 use Rattle.hip_grammar.specs.Show.{show}
@@ -6,7 +6,7 @@ use Rattle.hip_sound.specs.Sound.{IsSound}
 use Rattle.hip_gen.specs.Generated.{generated_program}
 use Rattle.hip_gen.specs.Lines.{generated_text}
 
--- The text for a seed and a size is the canonical text of the generated program and is read as it, and that program is
+-- The text for a seed and a size is the canonical text of the generated program and reads as that program, which is
 -- sound.
 pub record IsReadAsSound (seed size : ℕ) : Type 0 where
   pub canonical : generated_text seed size ≡ show (generated_program seed size)

@@ -22,11 +22,11 @@ pub record IsBase (base : ℕ) : Type 0 where
   pub low : LOWEST_BASE ≤ base
   pub high : base ≤ HIGHEST_BASE
 
--- whether it is one
+-- whether the number is such a base
 abbrev pub is_base : ℕ → Bool
 is_base base = (base % BASE_ALIGNMENT == 0) && (nat_le LOWEST_BASE base && nat_le base HIGHEST_BASE)
 
--- the greater of its type's alignment and its own
+-- the greater of a type's alignment and the written one, if one is written
 abbrev with_own : Option ℕ → ℕ → ℕ
 with_own None natural = natural
 with_own (Some n) natural = max n natural
@@ -39,14 +39,14 @@ global_align g = with_own g.align (shape g.ty).align
 abbrev pub global_start : ℕ → GlobalVar → ℕ
 global_start at g = next_multiple_of at (global_align g)
 
--- where those of these globals that are persistent, or that are not, end if they are laid from `at` on
+-- where these globals end that are persistent, or those that are not, if they are laid from `at` on
 abbrev pub end_of : Bool → ℕ → List GlobalVar → ℕ
 end_of persistent at [] = at
 end_of persistent at (g ∷ gs) =
     end_of persistent (if same_truth g.persistent persistent then global_start at g + (shape g.ty).size else at) gs
 
--- where the global of that number, counted from 0 among all, begins, if those before it that are persistent, or that
--- are not, are laid from `at` on; where these end if no global has the number
+-- where the global of that number, counted from 0 among all, begins, if the persistent ones before it, or the others,
+-- are laid from `at` on; where these end if no global has the number
 abbrev pub start_of : Bool → ℕ → List GlobalVar → ℕ → ℕ
 start_of persistent at [] number = at
 start_of persistent at (g ∷ gs) zero = global_start at g

@@ -1,4 +1,4 @@
--- Constants: the types that are written in them, and the numbers that their indices are.
+-- Constants: the types that are written in them, and the values of their indices.
 use Rattle.std.specs.Prelude.{ℕ, List, [], ◌∷◌, ◌++◌}
 use Rattle.hip_types.specs.declared.number.Bits.{Bits}
 use Rattle.hip_types.specs.declared.ty.Ty.{Ty}

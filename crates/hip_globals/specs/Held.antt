@@ -1,4 +1,4 @@
--- Where the bytes of a global are among those of all.
+-- Where the bytes of a global lie among the bytes of all globals.
 use Rattle.std.specs.Prelude.{ℕ, ◌-◌, ◌≡◌, Bool, true, List, take, drop, length, Some, slice_get}
 use Rattle.hip_tree.specs.declared.program.GlobalVar.{GlobalVar}
 use Rattle.hip_tree.specs.declared.program.Program.{Program}

@@ -1,4 +1,4 @@
--- What the functions that lay the bytes of globals go by: an item of a constant, and types that fit.
+-- What the functions that lay the bytes of globals use: the bytes of an item of a constant, and types that fit.
 use Rattle.std.specs.Prelude.{ℕ, ◌<◌, List, ◌∷◌, All, length, get_or}
 use Rattle.hip_types.specs.declared.ty.Ty.{Ty}
 use Rattle.hip_types.specs.Layout.{Fits}

@@ -20,8 +20,8 @@ abbrev pub global_address : List GlobalVar → ℕ → List ℕ → ℕ
 global_address globals base name =
     unwrap_or (option_map (address_in globals base) (number_of (map (λ g. g.name) globals) name)) 0
 
--- The address of an element: from a base by the offset of a path into a type, modulo 2 ^ 64; the base where there is no
--- such path. (LLVM, "getelementptr".)
+-- The address of an element: the base plus the offset of a path into a type, modulo 2 ^ 64; the base alone where there
+-- is no such path. (LLVM, "getelementptr".)
 abbrev pub element_address : ℕ → Ty → List ℕ → ℕ
 element_address base ty path = (base + unwrap_or (gep_of ty path) 0) % 2 ^ 64
 
@@ -40,11 +40,11 @@ abbrev pub aligned : ℕ → ℕ → List ℕ → List ℕ
 aligned start align bytes =
     bytes ++ replicate (next_multiple_of (start + length bytes) align - (start + length bytes)) 0
 
--- exactly as many bytes as the size: cut, or with zeros after them
+-- exactly as many bytes as the size: the first ones, or all with zeros after them
 abbrev pub sized : ℕ → List ℕ → List ℕ
 sized size bytes = take size bytes ++ replicate (size - length bytes) 0
 
--- bytes with the alignment of what they are the bytes of
+-- the bytes of an item, with the alignment of its type
 pub record Piece : Type 0 where
   pub align : ℕ
   pub bytes : List ℕ

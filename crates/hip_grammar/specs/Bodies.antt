@@ -222,7 +222,7 @@ plain_call dest = do
   args ← listed comma (is_mark (byte ")")) arg
   gives (instrs.Call dest result callee args)
 
--- [ "tail" ] "call" .., where "tail" says nothing that is kept (LLVM, "call": a hint)
+-- [ "tail" ] "call" .., where "tail" is dropped (LLVM, "call": a hint)
 unfoldable pub call : Option (List ℕ) → Part Fault Instr
 call dest = do
   _ ← optional (is_word (codes "tail")) (word (codes "tail"))

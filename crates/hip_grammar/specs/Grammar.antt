@@ -77,7 +77,7 @@ unfoldable pub type_by : Part Fault Ty → Part Fault Ty → Part Fault Ty
 type_by array struct =
     either (is_mark (byte "[")) array (either (is_mark (byte "{")) struct (token (a_word_of type_word)))
 
--- nested at most so deep: where no level is left, an opening bracket or brace is too deep
+-- a type nested at most n levels deep: where no level is left, an opening bracket or brace is too deep
 unfoldable pub type_within : ℕ → Part Fault Ty
 type_within zero = type_by (token (too_deep (byte "["))) (token (too_deep (byte "{")))
 type_within (suc n) = type_by (array_type (type_within n)) (struct_type (type_within n))
@@ -172,7 +172,7 @@ const_by elements fields Ty-F.Ptr = pointer_const
 const_by elements fields (Ty-F.Array n e) = either (is_mark (byte "[")) (array_const elements) (token zero_const)
 const_by elements fields (Ty-F.Struct fs) = either (is_mark (byte "{")) (struct_const fields) (token zero_const)
 
--- bracketed and braced constants nested at most so deep
+-- bracketed and braced constants nested at most n levels deep
 unfoldable pub const_within : ℕ → Ty → Part Fault Const
 const_within zero ty = const_by (token (too_deep (byte "["))) (token (too_deep (byte "{"))) (out-Ty ty)
 const_within (suc n) ty =

@@ -1,5 +1,5 @@
--- Which trees some text reads as, by rules on the tree alone: production by production, what the grammar asks and the
--- types of the tree do not.
+-- Which trees some text reads as, by rules on the tree alone: for each production, what the grammar requires beyond the
+-- types of the tree.
 use Rattle.std.specs.Prelude.{ℕ, ◌+◌, zero, suc, Bool, true, false, not, ◌&&◌, ◌||◌, ◌==◌, nat_lt, List, [], ◌∷◌, Option, Some, None}
 use Rattle.std.specs.List.{list_all}
 use Rattle.hip_types.specs.Widths.{bits_of}
@@ -51,7 +51,7 @@ spelled_align (Some n) = is_alignment n
 
 -- ---- types
 
--- where no level is left: neither an array nor a struct
+-- where no level is left: a type that is neither an array nor a struct
 abbrev pub spelled_flat : Ty-F Ty → Bool
 spelled_flat (Ty-F.Int w) = true
 spelled_flat Ty-F.Ptr = true
@@ -65,7 +65,7 @@ spelled_level inner Ty-F.Ptr = true
 spelled_level inner (Ty-F.Array n element) = nat_lt n (LARGEST_COUNT + 1) && inner element
 spelled_level inner (Ty-F.Struct fields) = list_all inner fields
 
--- arrays and structs nested at most so deep
+-- arrays and structs nested at most n levels deep
 unfoldable pub spelled_type_within : ℕ → Ty → Bool
 spelled_type_within zero t = spelled_flat (out-Ty t)
 spelled_type_within (suc n) t = spelled_level (spelled_type_within n) (out-Ty t)
@@ -145,7 +145,7 @@ spelled_const_by inner (Ty-F.Struct fields) c = spelled_struct inner (out-Const 
 abbrev pub spelled_item : (Ty → Const → Bool) → TypedConst → Bool
 spelled_item value item = spelled_type item.ty && value item.ty item.value
 
--- bracketed and braced lists nested at most so deep
+-- bracketed and braced lists nested at most n levels deep
 unfoldable pub spelled_const_within : ℕ → Ty → Const → Bool
 spelled_const_within zero ty c = spelled_const_by (λ items. false) (out-Ty ty) c
 spelled_const_within (suc n) ty c = spelled_const_by (list_all (spelled_item (spelled_const_within n))) (out-Ty ty) c

@@ -16,7 +16,7 @@ use Rattle.hip_grammar.specs.Numbers.{an_alignment}
 use Rattle.hip_grammar.specs.Grammar.{word, mark, scalar, type, const}
 use Rattle.hip_grammar.specs.Bodies.{ret, maybe_align, block}
 
--- what a text is a list of; `source_filename` and `target` are read and dropped
+-- the items of which a text is a list; `source_filename` and `target` are read and dropped
 pub data Item : Type 0 where
   GlobalItem : GlobalVar → Item
   ExternItem : Extern → Item
@@ -65,7 +65,7 @@ only_align = do
   n ← token an_alignment
   gives (false, Some n)
 
--- [ "," "section" STRING ] [ align ], where something stands: both begin by the comma, which is taken once
+-- [ "," "section" STRING ] [ align ], where at least one is written: both begin with the comma, which is read once
 unfoldable pub placement : Part Fault (Bool × Option ℕ)
 placement = do
   _ ← mark (byte ",")

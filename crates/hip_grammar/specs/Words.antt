@@ -50,7 +50,7 @@ is_label _ = false
 abbrev pub comma : Tok → Bool
 comma = is_mark (byte ",")
 
--- any LOCAL, GLOBAL, LABEL, STRING, by its name or its bytes
+-- any LOCAL, by its name without `%`
 abbrev pub a_local : Tok → Verdict Fault (List ℕ)
 a_local (Local t) = Yes t
 a_local _ = No
@@ -131,7 +131,7 @@ ret_text (Some s) = scalar_text s
 abbrev pub ret_word : List ℕ → Option (Option Scalar)
 ret_word t = if bytes_eq t (codes "void") then Some None else option_map (λ s. Some s) (scalar_word t)
 
--- the same type, among the types of values in memory
+-- the scalar type as a type of values in memory
 abbrev pub type_of : Scalar → Ty
 type_of (scalars.Int w) = types.Int w
 type_of scalars.Ptr = types.Ptr
@@ -231,7 +231,7 @@ may_be_exact ops.Lshr = true
 may_be_exact ops.Ashr = true
 may_be_exact _ = false
 
--- `nuw` or `nsw` after one, `exact` after the other
+-- `nuw` and `nsw` after an operation that may wrap, `exact` after one that may be exact
 abbrev pub flags_after : BinaryOp → List Flag
 flags_after op = if may_wrap op then Nuw ∷ Nsw ∷ [] else (if may_be_exact op then Exact ∷ [] else [])
 

@@ -32,8 +32,8 @@ repaired_on P [] = P
 repaired_on P (r ∷ rs) = repaired_on (repaired P r.plan r.skip) rs
 
 -- The calls that a repair of P hoisted in Q stay covered in R, whose run goes along Q's. Take the step of R that
--- corresponds to a fence of Q directly after a call of a clone: after it, each part of a store that R made since that
--- call is durable.
+-- corresponds to a fence of Q directly after a call of a clone: after that step, each part of a store that R made since
+-- the call is durable.
 abbrev pub StaysCovered : Program → Program → Program → Type 0
 StaysCovered P Q R =
     (original : ℕ → ℕ) (I : Input) → IsValid Q I → (along : GoesAlong original Q R I) → (j n : ℕ) →
@@ -52,9 +52,9 @@ pub record LastsOn (P Q : Program) (I : Input) : Type 0 where
 
 -- ---- repairs one after another
 
--- What every chain of repairs keeps that makes Q of P, by whatever plans: Q is sound and does no harm in the place of
--- P. A clean run stays clean, no crash history is added, one in which no crash loses anything stays, and each run
--- ends as P's.
+-- What every chain of repairs from P to Q keeps, whatever its plans: Q is sound and does no harm in the place of P. A
+-- clean run stays clean, no crash history is added, a history in which no crash loses anything stays, and each run ends
+-- as P's.
 pub record KeepsProgram (P Q : Program) : Type 0 where
   pub sound : IsSound Q
   pub harmless : DoesNoHarm P Q

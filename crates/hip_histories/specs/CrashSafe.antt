@@ -1,4 +1,4 @@
--- What a repair is worth over crashes and over later repairs. (This project's own.)
+-- What a repair guarantees over crashes and over later repairs. (This project's own.)
 use Rattle.std.specs.Prelude.{Bool}
 use Rattle.hip_tree.specs.declared.program.Program.{Program}
 use Rattle.hip_tree.specs.declared.site.Site.{Site}

@@ -1,4 +1,4 @@
--- What an `Image` shows.
+-- The bytes of an `Image`.
 use Rattle.std.specs.Prelude.{ℕ, ◌+◌, ◌^◌, ◌<◌, List, ◌++◌, length, replicate}
 use Rattle.hip_image.specs.declared.image.Image.TheInside.{Inside}
 
@@ -6,6 +6,6 @@ use Rattle.hip_image.specs.declared.image.Image.TheInside.{Inside}
 abbrev pub bytes_in : Inside → List ℕ
 bytes_in i = i.stored.items ++ replicate i.zeros 0
 
--- their number is a `usize`
+-- the number of bytes is a `usize`
 pub record IsImage (i : Inside) : Type 0 where
   pub fits : length i.stored.items + i.zeros < 2 ^ 64

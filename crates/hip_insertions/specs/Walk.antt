@@ -26,11 +26,11 @@ wanted_in r =
       skip = has_site r.skip;
     }
 
--- no inserted call so far
+-- no function is named by an inserted call yet
 abbrev pub none_needed : Needed
 none_needed = record { clwb = false; sfence = false; pmem_flush = false }
 
--- the functions that inserted calls name, once these instructions are there too
+-- the functions that inserted calls name, after these instructions were added
 abbrev pub noted : Needed → List Marked → Needed
 noted n ms =
     record {
@@ -43,11 +43,11 @@ noted n ms =
 abbrev pub grown : Body → List Marked → Body
 grown body ms = record { instrs = body.instrs ++ instrs_of ms; needed = noted body.needed ms }
 
--- no function so far
+-- no function is made yet
 abbrev pub none_made : Made
 none_made = record { functions = []; needed = none_needed }
 
--- what is made after these functions were added, which have these instructions
+-- what is made after these functions, which have these instructions, were added
 abbrev pub with_functions : Made → List Function → List Marked → Made
 with_functions made functions ms = record { functions = made.functions ++ functions; needed = noted made.needed ms }
 
@@ -61,7 +61,7 @@ marked_blocks clones w clone f b [] = []
 marked_blocks clones w clone f b (x ∷ xs) =
     repaired_body clones w clone f b 0 x.body ++ marked_blocks clones w clone f (suc b) xs
 
--- those of functions, the first of which has number f
+-- the same for functions, the first of which has number f
 abbrev pub marked_functions : List Clone → Wanted → ℕ → List Function → List Marked
 marked_functions clones w f [] = []
 marked_functions clones w f (x ∷ xs) =
@@ -72,7 +72,7 @@ abbrev pub marked_clone : List Clone → Wanted → ℕ → Option Function → 
 marked_clone clones w f None = []
 marked_clone clones w f (Some x) = marked_blocks clones w true f 0 x.blocks
 
--- those of the clones of functions
+-- the same for the clones of these functions
 abbrev pub marked_clones : Program → List Clone → Wanted → List ℕ → List Marked
 marked_clones P clones w fs = flat_map (λ f. marked_clone clones w f (slice_get P.functions f)) fs
 

@@ -1,4 +1,4 @@
--- How far the indices of a `getelementptr` lead, one after another.
+-- How far the indices of a `getelementptr` lead, index by index.
 use Rattle.std.specs.Prelude.{ℕ, ◌⊎◌, ◌+◌, ◌*◌, ◌%◌, ◌^◌, ◌≡◌, List, [], ◌∷◌, ◌++◌, drop}
 use Rattle.hip_types.specs.declared.ty.Ty.{Ty}
 use Rattle.hip_tree.specs.declared.instr.Arg.{Arg}
@@ -12,7 +12,7 @@ use Rattle.hip_scope.specs.Scopes.{names_of}
 use Rattle.hip_instr_ops.specs.declared.path.Path.{Path}
 use Rattle.hip_scope.specs.declared.scope.Scope.{Scope}
 
--- a constant index goes over that number of values of a size; another one gives a term
+-- a constant index steps over that number of values of a size; another index gives a term
 abbrev pub is_over : Scope → List ℕ → Arg → ℕ → ℕ → List Term → Type 0
 is_over s constants a size far more =
     ((index : ℕ) × IsFixed s.program.now.globals s.base a index × (far ≡ index * size) × (more ≡ []))
@@ -24,7 +24,7 @@ pub record GoesOn (old new : Path) (far : ℕ) (more : List Term) : Type 0 where
   pub offset : new.offset % 2 ^ 64 ≡ (old.offset + far) % 2 ^ 64
   pub terms : new.terms ≡ old.terms ++ more
 
--- an index goes over values of a size
+-- an index steps over values of a size
 pub record Steps (s : Scope) (a : Arg) (size : ℕ) (old new : Path) : Type 0 where
   pub far : ℕ
   pub more : List Term
@@ -35,7 +35,7 @@ pub record Steps (s : Scope) (a : Arg) (size : ℕ) (old new : Path) : Type 0 wh
 abbrev pub leads : Scope → List ℕ → Ty → List Arg → ℕ → List Term → Type 0
 leads s constants t args offset terms = is_path s.program.now.globals s.base (names_of s) constants t args offset terms
 
--- an index enters a part of a type: what leads on from there, leads on from here
+-- an index enters a part of a type: indices that lead from the part on, lead with this one before them from the type on
 pub record Enters (s : Scope) (t : Ty) (a : Arg) (part : Ty) (old new : Path) : Type 0 where
   pub far : ℕ
   pub more : List Term
@@ -43,7 +43,7 @@ pub record Enters (s : Scope) (t : Ty) (a : Arg) (part : Ty) (old new : Path) : 
   pub on : (constants : List ℕ) (rest : List Arg) (offset : ℕ) (terms : List Term) →
       leads s constants part rest offset terms → leads s constants t (a ∷ rest) (far + offset) (more ++ terms)
 
--- the indices before one of them lead to a part: what leads on from there, leads from the start
+-- the indices before number k lead to a part: if the others lead on from that part, all lead from the start
 pub record Reaches (s : Scope) (t : Ty) (args : List Arg) (k : ℕ) (part : Ty) (path : Path) : Type 0 where
   pub whole : ℕ
   pub offset : path.offset % 2 ^ 64 ≡ whole % 2 ^ 64
@@ -51,14 +51,14 @@ pub record Reaches (s : Scope) (t : Ty) (args : List Arg) (k : ℕ) (part : Ty) 
       → leads s constants part (drop k args) offset terms →
       IsGep s.program.now.globals s.base (names_of s) constants t args (whole + offset) (path.terms ++ terms)
 
--- all indices
+-- all indices lead to what the path has
 pub record Leads (s : Scope) (t : Ty) (args : List Arg) (path : Path) : Type 0 where
   pub whole : ℕ
   pub offset : path.offset % 2 ^ 64 ≡ whole % 2 ^ 64
   pub is : (constants : List ℕ) →
       IsGep s.program.now.globals s.base (names_of s) constants t args whole path.terms
 
--- the op of an address, which indices lead to from a base
+-- the op of the address to which indices lead from a base
 abbrev pub is_address : Tables → Operand → ℕ → List Term → Gep → Type 0
 is_address t base offset terms (geps.Fixed b o) = (b ≡ base) × (o ≡ offset) × (terms ≡ [])
 is_address t base offset terms (geps.Scaled b index width scale o) =

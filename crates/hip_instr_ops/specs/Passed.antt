@@ -25,7 +25,7 @@ pub record Passes (s : Scope) (t u : Tables) (args : List Arg) : Type 0 where
   pub are : u.moves ≡ t.moves ++ moves
   pub makes : Makes t u (λ v. are_passed s v 0 moves args)
 
--- the callee is a function that takes n arguments
+-- the callee is a function that takes as many arguments as there are
 pub record Calls (P : Program) (callee : List ℕ) (args : List Arg) : Type 0 where
   pub number : ℕ
   pub function : Function

@@ -6,9 +6,9 @@ use Rattle.hip_runs.specs.declared.input.Input.{Input}
 use Rattle.hip_runs.specs.Ends.{longest}
 use Rattle.hip_runs.specs.Step.{header_entries, run}
 
--- After n steps: a block's body and its end, at most, for each turn of the limit and once more; at most one entry for
--- each step after those of the header, which has two, one for each number, and at most one for each cache line. (This
--- project's own.)
+-- After n steps. Each turn of the limit, and one turn more, allows at most the steps of the longest body and of its
+-- end. Each step has at most one entry, after those of the header: two, one for each number, and at most one for each
+-- cache line. (This project's own.)
 pub record IsBounded (P : Program) (I : Input) (n : ℕ) : Type 0 where
   pub steps : (run P I n).counts.steps ≤ suc I.limit * suc (longest P)
   pub entries : (run P I n).counts.entries ≤ header_entries I + (run P I n).counts.steps

@@ -1,4 +1,4 @@
--- What it is that a fact holds of all frames that stand.
+-- What it means that a fact holds of all standing frames.
 use Rattle.std.specs.Prelude.{◌≡◌, ℕ, List, [], ◌∷◌, Option}
 use Rattle.hip_runs.specs.Operands.{look_up}
 use Rattle.hip_runs.specs.State.{Frame}

@@ -31,25 +31,25 @@ pub record ReadsAssigned (P : Program) (f : Frame) : Type 0 where
       All (IsAmong (assigned_names f.registers)) (used_registers (instr_uses i))
   pub last : (e : End) → code_at P f ≡ [] → end_at P f ≡ Some e →
       All (IsAmong (assigned_names f.registers)) (used_registers (end_uses e))
-  -- the operands that the phis of a block have for control from the frame's block
+  -- the same for the operands that the phis of a block have for control from the frame's block
   pub phis : (c j m : ℕ) (to : Block) (p : Phi) (e : Edge) → code_at P f ≡ []
       → block_at P f.function c ≡ Some to →
       slice_get to.phis j ≡ Some p → slice_get p.edges m ≡ Some e →
       e.label ≡ label_of (block_at P f.function f.block) →
       All (IsAmong (assigned_names f.registers)) (operand_registers e.value)
-  -- and each of these phis has an operand for it
+  -- each of these phis has such an operand
   pub edges : (e : End) (c j : ℕ) (to : Block) (p : Phi) → end_at P f ≡ Some e
       → block_at P f.function c ≡ Some to →
       IsAmong (end_labels e) to.label → slice_get to.phis j ≡ Some p →
       IsAmong (edge_labels p.edges) (label_of (block_at P f.function f.block))
 
--- After n steps: a frame stands; each register that was assigned on the way to a frame's place has a value, but the one
--- that waits for a call's result; the next step reads no other register, and only values that fit their types; and it
--- traps as unreachable only at an `unreachable`. (The progress of a typed machine: Wright and Felleisen, 1994.)
+-- After n steps: a frame stands; each register that was assigned on the way to a frame's place has a value, except the
+-- one that waits for a call's result; the next step reads no other register, and only values that fit their types; and
+-- it traps as unreachable only at an `unreachable`. (The progress of a typed machine: Wright and Felleisen, 1994.)
 pub record IsNeverStuck (P : Program) (I : Input) (n : ℕ) : Type 0 where
   pub frame : (f : Frame) × (fs : List Frame) × ((run P I n).frames ≡ f ∷ fs)
   pub frames : frames_hold (top_is_reached P) (caller_is_reached P) (main_number P) (run P I n).frames
-  -- a register that each path to the place of the frame on top assigns
+  -- a register that each path to the place of the top frame assigns has a value
   pub assigned : (f : Frame) (fs : List Frame) (fn : Function) (name : List ℕ) → IsTop (run P I n) f fs →
       slice_get P.functions f.function ≡ Some fn → IsAssigned fn f.block (Before f.place) name →
       IsAmong (assigned_names f.registers) name

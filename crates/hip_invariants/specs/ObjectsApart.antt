@@ -14,7 +14,7 @@ use Rattle.hip_runs.specs.State.{Slot, Frame}
 abbrev pub slots_of : List Frame → List Slot
 slots_of frames = flat_map (λ f. f.slots) frames
 
--- the global of a number is there and contains an address; so for a block on the stack
+-- the global of that number is there and contains the address
 abbrev pub GlobalHas : Program → ℕ → ℕ → GlobalVar → ℕ → Type 0
 GlobalHas P base k g a = (slice_get P.globals k ≡ Some g)
     × (range_contains (address P base k) (shape g.ty).size a ≡ true)
@@ -23,8 +23,8 @@ GlobalHas P base k g a = (slice_get P.globals k ≡ Some g)
 abbrev pub SlotHas : List Frame → ℕ → Slot → ℕ → Type 0
 SlotHas frames j x a = (slice_get (slots_of frames) j ≡ Some x) × (range_contains x.addr x.size a ≡ true)
 
--- Two globals that contain an address are one, and so are two blocks of these frames; a global and a block do not both
--- contain one; and the object that an address points into is the one that contains it. (This project's own.)
+-- Two globals that contain the same address are one, and so are two blocks of these frames. No global and block contain
+-- the same address. The object that an address points into is the one that contains it. (This project's own.)
 pub record AreApart (P : Program) (base : ℕ) (frames : List Frame) : Type 0 where
   pub globals : (j k a : ℕ) (g h : GlobalVar) → GlobalHas P base j g a → GlobalHas P base k h a → j ≡ k
   pub slots : (j k a : ℕ) (x y : Slot) → SlotHas frames j x a → SlotHas frames k y a → j ≡ k

@@ -33,12 +33,12 @@ use Rattle.hip_runs.specs.Actions.{index_value}
 use Rattle.hip_runs.specs.State.{Frame}
 use Rattle.hip_invariants.specs.FrameFacts.{each_register}
 
--- A number of steps of less than 64 MiB past the stack's end; none where nothing is known of the pointer, which is
--- the greatest level. (This project's own, as all of this file.)
+-- How many steps of less than 64 MiB a pointer may lie past the stack's end. None, the greatest level, is for a pointer
+-- of which nothing is known. (This project's own, as all of this file.)
 abbrev pub PointerLevel : Type 0
 PointerLevel = Option ℕ
 
--- A value is at most the greatest of its level.
+-- A value is at most the greatest value of its level.
 abbrev pub within_level : PointerLevel → ℕ → Type 0
 within_level None v = Unit {0}
 within_level (Some t) v = v ≤ stack_end + 67108864 * t
@@ -49,7 +49,7 @@ is_at_most a None = Unit {0}
 is_at_most None (Some u) = ⊥
 is_at_most (Some t) (Some u) = t ≤ u
 
--- The level after an offset: the same after none, one more after less than 64 MiB where it is below 32, else none.
+-- The level after an offset: the same after 0; one more after less than 64 MiB, if the level is below 32; else none.
 abbrev pub behind_offset : PointerLevel → ℕ → PointerLevel
 behind_offset None offset = None
 behind_offset (Some t) offset =
@@ -57,7 +57,7 @@ behind_offset (Some t) offset =
 
 -- ---- constants
 
--- the level of the global of a number: none where it is persistent, else 0; 0 too where the name has no number
+-- the level of the global of a number: none if it is persistent, else 0; 0 too if the name has no number
 abbrev pub number_level : List GlobalVar → Option ℕ → PointerLevel
 number_level globals None = Some 0
 number_level globals (Some k) = cond (is_persistent globals k) None (Some 0)
@@ -75,16 +75,17 @@ level_step names (Const-F.Address name) = names name
 level_step names (Const-F.Gep level) = level
 level_step names _ = None
 
--- the level of a constant `getelementptr`, from its base's: that after its offset, 0 where there is no such element
+-- the level of a constant `getelementptr`, from its base's: the level after its offset, which is 0 where there is no
+-- such element
 abbrev pub gep_level_step : ConstGep-F PointerLevel PointerLevel PointerLevel → PointerLevel
 gep_level_step gep = behind_offset gep.base (unwrap_or (gep_of gep.ty (map index_of gep.indices)) 0)
 
--- the level of an item of an array or a struct: its constant's, on which no level depends
+-- the level of an item of an array or a struct: that of its constant; no other level depends on it
 abbrev pub item_level_step : TypedConst-F PointerLevel PointerLevel PointerLevel → PointerLevel
 item_level_step item = item.value
 
--- The level of a constant: 0 for `null` and `zeroinitializer`, a global's own, that after its offset for a
--- `getelementptr`.
+-- The level of a constant: 0 for `null` and `zeroinitializer`, a global's own level, and for a `getelementptr` the
+-- level after its offset.
 abbrev pub const_level : List GlobalVar → Const → PointerLevel
 const_level globals =
     fold-Const PointerLevel PointerLevel PointerLevel (level_step (global_level globals)) gep_level_step item_level_step
@@ -108,7 +109,7 @@ abbrev pub known_index : Scalar → Operand → Option ℕ
 known_index ty (Reg name) = None
 known_index ty (Fixed c) = constant_index ty (out-Const c)
 
--- the value of an index in front of those after it, where all of them have one
+-- the value of an index before those of the indices after it, if all have one
 abbrev pub both : Option ℕ → Option (List ℕ) → Option (List ℕ)
 both (Some i) (Some is) = Some (i ∷ is)
 both _ _ = None
@@ -118,18 +119,18 @@ abbrev pub known_path : List Arg → Option (List ℕ)
 known_path [] = Some []
 known_path (a ∷ args) = both (known_index a.ty a.value) (known_path args)
 
--- The level of a `getelementptr` from a level on: none where an index has no value, else that after its offset.
+-- The level after a `getelementptr` from this level: none if an index has no value, else the level after its offset.
 abbrev pub gep_level : PointerLevel → Ty → Option (List ℕ) → PointerLevel
 gep_level a ty None = None
 gep_level a ty (Some path) = behind_offset a (unwrap_or (gep_of ty path) 0)
 
 module _ (P : Program) (L : Levels) (g : ℕ) where
-  -- the level of an operand: its register's, or its constant's
+  -- the level of an operand: that of its register or of its constant
   abbrev pub operand_level : Operand → PointerLevel
   operand_level (Reg name) = L.register g name
   operand_level (Fixed c) = const_level P.globals c
 
-  -- the register that a result goes into, if any, has at least this level
+  -- the register that a result goes into, if there is one, has at least this level
   abbrev pub goes_into : PointerLevel → Option (List ℕ) → Type 0
   goes_into a None = Unit {0}
   goes_into a (Some dest) = is_at_most a (L.register g dest)
@@ -140,7 +141,8 @@ module _ (P : Program) (L : Levels) (g : ℕ) where
       is_at_most (operand_level a.value) (L.register h p.name) × args_are_at_most h ps args
   args_are_at_most h ps args = Unit {0}
 
-  -- What is read has no level, and the result of a call has at least its function's.
+  -- The register that takes a number that is read has level none, and one that takes the result of a call at least the
+  -- level of that result.
   pub record CallIsClosed (dest : Option (List ℕ)) (callee : List ℕ) (args : List Arg) : Type 0 where
     pub read : call_of callee ≡ Some calls.ReadI64 → goes_into None dest
     pub enter : (h : ℕ) (fn : Function) → call_of callee ≡ None → function_number P callee ≡ Some h →

@@ -14,13 +14,13 @@ use Rattle.hip_runs.specs.State.{Registers, Frame}
 abbrev pub assigned_names : Registers → List (List ℕ)
 assigned_names rs = map (λ (r : List ℕ × ℕ). r.0) rs
 
--- A register has a value, or it is the one that waits for the result of a call.
+-- A register has a value, or it waits for the result of a call.
 abbrev pub has_or_awaits : Registers → Option (List ℕ) → List ℕ → Type 0
 has_or_awaits rs awaited name = IsAmong (assigned_names rs) name ⊎ (awaited ≡ Some name)
 
--- The place before instruction k of block b of function g is reached by a path from the entry block, and each register
--- that is assigned on that path has a value, but for one that waits for the result of a call. (LLVM, "well-formedness":
--- a definition dominates its uses.)
+-- A path from the entry block reaches the place before instruction k of block b of function g. Each register that is
+-- assigned on that path has a value, except one that waits for the result of a call. (LLVM, "well-formedness": a
+-- definition dominates its uses.)
 pub record IsReached (P : Program) (awaited : Option (List ℕ)) (g b k : ℕ) (rs : Registers) : Type 0 where
   pub fn : Function
   pub here : slice_get P.functions g ≡ Some fn

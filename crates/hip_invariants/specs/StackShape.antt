@@ -20,15 +20,15 @@ have_calls [] = Unit {0}
 have_calls (f ∷ []) = (f.level ≡ None)
 have_calls (f ∷ (g ∷ fs)) = ((l : Level) × (f.level ≡ Some l)) × have_calls (g ∷ fs)
 
--- The frames under a stack mark: all lies in order below it, and it is at most the stack's end; at most 16,384 frames
--- stand; and each but the bottom one has its call. (This project's own limits.)
+-- The frames under a stack mark: all blocks and marks lie in order below it, and it is at most the stack's end; at most
+-- 16,384 frames stand; and each but the bottom one has its call. (This project's own limits.)
 pub record HasShape (mark : ℕ) (fs : List Frame) : Type 0 where
   pub in_order : lie_in_order mark fs
   pub within : mark ≤ stack_end
   pub few : length fs ≤ MOST_FRAMES
   pub calls : have_calls fs
 
--- The stack of a state has this shape, and one call fewer than frames.
+-- The stack of a state has this shape, and one call fewer than it has frames.
 pub record StackIsShaped (s : State) : Type 0 where
   pub is : HasShape s.world.mark s.frames
   pub levels : suc (length (levels_of s.frames)) ≡ length s.frames

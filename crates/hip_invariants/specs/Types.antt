@@ -60,7 +60,7 @@ RegistersFit P fs = each_register (FitsType P) fs
 abbrev pub OperandFits : Program → Input → Registers → Use → Type 0
 OperandFits P I rs u = value_of P.globals I.base rs u.operand < modulus (width_of u.ty)
 
--- The operands fit that the frame's next step may read: those of its instruction, of its block's end, and of phis.
+-- The operands that the frame's next step may read fit: those of its instruction, of its block's end, and of phis.
 pub record OperandsFit (P : Program) (I : Input) (f : Frame) : Type 0 where
   pub body : (i : Instr) (rest : List Instr) → code_at P f ≡ i ∷ rest
       → All (OperandFits P I f.registers) (instr_uses i)
@@ -74,8 +74,7 @@ abbrev pub CodeFits : Program → Input → ℕ → Type 0
 CodeFits P I n = (f : Frame) (arg : Option Arg) → IsTop (run P I n) f [] → end_at P f ≡ Some (ends.Ret arg) →
     returned P.globals I.base f.registers arg < modulus W32
 
--- Values that fit are the same where they are cut to their widths: in comparisons, in indices and in the code of a
--- stop.
+-- Cutting values to their widths does not change those that fit: in comparisons, in indices and in the code of a stop.
 pub record AreUncut : Type 0 where
   pub compared : (pred : Pred) (w : Width) (a b : ℕ) → a < modulus w → b < modulus w →
       holds pred w (bits w a).value (bits w b).value ≡ holds pred w a b

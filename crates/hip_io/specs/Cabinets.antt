@@ -8,8 +8,8 @@ use Rattle.hip_io.specs.declared.cabinet.Fetched.TheVariants as fetched
 use Rattle.hip_io.specs.declared.cabinet.Taken.{Taken}
 use Rattle.hip_io.specs.declared.cabinet.Taken.TheVariants as taken
 
--- Whether a file is current is always known. The files, and the name and the rest of the current one, are seen
--- where the cabinet tells them. Fetches, misses and faults are counted.
+-- Whether a file is current is always known. The files, and the name and the rest of the current one, may be known;
+-- they are None where they are not. Fetches, misses and faults are counted.
 pub record CabinetState : Type 0 where
   pub files : Option (List NamedFile)
   pub is_current : Bool
@@ -45,7 +45,7 @@ pub record IsFetched (old new : CabinetState) (name : List ℕ) : Type 0 where
   pub named : IfSome new.name (λ n. n ≡ name)
   pub told : IfSome old.files (λ files. IsFirstFile files name new)
 
--- No file has the name, as far as the cabinet tells; none is current.
+-- No file has the name, if the files are known; none is current.
 pub record IsMissed (old new : CabinetState) (name : List ℕ) : Type 0 where
   pub files : new.files ≡ old.files
   pub fetches : new.fetches ≡ counted old.fetches

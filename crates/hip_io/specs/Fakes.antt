@@ -24,7 +24,8 @@ pub record MemFiles : Type 0 where
   pub fetches : ℕ
   pub misses : ℕ
 
--- what a cabinet in memory tells: all its files, and the name and the rest of the current one; it counts no faults
+-- what is known of a cabinet in memory: all its files, and the name and the rest of the current one; it counts no
+-- faults
 abbrev pub mem_cabinet_state : MemFiles → CabinetState
 mem_cabinet_state m = record {
   files = Some m.files;
@@ -46,17 +47,18 @@ memory_told m = by_file m.current
     by_file None e = absurd (let z : ⊥ = cc in z)
     by_file (Some file) e = (refl, refl)
 
--- Bytes in memory, and for how many more there is room.
+-- Bytes in memory, and how many more there is room for.
 pub record MemBytes : Type 0 where
   pub bytes : List ℕ
   pub room : ℕ
   pub faults : ℕ
 
--- what a sink in memory tells: all bytes that it was given, but not the room
+-- what is known of a sink in memory: all bytes that it was given, but not the room
 abbrev pub mem_sink_state : MemBytes → SinkState
 mem_sink_state m = record { bytes = Some m.bytes; faults = m.faults }
 
--- Where the code of a cabinet stands: a file by its number, and how many of its bytes were taken.
+-- The file that the code of a cabinet has open, which it keeps as the file's number and how many of its bytes were
+-- taken.
 abbrev pub open_file : List NamedFile → Option Place → Option OpenFile
 open_file files place =
     option_and_then
@@ -76,8 +78,8 @@ GotAtMost most (Got n) = n ≤ most
 GotAtMost most End = Unit {0}
 GotAtMost most Failed = Unit {0}
 
--- Files in memory of which one fails: at each fetch, or once n of its bytes were taken. `left` is there
--- while that file is current: how many bytes it still gives.
+-- Files in memory of which one fails: at each fetch, or once n of its bytes were taken. While that file is current,
+-- `left` is how many bytes it still gives.
 pub record FailingFiles : Type 0 where
   pub inner : MemFiles
   pub name : List ℕ
@@ -86,14 +88,14 @@ pub record FailingFiles : Type 0 where
   pub fetches : ℕ
   pub faults : ℕ
 
--- what a cabinet that fails tells: what its files in memory do, with the fetches and faults that it has counted
+-- what is known of a cabinet that fails: what its files in memory do, with the fetches and faults that it has counted
 abbrev pub failing_cabinet_state : FailingFiles → CabinetState
 failing_cabinet_state f = record (mem_cabinet_state f.inner) { fetches = f.fetches; faults = f.faults }
 
 pub failing_told : (f : FailingFiles) → IsTold (failing_cabinet_state f)
 failing_told f = memory_told f.inner
 
--- how many bytes a file gives before it fails, where it does not fail at its fetch
+-- how many bytes a file gives before it fails, if it does not fail at its fetch
 abbrev limit_of : FailAt → Option ℕ
 limit_of Fetch = None
 limit_of (Byte n) = Some n
@@ -108,7 +110,7 @@ left_after left (Got n) = option_map (λ l. l - n) left
 left_after left End = left
 left_after left Failed = left
 
--- Which file fails and where stays as it is, and so does how many bytes come at a time.
+-- Which file fails, where it fails and how many bytes come at a time stay as they are.
 pub record FailsAlike (old new : FailingFiles) : Type 0 where
   pub name : new.name ≡ old.name
   pub at : new.at ≡ old.at

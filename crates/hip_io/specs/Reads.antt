@@ -18,8 +18,8 @@ pub record IsWholeFile (files : List NamedFile) (name bytes : List ℕ) (new : C
   pub named : new.name ≡ Some name
   pub rest : new.rest ≡ Some []
 
--- The named file is current and was read to its end, as far as the cabinet tells: these bytes, at most as many as the
--- limit. Nothing failed.
+-- The named file is current and was read to its end. It has these bytes, if the files are known, and at most as many as
+-- the limit. Nothing failed.
 pub record HasReadWhole (old new : CabinetState) (name : List ℕ) (limit : ℕ) (bytes : List ℕ) : Type 0 where
   pub files : new.files ≡ old.files
   pub fetches : new.fetches ≡ counted old.fetches
@@ -30,7 +30,7 @@ pub record HasReadWhole (old new : CabinetState) (name : List ℕ) (limit : ℕ)
   pub fits : length bytes ≤ limit
   pub told : IfSome old.files (λ files. IsWholeFile files name bytes new)
 
--- The file of that name has more bytes than the limit, of which one more than the limit was taken.
+-- The file of that name has more bytes than the limit, and one more than the limit was taken.
 pub record IsLongFile (files : List NamedFile) (name : List ℕ) (limit : ℕ) (new : CabinetState) : Type 0 where
   pub bytes : List ℕ
   pub found : file_of files name ≡ Some bytes
@@ -38,7 +38,7 @@ pub record IsLongFile (files : List NamedFile) (name : List ℕ) (limit : ℕ) (
   pub named : new.name ≡ Some name
   pub rest : new.rest ≡ Some (drop (limit + 1) bytes)
 
--- The named file is current and has more bytes than the limit, as far as the cabinet tells. Nothing failed.
+-- The named file is current and has more bytes than the limit, if the files are known. Nothing failed.
 pub record HasReadTooMuch (old new : CabinetState) (name : List ℕ) (limit : ℕ) : Type 0 where
   pub files : new.files ≡ old.files
   pub fetches : new.fetches ≡ counted old.fetches
@@ -48,7 +48,7 @@ pub record HasReadTooMuch (old new : CabinetState) (name : List ℕ) (limit : �
   pub named : IfSome new.name (λ n. n ≡ name)
   pub told : IfSome old.files (λ files. IsLongFile files name limit new)
 
--- Of the file of that name these many bytes were taken, at most one more than the limit, and the others are left.
+-- Some bytes of the file of that name were taken, at most one more than the limit, and the others are left.
 pub record IsPartTaken (files : List NamedFile) (name : List ℕ) (limit : ℕ) (new : CabinetState) : Type 0 where
   pub bytes : List ℕ
   pub count : ℕ
@@ -63,7 +63,7 @@ pub record HasBegun (old new : CabinetState) (name : List ℕ) (limit : ℕ) : T
   pub named : IfSome new.name (λ n. n ≡ name)
   pub told : IfSome old.files (λ files. IsPartTaken files name limit new)
 
--- The fetch failed, and no file is current, or a read did.
+-- The fetch failed and no file is current, or a read failed.
 pub record HasFailedRead (old new : CabinetState) (name : List ℕ) (limit : ℕ) : Type 0 where
   pub files : new.files ≡ old.files
   pub fetches : new.fetches ≡ counted old.fetches

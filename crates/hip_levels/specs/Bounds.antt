@@ -15,21 +15,21 @@ same_variable (Register g name) (Register h other) = nat_eq g h && bytes_eq name
 same_variable (Result g) (Result h) = nat_eq g h
 same_variable _ _ = false
 
--- The least level that a rule allows: a known level, or the one at an offset from a variable's.
+-- The least level that a rule allows: a known level, or the level at an offset from a variable's.
 pub data Bound : Type 0 where
   Known : PointerLevel → Bound
   AtOffset : ℕ → Variable → Bound
 
--- A variable has at least the level of its rule.
+-- A variable has at least the level that its rule allows.
 pub record Rule : Type 0 where
   pub variable : Variable
   pub least : Bound
 
--- Level 0, and Free, which is the greatest: nothing is known of such a pointer.
+-- the bound of level 0
 abbrev pub low : Bound
 low = Known (Some 0)
 
--- the bound that only the level Free meets
+-- the bound that only the level Free meets, which is the greatest: nothing is known of such a pointer
 abbrev pub free : Bound
 free = Known None
 
@@ -41,7 +41,7 @@ same_as v = AtOffset 0 v
 abbrev pub Assignment : Type 0
 Assignment = Variable → PointerLevel
 
--- what a bound comes to
+-- the level that a bound means, by the levels of the variables
 abbrev pub bound_in : Assignment → Bound → PointerLevel
 bound_in A (Known a) = a
 bound_in A (AtOffset offset v) = behind_offset (A v) offset

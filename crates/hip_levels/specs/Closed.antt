@@ -9,16 +9,16 @@ abbrev pub is_level : PointerLevel → Type 0
 is_level None = Unit {0}
 is_level (Some t) = t ≤ 32
 
--- the variable of a rule has at least its level
+-- the variable of a rule has at least the least level of the rule
 abbrev pub IsMet : Assignment → Rule → Type 0
 IsMet A r = is_at_most (bound_in A r.least) (A r.variable)
 
--- An assignment is closed under rules where it meets each of them.
+-- An assignment is closed under rules if it meets each of them.
 pub record IsClosedUnder (rs : List Rule) (A : Assignment) : Type 0 where
   pub levels : (v : Variable) → is_level (A v)
   pub met : (r : Rule) → In r rs → IsMet A r
 
--- The least closed assignment gives each variable at most the level that any other closed one gives it.
+-- The least closed assignment gives each variable at most the level that any other closed assignment gives it.
 pub record IsLeast (rs : List Rule) (A : Assignment) : Type 0 where
   pub closed : IsClosedUnder rs A
   pub below : (B : Assignment) → IsClosedUnder rs B → (v : Variable) → is_at_most (A v) (B v)
@@ -35,7 +35,7 @@ greater (Some t) (Some u) = cond (nat_lt t u) (Some u) (Some t)
 abbrev pub lowest : Assignment
 lowest v = Some 0
 
--- the variable of a rule is raised to its level, where it has less
+-- the variable of a rule is raised to the rule's least level, if its own is lower
 abbrev pub raised : Rule → Assignment → Assignment
 raised r A v = cond (same_variable r.variable v) (greater (A v) (bound_in A r.least)) (A v)
 

@@ -1,4 +1,4 @@
--- What a scope of gathering knows of its program.
+-- What the scope in which rules are gathered knows of its program.
 use Rattle.std.specs.Prelude.{◌≡◌}
 use Rattle.hip_invariants.specs.PointerLevels.{global_level}
 use Rattle.hip_levels.specs.declared.gathering.Scope.{Scope}

@@ -1,4 +1,4 @@
--- What rules are gathered from: the levels of constants by a table of the globals, and the types in instructions.
+-- What the code gathers rules from: the levels of constants by a table of the globals, and the types in instructions.
 use Rattle.std.specs.Prelude.{ℕ, Bool, true, List, All, Option, Some, None}
 use Rattle.hip_types.specs.Layout.{Fits}
 use Rattle.hip_tree.specs.declared.block.Block.{Block}
@@ -21,7 +21,7 @@ use Rattle.hip_invariants.specs.PointerLevels.{PointerLevel, level_step, gep_lev
 
 -- ---- constants
 
--- the level of a global that is persistent, or not, or not there
+-- the level of a global that is persistent, volatile, or not there
 abbrev pub persistence_level : Option Bool → PointerLevel
 persistence_level (Some true) = None
 persistence_level _ = Some 0
@@ -34,7 +34,7 @@ level_beside table name = persistence_level (value_beside table.names table.valu
 abbrev pub level_with : (List ℕ → PointerLevel) → Const → PointerLevel
 level_with names = fold-Const PointerLevel PointerLevel PointerLevel (level_step names) gep_level_step item_level_step
 
--- the level of an element's address: its base's at the element's offset, which is 0 where the indices lead
+-- the level of an element's address: that of its base at the element's offset, which is 0 where the indices lead
 -- nowhere
 abbrev pub element_with : (List ℕ → PointerLevel) → ConstGep → PointerLevel
 element_with names =
@@ -47,7 +47,7 @@ abbrev pub OperandFits : Operand → Type 0
 OperandFits (Reg name) = Unit {0}
 OperandFits (Fixed value) = AllFit (types_in value)
 
--- those that the rules of an instruction speak of
+-- the types that the rules of an instruction use fit
 abbrev pub InstrFits : Instr → Type 0
 InstrFits (Select dest test ty a b) = OperandFits a × OperandFits b
 InstrFits (Gep dest inbounds ty base indices) = OperandFits base × Fits ty
@@ -64,12 +64,12 @@ abbrev pub EndFits : End → Type 0
 EndFits (ends.Ret (Some a)) = OperandFits a.value
 EndFits _ = Unit {0}
 
--- the types that the rules of a block speak of fit: those of its phis, its body and its end
+-- the types that the rules of a block use fit: those of its phis, its body and its end
 pub record BlockFits (b : Block) : Type 0 where
   pub phis : All PhiFits b.phis
   pub body : All InstrFits b.body
   pub last : EndFits b.end
 
--- the types that the rules of a function speak of fit, in each of its blocks
+-- the types that the rules of a function use fit, in each of its blocks
 abbrev pub FunctionFits : Function → Type 0
 FunctionFits fn = All BlockFits fn.blocks

@@ -10,7 +10,7 @@ abbrev pub offset_rank : ℕ → ℕ → ℕ
 offset_rank level offset =
     cond (nat_eq offset 0) level (cond (nat_lt offset 67108864) (cond (nat_lt level 32) (suc level) 33) 33)
 
--- what the least level of a rule comes to, where variables have these levels
+-- the level that a bound means, where the variables have these levels
 abbrev pub reached_by : (ℕ → ℕ) → Least → ℕ
 reached_by levels (least.Known level) = level
 reached_by levels (least.AtOffset offset variable) = offset_rank (levels variable) offset
@@ -19,19 +19,19 @@ reached_by levels (least.AtOffset offset variable) = offset_rank (levels variabl
 abbrev pub at : List ℕ → ℕ → ℕ
 at levels k = slice_index levels k
 
--- what the least level of a rule comes to, where variables have the levels of a table, and 0 past its end
+-- the level that a bound means, where the variables have the levels of a table, and 0 past its end
 abbrev pub reached : List ℕ → Least → ℕ
 reached levels l = reached_by (at levels) l
 
--- a rule raises its variable
+-- whether a rule raises its variable
 abbrev pub rises : List ℕ → Rule → Bool
 rises levels r = nat_lt (at levels r.variable) (reached levels r.least)
 
--- the levels after a rule, which has raised its variable to its least level if it was lower
+-- the levels after a rule: its variable is raised to the rule's least level, if its own is lower
 abbrev pub risen : List ℕ → Rule → List ℕ
 risen levels r = cond (rises levels r) (slice_set levels r.variable (reached levels r.least)) levels
 
--- the variables of a rule have numbers below a count, and its level is one
+-- a known level is at most 33, and a variable has a number below the count
 abbrev pub LeastIsWithin : ℕ → Least → Type 0
 LeastIsWithin count (least.Known level) = level ≤ 33
 LeastIsWithin count (least.AtOffset offset variable) = variable < count
@@ -42,7 +42,7 @@ pub record IsWithin (count : ℕ) (r : Rule) : Type 0 where
   pub variable : r.variable < count
   pub least : LeastIsWithin count r.least
 
--- each rule speaks of variables with numbers below the count alone, and of no known level above 33
+-- each rule names only variables with numbers below the count, and no known level above 33
 pub record AreWithin (count : ℕ) (rules : List Rule) : Type 0 where
   pub each : (r : Rule) → In r rules → IsWithin count r
 
@@ -50,7 +50,7 @@ pub record AreWithin (count : ℕ) (rules : List Rule) : Type 0 where
 pub record AreMetBy (levels : ℕ → ℕ) (rules : List Rule) : Type 0 where
   pub each : (r : Rule) → In r rules → reached_by levels r.least ≤ levels r.variable
 
--- levels at most those of every assignment that meets the rules
+-- these levels are at most those of every assignment that meets the rules
 pub record IsBelowAll (rules : List Rule) (levels : List ℕ) : Type 0 where
   pub small : (k : ℕ) → at levels k ≤ 33
   pub least : (other : ℕ → ℕ) → AreMetBy other rules → (k : ℕ) → at levels k ≤ other k
@@ -60,18 +60,18 @@ abbrev pub room : List ℕ → ℕ
 room [] = 0
 room (level ∷ levels) = (33 - level) + room levels
 
--- Levels have risen while a queue was in use: there is no more room than before, and the queue has grown by at most two
--- places for each rise.
+-- Levels have risen while a queue was in use: they can rise by no more than before, and the queue has grown by at most
+-- two places for each rise.
 pub record HasRisen (queue levels queue' levels' : List ℕ) : Type 0 where
   pub left : length queue' + 2 * room levels' ≤ length queue + 2 * room levels
   pub less : room levels' ≤ room levels
 
--- A rule was tried: it raised its variable, or it is met and nothing has changed.
+-- A rule was tried: either it raised its variable, or it is met and nothing has changed.
 abbrev pub tried : Bool → List ℕ → List ℕ → Rule → Type 0
 tried true old new r = room new < room old
 tried false old new r = (new ≡ old) × (reached old r.least ≤ at old r.variable)
 
--- All rules were tried: some variable has risen, or all are met and nothing has changed.
+-- All rules were tried: either some variable has risen, or all rules are met and nothing has changed.
 abbrev pub swept : Bool → List ℕ → List ℕ → List Rule → Type 0
 swept true old new rules = room new < room old
 swept false old new rules = (new ≡ old) × AreMetBy (at old) rules

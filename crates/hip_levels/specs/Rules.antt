@@ -22,7 +22,7 @@ use Rattle.hip_invariants.specs.PointerLevels.{behind_offset, const_level, known
 use Rattle.hip_levels.specs.Bounds.{Bound, Rule, Register, Result, Known, AtOffset, low, free, same_as}
 
 module _ (P : Program) (g : ℕ) where
-  -- an operand: `null`, `zeroinitializer` and a volatile global have level 0, a persistent global is free
+  -- the bound of an operand: level 0 for `null`, `zeroinitializer` and a volatile global, free for a persistent global
   abbrev pub operand_bound : Operand → Bound
   operand_bound (Reg name) = same_as (Register g name)
   operand_bound (Fixed c) = Known (const_level P.globals c)

@@ -16,12 +16,12 @@ use Rattle.hip_levels.specs.declared.variables.Variable.TheVariants as variables
 abbrev pub level_of : ℕ → PointerLevel
 level_of n = cond (nat_lt n 33) (Some n) None
 
--- the variable and the bound that the code's are
+-- the variable that a variable of the code is
 abbrev pub variable_of : held.Variable → Variable
 variable_of (variables.Register g name) = Register g name.now
 variable_of (variables.Result g) = Result g
 
--- the bound that the code's is, with a known level by its number: from 33 on it is Free
+-- the bound that a bound of the code is; a known level is given by its number, and is Free from 33 on
 abbrev pub bound_of : held_bound.Bound → Bound
 bound_of (bounds.Known level) = Known (level_of level)
 bound_of (bounds.AtOffset offset variable) = AtOffset offset (variable_of variable)
@@ -35,16 +35,16 @@ IsSmall (bounds.AtOffset offset variable) = Unit {0}
 abbrev pub variable_at : List Variable → ℕ → Variable
 variable_at vs k = unwrap_or (slice_get vs k) (Result 0)
 
--- the bound that one over numbers stands for, where the variables have these numbers
+-- the bound that a bound over numbers is, where the variables have these numbers
 abbrev pub least_named : List Variable → numbered_least.Least → Bound
 least_named vs (numbered.Known level) = Known (level_of level)
 least_named vs (numbered.AtOffset offset k) = AtOffset offset (variable_at vs k)
 
--- the rule that one over numbers stands for
+-- the rule that a rule over numbers is
 abbrev pub named : List Variable → numbered_rule.Rule → Rule
 named vs r = record { variable = variable_at vs r.variable; least = least_named vs r.least }
 
--- each variable has one number, and the rules speak of these alone
+-- each variable has one number, and the rules name no others
 pub record IsTable (vs : List Variable) (rs : List numbered_rule.Rule) : Type 0 where
   pub distinct : IsDistinct same_variable vs
   pub within : AreWithin (length vs) rs
@@ -59,13 +59,13 @@ pub record Leveled : Type 0 where
   pub variable : Variable
   pub level : PointerLevel
 
--- variables with the levels that stand beside them
+-- variables with their levels
 abbrev pub leveled : List Variable → List ℕ → List Leveled
 leveled [] levels = []
 leveled (v ∷ vs) [] = []
 leveled (v ∷ vs) (n ∷ levels) = record { variable = v; level = level_of n } ∷ leveled vs levels
 
--- the level that a variable has among them; 0 where it is not there
+-- the level that a variable has in the list; 0 if it is not there
 abbrev pub level_among : List Leveled → Assignment
 level_among [] v = Some 0
 level_among (x ∷ xs) v = cond (same_variable v x.variable) x.level (level_among xs v)

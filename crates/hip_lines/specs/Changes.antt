@@ -1,4 +1,4 @@
--- What a store, a flush or a fence makes of the pending parts of a line.
+-- How a store, a flush or a fence changes the pending parts of a line.
 use Rattle.hip_lines.specs.declared.part.Part.{Part}
 use Rattle.hip_lines.specs.declared.history.Change.{Change}
 use Rattle.hip_lines.specs.declared.history.Change.TheVariants.{Store, Flush, Fence}

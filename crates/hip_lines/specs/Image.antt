@@ -10,14 +10,14 @@ module _ {P : Type 0} (covers : P → ℕ → Bool) (value : P → ℕ → ℕ) 
   byte_after [] b first = first
   byte_after (p ∷ ps) b first = byte_after ps b (cond (covers p b) (value p b) first)
 
-  -- in line j the content r is the first one changed by the line's first q parts, where no durable part is left out
+  -- in line j, the content r is `first` changed by the first q parts of the line, and these have all durable parts
   pub record IsLineImageAt (first r : List ℕ) (j : ℕ) (l : Line P) (q : ℕ) : Type 0 where
     pub least : l.durable ≤ q
     pub most : q ≤ length l.parts
     pub bytes : (b : ℕ) → LINE_SIZE * j ≤ b → b < LINE_SIZE * j + LINE_SIZE
         → slice_index r b ≡ byte_after (take q l.parts) b (slice_index first b)
 
-  -- in line j the content r is one that a crash may leave
+  -- in line j, a crash may leave the content r
   abbrev pub IsLineImage : List ℕ → List ℕ → ℕ → Line P → Type 0
   IsLineImage first r j l = (q : ℕ) × IsLineImageAt first r j l q
 

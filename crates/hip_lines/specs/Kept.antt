@@ -38,7 +38,7 @@ HasRoomBy (Some q) = HasRoom q
 abbrev pub HasRoomAt : Queues → ℕ → Type 0
 HasRoomAt m j = HasRoomBy (queue_at m j)
 
--- room for the parts of a store, if there is one
+-- there is room for the parts of a store, if one is given
 abbrev pub HasRoomFor : Queues → Option (ℕ × ℕ) → Type 0
 HasRoomFor m None = Unit {0}
 HasRoomFor m (Some (o, n)) = (j : ℕ) → has_bytes j o n ≡ true → HasRoomAt m j
@@ -47,8 +47,8 @@ HasRoomFor m (Some (o, n)) = (j : ℕ) → has_bytes j o n ≡ true → HasRoomA
 abbrev pub AreBelow : ℕ → Queues → Type 0
 AreBelow n m = (j : ℕ) → IsSome (queue_at m j) → j < n
 
--- Only room was made: what is pending stays, so does the room that there was, and the lines that have a queue begin
--- before byte `end` where they did.
+-- Only room was made: what is pending stays, and so does the room that there was. A new queue is that of a line that
+-- begins before byte `end`.
 pub record MakesRoom (end : ℕ) (old new : Queues) : Type 0 where
   pub same : (j : ℕ) → pending_at new j ≡ pending_at old j
   pub kept : (j : ℕ) → HasRoomAt old j → HasRoomAt new j
@@ -73,7 +73,7 @@ pub record FlushesLines (o n : ℕ) (old new : Queues) : Type 0 where
   pub below : (k : ℕ) → AreBelow k old → AreBelow k new
   pub count : count_of new ≡ count_of old
 
--- some line's pending parts differ
+-- the pending parts of some line have changed
 pub record ChangesSome (old new : Queues) : Type 0 where
   pub line : ℕ
   pub there : IsSome (queue_at old line)

@@ -19,7 +19,7 @@ pub record IsOrdered {P : Type 0} (l : Line P) : Type 0 where
   pub durable : l.durable ≤ l.flushed
   pub flushed : l.flushed ≤ length l.parts
 
--- the same of each line
+-- the same for each line
 abbrev pub AreOrdered : {P : Type 0} → List (Line P) → Type 0
 AreOrdered [] = Unit {0}
 AreOrdered (l ∷ ls) = IsOrdered l × AreOrdered ls
@@ -41,15 +41,15 @@ flushed_line l = record { parts = l.parts; flushed = length l.parts; durable = l
 abbrev pub fenced_line : {P : Type 0} → Line P → Line P
 fenced_line l = record { parts = l.parts; flushed = l.flushed; durable = l.flushed }
 
--- the line with each part changed, or seen, by a function
+-- the line with a function applied to each part
 abbrev pub map_line : {P Q : Type 0} → (P → Q) → Line P → Line Q
 map_line f l = record { parts = map f l.parts; flushed = l.flushed; durable = l.durable }
 
--- the first byte of line j that is not before a range from o, and the end of line j or of the range of n bytes from o
+-- the first byte of line j that is not before the range from o
 abbrev pub start_in : ℕ → ℕ → ℕ
 start_in j o = max o (LINE_SIZE * j)
 
--- the end of line j, or that of the range of n bytes from o where this one comes first
+-- the end of line j, or that of the range of n bytes from o if it comes first
 abbrev pub end_in : ℕ → ℕ → ℕ → ℕ
 end_in j o n = min (o + n) (LINE_SIZE * j + LINE_SIZE)
 
@@ -57,12 +57,13 @@ end_in j o n = min (o + n) (LINE_SIZE * j + LINE_SIZE)
 abbrev pub has_bytes : ℕ → ℕ → ℕ → Bool
 has_bytes j o n = nat_lt (start_in j o) (end_in j o n)
 
--- the lines from number j on, where each that has a byte of the range of n bytes from o is changed by its number
+-- the lines from number j on; each that has a byte of the range of n bytes from o is changed, by a function of its
+-- number
 abbrev pub change_from : {L : Type 0} → (ℕ → L → L) → ℕ → ℕ → ℕ → List L → List L
 change_from f o n j [] = []
 change_from f o n j (l ∷ ls) = cond (has_bytes j o n) (f j l) l ∷ change_from f o n (suc j) ls
 
--- the lines of a region, where each that has a byte of the range is changed
+-- the lines of a region; each that has a byte of the range is changed
 abbrev pub change_range : {L : Type 0} → (ℕ → L → L) → ℕ → ℕ → List L → List L
 change_range f o n ls = change_from f o n 0 ls
 

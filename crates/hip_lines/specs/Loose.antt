@@ -3,7 +3,7 @@ use Rattle.std.specs.Prelude.{◌≡◌, ℕ, suc, ◌<◌, ◌≤◌, Bool, tru
 use Rattle.hip_lines.specs.Line.{Line}
 
 module _ {P : Type 0} (covers : P → ℕ → Bool) where
-  -- x stands at place k, covers byte b, and no later part does
+  -- x stands at place k and covers byte b, and no later part covers it
   pub record IsLastOver (ps : List P) (b k : ℕ) (x : P) : Type 0 where
     pub at : slice_get ps k ≡ Some x
     pub over : covers x b ≡ true
@@ -18,7 +18,7 @@ module _ {P : Type 0} (covers : P → ℕ → Bool) where
   abbrev pub IsLoose : Line P → ℕ → Type 0
   IsLoose l b = (k : ℕ) × (x : P) × IsLooseBy l b k x
 
-  -- the later of two finds, the second being one place on
+  -- the later of two finds; the places of the second are counted from one place on
   abbrev pub later : Option (ℕ × P) → Option (ℕ × P) → Option (ℕ × P)
   later first None = first
   later first (Some (k, x)) = Some (suc k, x)

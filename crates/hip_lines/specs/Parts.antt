@@ -1,4 +1,4 @@
--- What contracts see of the lines of a region: for each line its pending parts, and the room that was made for a store.
+-- What contracts see of the lines of a region: the pending parts of each line, and the room that was made for a store.
 use Rattle.std.specs.Prelude.{◌≡◌, ℕ, zero, suc, ◌+◌, ◌-◌, ◌/◌, Bool, ◌&&◌, nat_lt, nat_le, List, [], ◌++◌, map, replicate, Option, Some, None, option_map, option_and_then, option_to_list, slice_get}
 use Rattle.hip_lines.specs.Line.{start_in, end_in, change_range}
 use Rattle.hip_lines.specs.Loose.{last_over}
@@ -20,7 +20,7 @@ part_covers p b = nat_le p.offset b && nat_lt b (p.offset + p.size)
 abbrev pub part_in : ℕ → ℕ → ℕ → ℕ → Part
 part_in o n tag j = record { offset = start_in j o; size = end_in j o n - start_in j o; tag = tag }
 
--- the pending parts after a store, a flush of a range, and a fence
+-- the pending parts of all lines after a store of n bytes at offset o with this tag
 abbrev pub pending_stored : ℕ → ℕ → ℕ → List (Pending Part) → List (Pending Part)
 pending_stored o n tag ws = change_range (λ j w. pending_with (part_in o n tag j) w) o n ws
 
@@ -40,11 +40,11 @@ none_pending_all n = replicate n none_pending
 abbrev pub loose_by : Pending Part → ℕ → (ℕ × Part) → LooseByte
 loose_by w b f = record { offset = b; tag = f.1.tag; flushed = nat_lt f.0 w.flushed }
 
--- the loose byte at offset b, by the last pending part over it in its line; none where no pending part covers it
+-- the loose byte at offset b, by the last pending part over it in its line; none if no pending part covers it
 abbrev pub loose_in : Pending Part → ℕ → Option LooseByte
 loose_in w b = option_map (loose_by w b) (last_over part_covers b w.parts)
 
--- the same by the lines of a region: by the line that has the byte; none after the last line
+-- the same by all lines of a region; none after the last line
 abbrev pub loose_at : List (Pending Part) → ℕ → Option LooseByte
 loose_at ws b = option_and_then (λ w. loose_in w b) (slice_get ws (b / LINE_SIZE))
 
@@ -53,7 +53,7 @@ abbrev pub loose_from : List (Pending Part) → ℕ → ℕ → List LooseByte
 loose_from ws o zero = []
 loose_from ws o (suc n) = option_to_list (loose_at ws o) ++ loose_from ws (suc o) n
 
--- a call that changes no line leaves the room as it is, and one that does leaves no room
+-- a call that changes no line leaves the room as it is, and one that changes lines leaves no room
 pub record KeepsRoom (old new : Held) : Type 0 where
   pub unchanged : new.lines ≡ old.lines → new.room ≡ old.room
   pub changed : ¬ (new.lines ≡ old.lines) → new.room ≡ None

@@ -1,9 +1,10 @@
--- What is kept of a line where durable parts are let go: the parts from the durable number on, and how many of these
--- are flushed.
+-- What is kept of a line once durable parts are let go: the parts from the durable number on, and how many of these are
+-- flushed.
 use Rattle.std.specs.Prelude.{ℕ, ◌-◌, List, [], ◌∷◌, ◌++◌, length, drop}
 use Rattle.hip_lines.specs.Line.{Line}
 
--- the parts of a line that are not durable, in the order of their stores, and how many first ones of them are flushed
+-- the parts of a line that are not durable, in the order of their stores, and how many of them are flushed, which are
+-- the first ones
 pub record Pending (P : Type 0) : Type 0 where
   pub parts : List P
   pub flushed : ℕ

@@ -1,4 +1,4 @@
--- Queues side by side, and the directory that says which line has which.
+-- Queues in a list, and the directory that gives the place of each line's queue in it.
 use Rattle.std.specs.Prelude.{◌≡◌, ◌≢◌, ℕ, zero, suc, ◌+◌, ◌-◌, ◌<◌, ◌≤◌, List, length, Option, Some, None, slice_get}
 use Rattle.hip_directory.specs.declared.directory.Directory.{Directory}
 use Rattle.hip_directory.specs.Directories.{number_at}
@@ -16,12 +16,12 @@ at_place qs (suc n) = slice_get qs n
 abbrev pub queue_in : Directory → List Queue → ℕ → Option Queue
 queue_in d qs j = at_place qs (number_at d j)
 
--- each queue that a line has is there, and says which line that is
+-- each queue that the directory gives a line is there, and has the line's number
 pub record ArePlaced (d : Directory) (qs : List Queue) : Type 0 where
   pub within : (j : ℕ) → number_at d j ≤ length qs
   pub numbered : (j : ℕ) (q : Queue) → queue_in d qs j ≡ Some q → q.line ≡ j
 
--- all queues but the one at a place, counted from 0, stay, and at most one is added
+-- all queues but the one at a place, counted from 0, stay, and at most one queue is added
 pub record KeepsOthers (place : ℕ) (old new : List Queue) : Type 0 where
   pub others : (k : ℕ) → k ≢ place → slice_get new k ≡ slice_get old k
   pub least : length old ≤ length new
@@ -42,7 +42,7 @@ pub record IsFreshAt (number place : ℕ) (qs : List Queue) : Type 0 where
   pub empty : pending_in queue ≡ none_pending
   pub room : HasRoom queue
 
--- the same at a place, counted from 1, that no line has
+-- an empty queue with room is at a place, counted from 1, that no line has
 pub record IsFresh (d : Directory) (number place : ℕ) (qs : List Queue) : Type 0 where
   pub some : 0 < place
   pub free : (j : ℕ) → number_at d j ≢ place

@@ -1,4 +1,4 @@
--- What the queue of a line stands for.
+-- What the queue of a line represents.
 use Rattle.std.specs.Prelude.{◌+◌, ◌<◌, ◌^◌, vec_len, vec_capacity}
 use Rattle.hip_lines.specs.declared.part.Part.{Part}
 use Rattle.hip_lines.specs.declared.queue.Queue.{Queue}
@@ -8,7 +8,7 @@ use Rattle.hip_lines.specs.Pending.{Pending}
 abbrev pub pending_in : Queue → Pending Part
 pending_in q = q.history.pending
 
--- one more part can be taken up without memory
+-- one more part can be added without memory
 pub record HasRoom (q : Queue) : Type 0 where
   pub capacity : vec_len q.tags < vec_capacity q.tags
   pub numbers : vec_len q.tags + 1 < 2 ^ 8

@@ -5,11 +5,12 @@ use Rattle.hip_lines.specs.declared.part.LooseByte.{LooseByte}
 use Rattle.hip_lines.specs.declared.loose.NotDurable.TheInside.{Inside}
 use Rattle.hip_lines.specs.Next.{loose_of, lines_to, IsNextQueue}
 
--- the loose bytes that the iterator has still to give: those from where it stands up to its end, ascending
+-- the loose bytes that the iterator has not given yet: those from its place up to its end, ascending
 abbrev pub rest_of : Inside → List LooseByte
 rest_of n = loose_of n.queues.now n.at (n.end - n.at)
 
--- The end is at most 2 ^ 26, the size of the largest region, and the queue, if there is one, is searched next.
+-- The end is at most 2 ^ 26, the size of the largest region. The queue, if there is one, is the next one to be
+-- searched.
 pub record IsStanding (n : Inside) : Type 0 where
   pub end : n.end ≤ 2 ^ 26
   pub queue : IsNextQueue n.queues.now n.at (lines_to n.end) (option_copied n.queue)

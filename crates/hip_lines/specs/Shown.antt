@@ -6,7 +6,7 @@ use Rattle.hip_lines.specs.Pending.{Pending}
 use Rattle.hip_lines.specs.declared.part.Part.{Part}
 use Rattle.hip_types.specs.declared.areas.TheConstants.{LINE_SIZE}
 
--- the same of the part at a place, of which `flushed` is the first one that is not flushed
+-- what the part at a place shows, where the parts before number `flushed` are flushed
 abbrev pub shown_by : ℕ → (ℕ × Part) → ℕ × Bool
 shown_by flushed f = (f.1.tag, nat_lt f.0 flushed)
 
@@ -14,14 +14,14 @@ shown_by flushed f = (f.1.tag, nat_lt f.0 flushed)
 abbrev pub shown : Pending Part → ℕ → Option (ℕ × Bool)
 shown w b = option_map (shown_by w.flushed) (last_over part_covers b w.parts)
 
--- what the kept tag with a number, counted from 1, shows where the first `flushed` of them are flushed; nothing at 0
+-- what the kept tag of a number, counted from 1, shows, where the first `flushed` tags are flushed; nothing for 0
 abbrev pub kept_at : List ℕ → ℕ → ℕ → Option (ℕ × Bool)
 kept_at tags flushed zero = None
 kept_at tags flushed (suc k) = Some (slice_index tags k, nat_lt k flushed)
 
--- The kept tags of a line, of which the first `flushed` are flushed, and the number for each byte of the one that it
--- shows: each byte shows what it does by all pending parts of the line, some part is flushed where some tag is, and all
--- are where all tags are.
+-- The kept tags of a line, of which the first `flushed` are flushed, and for each byte the number of the tag that it
+-- shows. Each byte shows the same as by all pending parts of the line. Some part is flushed exactly if some tag is, and
+-- all parts are exactly if all tags are.
 pub record Shows (tags : List ℕ) (flushed : ℕ) (numbers : List ℕ) (line : ℕ) (w : Pending Part) : Type 0 where
   pub bytes : (b : ℕ) → b / LINE_SIZE ≡ line → kept_at tags flushed (slice_index numbers (b % LINE_SIZE)) ≡ shown w b
   pub some : flushed ≡ 0 → w.flushed ≡ 0
@@ -35,7 +35,7 @@ abbrev pub AreNumbers : ℕ → List ℕ → Type 0
 AreNumbers count numbers = (i : ℕ) → slice_index numbers i ≤ count
 
 -- The tags that have a use are moved to the front in their order, and `news` has the new number of each number with a
--- use: 0 stays, the others stay in their order, and the last one is how many tags are kept.
+-- use: 0 stays, the other numbers keep their order, and the last number becomes the number of kept tags.
 pub record IsRenumbered (uses news tags kept : List ℕ) : Type 0 where
   pub zero : slice_index news 0 ≡ 0
   pub moved : (k : ℕ) → k < length tags → 0 < slice_index uses (suc k)

@@ -1,4 +1,4 @@
--- What the lines of a region stand for.
+-- What the lines of a region represent.
 use Rattle.std.specs.Prelude.{ℕ, zero, suc, ◌≤◌, ◌^◌, List, [], ◌∷◌, vec_capacity}
 use Rattle.hip_lines.specs.Pending.{Pending}
 use Rattle.hip_lines.specs.Parts.{Held}
@@ -20,8 +20,8 @@ lines_of n m = table_from (pending_at m) 0 n
 abbrev pub held_of : Inside → Held
 held_of s = record { lines = lines_of s.count s.queues; room = s.room }
 
--- There are at most 2 ^ 20 lines, and no other has a queue; the list has those with flushed parts, each once, with
--- capacity for as many as queues were made; and there is room for the store that room was made for.
+-- There are at most 2 ^ 20 lines, and only these have queues. The list has each line with flushed parts once, with
+-- capacity for as many lines as there are queues. There is room for the store that room was made for.
 pub record IsKept (s : Inside) : Type 0 where
   pub small : s.count ≤ 2 ^ 20
   pub below : AreBelow s.count s.queues

@@ -18,7 +18,7 @@ use Rattle.hip_lockstep.specs.Refusals.{Refuses}
 use Rattle.hip_lockstep.specs.declared.refusal.ReplayRefusal.{ReplayRefusal}
 use Rattle.hip_lockstep.specs.declared.steps.Lockstep.{Lockstep}
 
--- The run goes on after n steps, whose entries are the trace's first ones; and one more was read.
+-- The run goes on after n steps. The entries of these steps and one more were read of the trace.
 pub record IsInStep (P : Program) (I : Input) (start : CabinetState) (n : ℕ) (r : ReaderState) (s : CabinetState)
     (at : Lockstep) : Type 0 where
   pub valid : IsValid P I
@@ -27,7 +27,7 @@ pub record IsInStep (P : Program) (I : Input) (start : CabinetState) (n : ℕ) (
   pub counted : at.entries ≡ length (trace P I n)
   pub header : IfSome start.rest (λ bytes. header P (spelled true bytes) ≡ Gives (header_entries I) I)
 
--- The run has ended after n steps, and the file with it: it is the trace of the run.
+-- The run has ended after n steps, and the file ends there too: it is the trace of the run.
 pub record HasFollowed (P : Program) (I : Input) (start : CabinetState) (n : ℕ) (r : ReaderState) (s : CabinetState)
     (entries : ℕ) (ending : Ending) : Type 0 where
   pub reading : IsReading start s
@@ -38,15 +38,15 @@ pub record HasFollowed (P : Program) (I : Input) (start : CabinetState) (n : ℕ
   pub told : IfSome start.rest (λ bytes. IsTraceOf P bytes I)
   pub left : IfSome s.rest (λ rest. rest ≡ [])
 
--- what follows from one step more
+-- what holds after one step more, by the result
 abbrev pub FollowsStep : Program → Input → CabinetState → ℕ → ReaderState → CabinetState → Lockstep
     → Result (Option Ending) ReplayRefusal → Type 0
 FollowsStep P I start n r s at (Ok None) = IsInStep P I start (suc n) r s at
 FollowsStep P I start n r s at (Ok (Some ending)) = HasFollowed P I start (suc n) r s at.entries ending
 FollowsStep P I start n r s at (Err refusal) = Refuses P r start s refusal
 
--- Where the entries of a run's steps are those that were read, and the next step has this event, they are still so
--- after the step, or the file is the trace of the run, or there is a cause for the refusal.
+-- If the run and the trace were in step so far, and the next step has this event, they are in step after it, or the
+-- file is the trace of the run, or there is a cause for the refusal.
 abbrev pub Meets : Event → Lockstep → Lockstep → ReaderState → ReaderState → CabinetState → CabinetState
     → Result (Option Ending) ReplayRefusal → Type 0
 Meets e at at' r r' s s' result =

@@ -9,21 +9,21 @@ use Rattle.hip_trace.specs.declared.refusal.TraceRefusal.TheVariants as unread
 use Rattle.hip_lockstep.specs.declared.refusal.ReplayRefusal.{ReplayRefusal}
 use Rattle.hip_lockstep.specs.declared.refusal.ReplayRefusal.TheVariants as refusals
 
--- the entry that was read after n others, or why there is none
+-- the entry that was read after `count` others, or why there is none
 abbrev pub FindsEntry : ℕ → Result (Option Entry) TraceRefusal → Result Entry ReplayRefusal → Type 0
 FindsEntry count (Ok (Some e)) result = result ≡ Ok e
 FindsEntry count (Ok None) result = result ≡ Err (refusals.Misfit (count + 1) Early)
 FindsEntry count (Err unread.Malformed) result = result ≡ Err (refusals.Misfit (count + 1) Malformed)
 FindsEntry count (Err unread.ReadFault) result = result ≡ Err refusals.ReadFault
 
--- whether nothing was read, after n entries
+-- nothing was read after `count` entries, or why something was
 abbrev pub EndsHere : ℕ → Result (Option Entry) TraceRefusal → Result (Unit {0}) ReplayRefusal → Type 0
 EndsHere count (Ok (Some e)) result = result ≡ Err (refusals.Misfit (count + 1) Extra)
 EndsHere count (Ok None) result = result ≡ Ok tt
 EndsHere count (Err unread.Malformed) result = result ≡ Err (refusals.Misfit (count + 1) Malformed)
 EndsHere count (Err unread.ReadFault) result = result ≡ Err refusals.ReadFault
 
--- an entry after n others, or the cause why there is none
+-- an entry after `count` others, or the cause why there is none
 abbrev pub ReadsEntry : ℕ → ReaderState → ReaderState → CabinetState → CabinetState
     → Result Entry ReplayRefusal
     → Type 0
@@ -39,7 +39,7 @@ ReadsEntry count r r' s s' (Err refusals.NoMemory) = ⊥
 abbrev pub HasMore : ReaderState → ReaderState → CabinetState → CabinetState → Type 0
 HasMore r r' s s' = (e : Entry) × HasNext r r' s s' e
 
--- the file's end after n entries, or the cause why it is not there
+-- the file's end after `count` entries, or the cause why it is not there
 abbrev pub ReadsEnd : ℕ → ReaderState → ReaderState → CabinetState → CabinetState
     → Result (Unit {0}) ReplayRefusal
     → Type 0

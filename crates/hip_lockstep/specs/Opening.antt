@@ -1,4 +1,4 @@
--- A trace as far as its header was read.
+-- A trace, as far as its header was read.
 use Rattle.std.specs.Prelude.{◌≡◌, ℕ, true, List, [], ◌∷◌, ◌++◌, length, Option, Some, None, IfSome, Result, Ok, Err}
 use Rattle.hip_io.specs.Cabinets.{CabinetState}
 use Rattle.hip_tree.specs.declared.program.Program.{Program}
@@ -70,7 +70,8 @@ abbrev pub ReadsBase : Program → CabinetState → ReaderState → CabinetState
 ReadsBase P start r s limit (Ok base) = HasBase P start r s limit base
 ReadsBase P start r s limit (Err refusal) = Refuses P r start s refusal
 
--- all that valid INPUT and IMAGE entries give, with the first entry after them, or the cause why that was not read
+-- all that valid INPUT and IMAGE entries give, with the first entry after them, or the cause why that entry was not
+-- read
 abbrev pub ReadsValues : Program → CabinetState → ReaderState → CabinetState → Input
     → Result Lockstep ReplayRefusal
     → Type 0

@@ -8,12 +8,12 @@ use Rattle.hip_trace.specs.Reads.{ReaderState, IsReading, ahead}
 use Rattle.hip_trace.specs.declared.entry.Entry.{Entry}
 use Rattle.hip_trace.specs.declared.refusal.Progress.TheVariants.{Reading}
 
--- The text ended at a separator: its pieces stay the same, whatever follows.
+-- The text ends at a separator: its pieces stay the same, whatever follows.
 pub record StopsAtSeparator (text : List ℕ) (entries : List Entry) : Type 0 where
   pub spells : (whole : Bool) → (more : List ℕ)
       → spelled whole (text ++ more) ≡ told entries ++ spelled whole more
 
--- The text is the whole file; its last piece has no separator, and counts only because the file is whole.
+-- The text is the whole file; its last piece has no separator, and is a piece only because the file is whole.
 pub record StopsAtEnd (text : List ℕ) (entries : List Entry) (left : List ℕ) : Type 0 where
   pub none : left ≡ []
   pub spells : spelled true text ≡ told entries
@@ -28,7 +28,7 @@ pub record IsRead (bytes : List ℕ) (entries : List Entry) (ahead : Option (Lis
   pub bytes_are : bytes ≡ text ++ left
   pub spells : StopsAtSeparator text entries ⊎ StopsAtEnd text entries left
 
--- A reader has read these entries since a cabinet stood in a state, and nothing failed.
+-- A reader has read these entries since the cabinet was in the state `start`, and nothing failed.
 pub record HasReadEntries (start : CabinetState) (r : ReaderState) (s : CabinetState)
     (entries : List Entry) : Type 0 where
   pub reading : IsReading start s

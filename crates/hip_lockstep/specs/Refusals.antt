@@ -10,7 +10,7 @@ use Rattle.hip_trace.specs.Reads.{ReaderState, IsReading}
 use Rattle.hip_lockstep.specs.declared.refusal.ReplayRefusal.{ReplayRefusal}
 use Rattle.hip_lockstep.specs.declared.refusal.ReplayRefusal.TheVariants as refusals
 
--- how many texts of entries were begun where an entry is the first that does not fit: none after it
+-- how many texts of entries the reader has begun, where an entry is the first that does not fit: none after that one
 abbrev pub begun_at : MisfitKind → ℕ → ℕ
 begun_at Early entry = entry - 1
 begun_at Malformed entry = entry
@@ -24,7 +24,7 @@ pub record HasMisfit (P : Program) (r : ReaderState) (old new : CabinetState) (e
     pub told : IfSome old.rest (λ bytes. IsMisfit P bytes true entry kind)
     pub count : r.count ≡ begun_at kind entry
 
--- these bytes were taken off the front of a file, of which the rest is left
+-- these bytes were taken from the front of a file, and the rest is left
 pub record IsTaken (front bytes : List ℕ) (rest : Option (List ℕ)) : Type 0 where
   pub left : List ℕ
   pub rest_is : rest ≡ Some left
@@ -43,7 +43,7 @@ pub record HasReadFault (P : Program) (old new : CabinetState) : Type 0 where
   pub rose : Rose old.faults new.faults
   pub told : IfSome old.rest (λ bytes. ShowsNone P bytes new.rest)
 
--- There was no memory; nothing failed, and the file is still the current one.
+-- Memory ran out; no read failed, and the file is still the current one.
 pub record HasStoppedReplay (old new : CabinetState) : Type 0 where
   pub reading : IsReading old new
 

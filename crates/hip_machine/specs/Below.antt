@@ -8,7 +8,7 @@ use Rattle.hip_machine.specs.declared.core_parts.Activation.{Activation}
 use Rattle.hip_machine.specs.Blocks.{blocks_of}
 use Rattle.hip_machine.specs.Placed.{placed_at}
 
--- The call before a frame's place made the frame above it.
+-- The instruction before a frame's place is the call that made the frame above it.
 pub record IsCallOf (g : Frame) (level : Option Level) : Type 0 where
   pub index : ℕ
   pub birth : ℕ
@@ -18,8 +18,8 @@ pub record IsCallOf (g : Frame) (level : Option Level) : Type 0 where
     birth = birth;
   })
 
--- What is kept of a frame with others below it, under slots from a base on and a frame that a call made, whose result
--- goes to a register.
+-- What is kept of a frame g with the frames gs below it. Its slots end before a base. The frame above it was made by a
+-- call of g, whose result goes to a register.
 pub record IsSaved (P : Program) (slots : List ℕ) (base : ℕ) (slot : Option ℕ) (name : Option (List ℕ))
     (level : Option Level) (x : Activation) (g : Frame) (gs : List Frame) : Type 0 where
   pub placed : placed_at P x g
@@ -30,7 +30,7 @@ pub record IsSaved (P : Program) (slots : List ℕ) (base : ℕ) (slot : Option 
   pub blocks : x.blocks ≡ length (blocks_of gs)
   pub call : IsCallOf g level
 
--- each of the frames, from the top one down, is kept by the last activation that is left; for no frames there is none
+-- each of the frames, from the top one down, is kept by the last activation that is left; no activation is left over
 abbrev pub are_saved : Program → List ℕ → ℕ → Option ℕ → Option (List ℕ) → Option Level
     → List Activation →
     List Frame → Type 0
@@ -39,7 +39,8 @@ are_saved P slots base slot name level saved (g ∷ gs) =
     (rest : List Activation) × (x : Activation) × (saved ≡ rest ++ x ∷ [])
     × IsSaved P slots base slot name level x g gs × are_saved P slots x.base x.dest g.dest g.level rest gs
 
--- The frames below one whose slots begin at a base, that a call made, and whose result goes to a register.
+-- The activations keep these frames: those below a frame whose slots begin at a base, that a call made, and whose
+-- result goes to a register.
 pub record AreSaved (P : Program) (slots : List ℕ) (base : ℕ) (slot : Option ℕ) (name : Option (List ℕ))
     (level : Option Level) (saved : List Activation) (fs : List Frame) : Type 0 where
   pub are : are_saved P slots base slot name level saved fs

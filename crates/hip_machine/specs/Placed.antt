@@ -5,7 +5,8 @@ use Rattle.hip_runs.specs.State.{Frame}
 use Rattle.hip_code.specs.Entries.{StandsAt, entry}
 use Rattle.hip_machine.specs.declared.core_parts.Activation.{Activation}
 
--- The place is that of place k in block b of function g, whose first op has its own place, and the numbers are theirs.
+-- The place is that of place k in block b of function g, `first` is the place of the block's first op, and i and j are
+-- g and b.
 pub record IsPlaced (P : Program) (place first i j g b k : ℕ) : Type 0 where
   pub stands : StandsAt P place g b k
   pub begins : first ≡ entry P g b

@@ -1,4 +1,4 @@
--- The pointer operands of the instruction at a machine's place, as its op tells them.
+-- The pointer operands of the instruction at a machine's place, by its op.
 use Rattle.std.specs.Prelude.{ℕ, ◌⊎◌, ◌≡◌, Bool, true, false, List, [], ◌∷◌, ◌++◌, Option, Some, option_map, option_to_list, slice_get}
 use Rattle.std.specs.List.{flat_map}
 use Rattle.hip_types.specs.declared.number.Scalar.{Scalar}
@@ -54,8 +54,7 @@ abbrev pub call_agrees : Program → Instr → Type 0
 call_agrees P (Call dest ret callee args) = CallsFunction P callee ret args ⊎ CallsExtern callee ret args
 call_agrees P _ = Unit {0}
 
--- The value of the pointer operand of that number, where the op at the machine's place tells its instruction's
--- operands.
+-- The value of the pointer operand of that number, by the op at the machine's place.
 pub record TellsPointer (code : Code) (c : Core) (i : Instr) (k : ℕ) (o : Option ℕ) : Type 0 where
   pub tells : (P : Program) (I : Input) (rs : Registers) (op : Op) → IsSound P →
       slice_get code.ops.items c.top.place ≡ Some op →

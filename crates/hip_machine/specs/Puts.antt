@@ -2,7 +2,7 @@
 use Rattle.std.specs.Prelude.{ℕ, ◌+◌, List, [], ◌∷◌, Option, Some, None, slice_set}
 use Rattle.hip_code.specs.declared.op.Move.{Move}
 
--- the slots from a base on after values for moves, the first of which is written last
+-- the slots from a base on after moves with these values; the first move is written last
 abbrev pub put_values : ℕ → List Move → List ℕ → List ℕ → List ℕ
 put_values base [] vs xs = xs
 put_values base (m ∷ ms) [] xs = xs

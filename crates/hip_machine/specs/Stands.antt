@@ -1,4 +1,4 @@
--- What the machine's parts stand for: a state of the run, but for its cache lines.
+-- The state of the run that the machine's parts represent, except for its cache lines.
 use Rattle.std.specs.Prelude.{ℕ, ◌≡◌, List, [], ◌∷◌, drop}
 use Rattle.hip_tree.specs.declared.program.Program.{Program}
 use Rattle.hip_runs.specs.declared.event.Event.{Event}
@@ -11,7 +11,7 @@ use Rattle.hip_machine.specs.Blocks.{HoldsBlocks}
 use Rattle.hip_machine.specs.Placed.{placed_at}
 use Rattle.hip_machine.specs.declared.core_parts.Core.{Core}
 
--- The parts stand for a state with a frame on top, after n steps.
+-- The parts represent a state with a frame on top, after n steps.
 pub record Stands (P : Program) (I : Input) (c : Core) (w : World) (f : Frame) (fs : List Frame) (n : ℕ) : Type 0 where
   pub limit : c.limit ≡ I.limit
   pub turns : c.turns ≡ w.turns
@@ -25,16 +25,17 @@ pub record Stands (P : Program) (I : Input) (c : Core) (w : World) (f : Frame) (
   pub blocks : HoldsBlocks c.blocks c.top.blocks f.slots fs
   pub storage : HoldsRun P I c.storage w.writes w.mark
 
--- the parts stand for a state with these frames, the top one first, after n steps; never without a frame
+-- the parts represent a state with these frames, the top one first, after n steps; no parts represent one without a
+-- frame
 abbrev pub StandsOn : Program → Input → Core → World → List Frame → ℕ → Type 0
 StandsOn P I c w [] n = ⊥
 StandsOn P I c w (f ∷ fs) n = Stands P I c w f fs n
 
--- the parts stand for a state, after as many steps as it counts
+-- the parts represent a state, after as many steps as it counts
 abbrev pub StandsFor : Program → Input → Core → State → Type 0
 StandsFor P I c s = StandsOn P I c s.world s.frames s.counts.steps
 
--- After a step with an event, they stand for a state, and the event is the one that is seen.
+-- After a step with an event, the parts represent a state, and the event is the expected one.
 pub record Stepped (P : Program) (I : Input) (c : Core) (e : Event) (s : State) (seen : Event) : Type 0 where
   pub stands : StandsFor P I c s
   pub event : e ≡ seen

@@ -1,4 +1,4 @@
--- In how many plans sites were met, as it is counted.
+-- In how many plans a site was met, as it is counted.
 use Rattle.std.specs.Prelude.{ℕ, ◌+◌, ◌-◌, ◌^◌, min, cond, nat_eq, List, unwrap_or}
 use Rattle.std.specs.Map.{lookup}
 use Rattle.hip_tree.specs.Sites.{same_site}

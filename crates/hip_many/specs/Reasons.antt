@@ -7,7 +7,7 @@ use Rattle.hip_many.specs.declared.reason.Reason.{Reason}
 use Rattle.hip_many.specs.declared.reason.Sort.{Sort}
 use Rattle.hip_many.specs.declared.reason.Sort.TheVariants.{Flush, Fence, Hoist}
 
--- the sites at which a plan does that
+-- the sites at which a plan flushes, fences or hoists
 abbrev pub sites_in : Sort → Plan → List Site
 sites_in Flush plan = plan.flush_after
 sites_in Fence plan = plan.fence_after
@@ -17,7 +17,7 @@ sites_in Hoist plan = plan.hoist
 abbrev pub plans_with : Sort → List Plan → Site → ℕ
 plans_with sort plans site = count_by (λ p. has_site (sites_in sort p) site) plans
 
--- the reason of one site in one list: how many of the plans have it there
+-- why one list has a site: how many of the plans have it in that list
 abbrev pub reason_for : Sort → List Plan → Site → Reason
 reason_for sort plans site = record { sort = sort; site = site; traces = plans_with sort plans site }
 

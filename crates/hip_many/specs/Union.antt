@@ -7,7 +7,7 @@ use Rattle.hip_repairs.specs.Suits.{is_ascending}
 use Rattle.hip_repairs.specs.declared.plan.Plan.{Plan}
 use Rattle.hip_plan.specs.declared.plan_sites.PlanSites.{PlanSites}
 
--- the list ascends, and has the sites that one of the plans has in its list
+-- the list ascends, and has exactly the sites that some plan has in its list
 pub record HasAll (sites_in : Plan → List Site) (plans : List Plan) (list : List Site) : Type 0 where
   pub ascends : is_ascending list ≡ true
   pub has : (s : Site) → has_site list s ≡ list_any (λ p. has_site (sites_in p) s) plans

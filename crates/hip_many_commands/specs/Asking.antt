@@ -1,4 +1,4 @@
--- The runs of a program that are loaded from files, and what they ask for.
+-- The runs of a program that are loaded from files, and the plans and reports that they give.
 use Rattle.std.specs.Prelude.{ℕ, ◌≡◌, false, List, length, Result, Ok, Err, true}
 use Rattle.hip_answers.specs.declared.status.Status.{Status}
 use Rattle.hip_answers.specs.declared.status.Status.TheVariants as statuses
@@ -45,7 +45,7 @@ pub record AreAsked (P : Program) (runs : List TracedRun) (asked : AllAsked) : T
   pub plans_are : asked.plans ≡ plans_of P runs
   pub reports_are : asked.reports ≡ reports_of runs
 
--- The files of these names are the traces of runs, and this is what the runs ask for.
+-- The files of these names are the traces of runs, and these are their plans and the number of their reports.
 pub record HasAskedAll (P : Program) (names : List (List ℕ)) (old new : CabinetState)
     (asked : AllAsked) : Type 0 where
   pub runs : List TracedRun
@@ -53,7 +53,7 @@ pub record HasAskedAll (P : Program) (names : List (List ℕ)) (old new : Cabine
   pub met : HasMet false false old new
   pub asked_are : AreAsked P runs asked
 
--- The first of the files that is none of a run's traces has this number, and this is why.
+-- The file of this number is the first that is not the trace of a run, for this reason.
 pub record LacksTraceIn (P : Program) (names : List (List ℕ)) (old new : CabinetState) (refusal : NumberedRefusal) :
     Type 0 where
   pub name : List ℕ
@@ -61,7 +61,8 @@ pub record LacksTraceIn (P : Program) (names : List (List ℕ)) (old new : Cabin
   pub met : HasMet (is_missing refusal.why) false old new
   pub cause : HasNoTrace old.files name P refusal.why
 
--- The file of this number, after traces of runs, could not be fetched, or could not be read to its end.
+-- The file of this number could not be fetched, or could not be read to its end. All files before it are traces of
+-- runs.
 pub record HasFailedIn (P : Program) (names : List (List ℕ)) (old new : CabinetState) : Type 0 where
   pub number : ℕ
   pub name : List ℕ
@@ -86,7 +87,7 @@ numbered number (failures.Refused why) = failures.Refused (record { number = num
 numbered number failures.ReadFault = failures.ReadFault
 numbered number failures.NoMemory = failures.NoMemory
 
--- the status where not every trace is loaded: why the first such one is refused, a read fault, or out of memory
+-- the status if not every trace is loaded: why the first such trace is refused, a read fault, or out of memory
 abbrev pub status_of_traces : Failure NumberedRefusal → Status
 status_of_traces (failures.Refused refusal) = status_in refusal.number refusal.why
 status_of_traces failures.ReadFault = statuses.ReadFault

@@ -17,7 +17,8 @@ abbrev pub ManyAreOne : Type 0
 ManyAreOne = (p : List ℕ) → (names : List (List ℕ))
     → AreOne (λ old new answer. ManyAnswers old new p names answer)
 
--- where a file is current after a read fault, and is not the program's, its bytes that were taken show no misfit
+-- where a file is current after a read fault, and is not the program's, the bytes that were taken from it show no
+-- misfit
 abbrev pub ManyFaultsHideNone : Type 0
 ManyFaultsHideNone =
     (files : List NamedFile) → (old new : CabinetState) → (p t : List ℕ) → (names : List (List ℕ))
@@ -26,8 +27,8 @@ ManyFaultsHideNone =
     → new.name ≡ Some t
     → p ≢ t → a.status ≡ ReadFault → ManyAnswers old new p names a → ShowsNoMisfit files t P new.rest
 
--- where the one file has a program and the others are the traces of runs of it, and nothing is missing and nothing
--- fails, there is an answer by which the command is carried out
+-- where one file has a program and the others are the traces of runs of it, and no file is missing and no read fails,
+-- there is an answer by which the command is carried out
 abbrev pub ManyAreAnswered : Type 0
 ManyAreAnswered =
     (files : List NamedFile) → (old new : CabinetState) → (p : List ℕ) → (names : List (List ℕ))

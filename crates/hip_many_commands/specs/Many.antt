@@ -24,15 +24,15 @@ use Rattle.hip_repairs.specs.Direct.{direct}
 use Rattle.hip_repairs.specs.Repaired.{repaired}
 use Rattle.hip_repairs.specs.declared.plan.Plan.{Plan}
 
--- ---- a trace that is none
+-- ---- a file that is not the trace of a run
 
 -- the status of a refusal of the trace of that number
 abbrev pub status_in : ℕ → TraceFileRefusal → Status
 status_in number traces.Missing = statuses.Missing (roles.Number number)
 status_in number (traces.Misfit entry kind) = statuses.MisfitIn number entry kind
 
--- The program is there, and this is the first of the files, in order, that is not the trace of a run of it; the answer
--- says which and why.
+-- The program is there, and this is the first of the files, in order, that is not the trace of a run of it. The answer
+-- names the file by its number and says why it is no such trace.
 pub record IsUntracedIn (old new : CabinetState) (program_name : List ℕ) (names : List (List ℕ)) (answer : Answer) :
     Type 0 where
   pub program : Program
@@ -75,7 +75,7 @@ pub record HasRepairedMany (P : Program) (runs : List TracedRun) (answer : Answe
       (reasons (plans_of P runs) plan)
   pub cured : All (λ r. IsCuredBy P r.input plan (direct P)) runs
 
--- The one file has the program, and the others are the traces of runs of it.
+-- One file has the program, and the others are the traces of runs of it.
 pub record HasRunsOf (old new : CabinetState) (program_name : List ℕ) (names : List (List ℕ))
     (answer : Answer) : Type 0
   where
@@ -86,7 +86,7 @@ pub record HasRunsOf (old new : CabinetState) (program_name : List ℕ) (names :
     pub met : HasMet false false old new
     pub texts : HasRepairedMany program runs answer
 
--- no program; a trace that is none, or could not be read; or one repair for all runs
+-- for no program; for a file that is not the trace of a run, or could not be read; or with one repair for all runs
 abbrev pub ManyAnswers : CabinetState → CabinetState → List ℕ → List (List ℕ) → Answer → Type 0
 ManyAnswers old new program_name names answer =
     IsUnloaded old new program_name answer

@@ -15,7 +15,7 @@ sort_word Flush = codes "flush"
 sort_word Fence = codes "fence"
 sort_word Hoist = codes "hoist"
 
--- `why flush S traces K`, or `fence` or `hoist` in place of `flush`: at a site of the program, for how many traces
+-- `why flush S traces K`, or `fence` or `hoist` in place of `flush`, where K of the traces need it at site S
 abbrev pub reason_line : Program → Reason → List ℕ
 reason_line P r =
     codes "why " ++ sort_word r.sort ++ codes " " ++ site_text P r.site ++ numbered (codes " traces ") r.traces

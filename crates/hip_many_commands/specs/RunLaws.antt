@@ -1,4 +1,4 @@
--- The names of files that are known have one list of runs, if they are traces of runs.
+-- The files that are known under these names have at most one list of runs.
 use Rattle.std.specs.Prelude.{ℕ, ◌≡◌, List, [], ◌∷◌, map, Some}
 use Rattle.std.specs.List.{All}
 use Rattle.std.proofs.Common.{refl, sym, ◌∙◌, subst}

@@ -29,7 +29,7 @@ pub record AreRunsOf (files : Option (List NamedFile)) (P : Program) (names : Li
   pub named : map (λ r. r.name) runs ≡ names
   pub each : All (IsRunOf files P) runs
 
--- The trace of that name is the one of that number, counted from 1, and all traces before it are those of runs.
+-- The name is at that place among the names, counted from 1, and all files before it are traces of runs.
 pub record FollowsRuns (files : Option (List NamedFile)) (P : Program) (names : List (List ℕ)) (number : ℕ)
     (name : List ℕ) : Type 0 where
   pub before : List (List ℕ)
@@ -39,7 +39,7 @@ pub record FollowsRuns (files : Option (List NamedFile)) (P : Program) (names : 
   pub runs : List TracedRun
   pub are : AreRunsOf files P before runs
 
--- ---- what runs ask for
+-- ---- the plans and reports of runs
 
 -- the plan for each run
 abbrev pub plans_of : Program → List TracedRun → List Plan

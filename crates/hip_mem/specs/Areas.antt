@@ -16,7 +16,7 @@ pub record Areas : Type 0 where
   pub stack : List ℕ
   pub region : List ℕ
 
--- the sizes and places that every `Ram` keeps to
+-- the sizes and places of the areas of every `Ram`
 pub record IsLaidOut (r : Areas) : Type 0 where
   pub low : 2 ^ 32 ≤ r.base
   pub high : r.base ≤ 2 ^ 46
@@ -44,12 +44,12 @@ byte_in r a =
     cond (is_in volatile_start r.volatile a) (slice_index r.volatile (a - volatile_start))
     (cond (is_in stack_start r.stack a) (slice_index r.stack (a - stack_start)) (slice_index r.region (a - r.base)))
 
--- the n bytes from address a on, which are to be valid
+-- the n bytes from address a on, if all are valid
 abbrev pub bytes_in : Areas → ℕ → ℕ → List ℕ
 bytes_in r a zero = []
 bytes_in r a (suc n) = byte_in r a ∷ bytes_in r (suc a) n
 
--- an access is refused by its alignment first, then by its bytes
+-- why an access traps: first by its alignment, then by its bytes; none if it does not trap
 abbrev pub access_trap : Areas → ℕ → ℕ → ℕ → Option MemTrap
 access_trap r a n align = cond (a % align == 0) (cond (are_valid r a n) None (Some BadAddress)) (Some Misaligned)
 
@@ -67,7 +67,7 @@ abbrev pub area_written : Write → ℕ → List ℕ → List ℕ
 area_written w start [] = []
 area_written w start (x ∷ xs) = byte_written w start x ∷ area_written w (suc start) xs
 
--- after a write, of which bytes that lie in none of the areas change nothing
+-- the areas after a write; bytes of it that lie in none of the areas change nothing
 abbrev pub after_write : Write → Areas → Areas
 after_write w r =
     record {
@@ -85,17 +85,17 @@ block_address r align = next_multiple_of (mark_of r) align
 abbrev pub pushed_mark : Areas → ℕ → ℕ → ℕ
 pushed_mark r size align = block_address r align + size
 
--- the bytes up to a new mark are zeros
+-- the areas after a new stack block; the bytes from the old mark up to the new one are zeros
 abbrev pub after_push : ℕ → Areas → Areas
 after_push mark r =
     record { base = r.base; volatile = r.volatile; stack = r.stack ++ zeros (mark - mark_of r); region = r.region }
 
--- the bytes from a new mark on are gone
+-- the areas without the bytes from a new mark on
 abbrev pub after_pop : ℕ → Areas → Areas
 after_pop mark r =
     record { base = r.base; volatile = r.volatile; stack = take (mark - stack_start) r.stack; region = r.region }
 
--- the areas hold a memory's bytes
+-- the areas hold the bytes of the memory
 pub record Holds (r : Areas) (m : Memory) : Type 0 where
   pub base : r.base ≡ m.base
   pub volatile : length r.volatile ≡ length m.volatile

@@ -19,7 +19,7 @@ write_covers w a = nat_le w.addr a && nat_lt a (w.addr + length w.bytes)
 abbrev pub byte_written : Write → ℕ → ℕ → ℕ
 byte_written w a old = cond (write_covers w a) (slice_index w.bytes (a - w.addr)) old
 
--- the byte at address a after writes in order: that of the last one that covers it, else `first`, which it was before
+-- the byte at address a after writes in order: that of the last one that covers it, else `first`, the byte before them
 abbrev pub byte_from : List Write → ℕ → ℕ → ℕ
 byte_from [] a first = first
 byte_from (w ∷ ws) a first = byte_from ws a (byte_written w a first)
@@ -31,7 +31,7 @@ pub record Memory : Type 0 where
   pub region : List ℕ
   pub writes : List Write
 
--- whether the bytes from an address on have one at address a
+-- whether address a is one of those of bytes that begin at an address
 abbrev pub is_in : ℕ → List ℕ → ℕ → Bool
 is_in start xs a = nat_le start a && nat_lt a (start + length xs)
 
@@ -50,6 +50,6 @@ abbrev pub bytes_at : Memory → ℕ → ℕ → List ℕ
 bytes_at m a zero = []
 bytes_at m a (suc n) = byte_at m a ∷ bytes_at m (suc a) n
 
--- after one more write
+-- the memory after one more write
 abbrev pub with_write : Write → Memory → Memory
 with_write w m = record { base = m.base; volatile = m.volatile; region = m.region; writes = m.writes ++ w ∷ [] }

@@ -5,11 +5,11 @@ use Rattle.hip_mem.specs.declared.TheConstants.{PAGE_SIZE}
 use Rattle.hip_mem.specs.declared.pages.Pages.{Pages}
 use Rattle.hip_mem.specs.Paging.{key_of}
 
--- where page n lies: 0 where it was not made
+-- the place of page n among the pages; 0, that of the page of zeros, if it was not made
 unfoldable pub place_of : Pages → ℕ → ℕ
 place_of m n = number_at m.directory (key_of m.region n)
 
--- page n was made: it does not lie at 0, where the page of zeros does
+-- page n was made: its place is not that of the page of zeros
 abbrev pub IsMade : Pages → ℕ → Type 0
 IsMade m n = 0 < place_of m n
 
@@ -30,7 +30,7 @@ page_bytes m a (suc n) = page_byte m a ∷ page_bytes m (suc a) n
 abbrev pub AreZeros : Pages → ℕ → ℕ → Type 0
 AreZeros m from to = (n i : ℕ) → from ≤ n → n < to → i < PAGE_SIZE → byte_of m n i ≡ 0
 
--- a page from one up to another that was made, before which there are zeros, or none where all are zeros
+-- a page in the range that was made and before which all are zeros; or no page, if all are zeros
 abbrev pub IsFirstMade : Pages → ℕ → ℕ → Option ℕ → Type 0
 IsFirstMade m from to None = AreZeros m from to
 IsFirstMade m from to (Some n) = (from ≤ n) × (n < to) × IsMade m n × AreZeros m from n

@@ -1,4 +1,4 @@
--- What a `Ram` shows.
+-- The areas of a `Ram`.
 use Rattle.std.specs.Prelude.{◌≡◌, ◌-◌, ◌%◌, ◌^◌, ◌≤◌}
 use Rattle.hip_mem.specs.declared.ram.Ram.TheInside.{Inside}
 use Rattle.hip_types.specs.Areas.{volatile_start, stack_start, stack_end}
@@ -16,7 +16,7 @@ areas_of s =
       region = page_bytes s.pages s.base s.region;
     }
 
--- the base is one that a region may have, both sizes are within their limits, and the mark is within the stack
+-- a region may begin at the base, both sizes are within their limits, and the mark is within the stack
 pub record IsRam (s : Inside) : Type 0 where
   pub low : 2 ^ 32 ≤ s.base
   pub high : s.base ≤ 2 ^ 46

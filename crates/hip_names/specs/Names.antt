@@ -17,7 +17,7 @@ abbrev pub AllDiffer : List (List ℕ) → Type 0
 AllDiffer [] = Unit {0}
 AllDiffer (n ∷ ns) = (¬ IsAmong ns n) × AllDiffer ns
 
--- the first list has the same names as the second, perhaps in another order or more often
+-- both lists have the same names, perhaps in another order or more often
 abbrev pub Knows : List (List ℕ) → List (List ℕ) → Type 0
 Knows known names = (name : List ℕ) → is_among known name ≡ is_among names name
 
@@ -25,7 +25,7 @@ Knows known names = (name : List ℕ) → is_among known name ≡ is_among names
 abbrev pub number_of : List (List ℕ) → List ℕ → Option ℕ
 number_of names name = position (bytes_eq name) names
 
--- a first list of at most four, and a second one that begins once the first is full and has room for one more
+-- a first list of at most four items, and a second one that is empty until the first is full, and has room for one more
 pub record IsFilled {A : Type 0} (few more : List A) : Type 0 where
   pub few_fit : length few ≤ 4
   pub in_order : length few < 4 → more ≡ []

@@ -1,5 +1,5 @@
--- What a table stands for that numbers names, where a name may stand there more than once: each name has the number of
--- its first place. And its law: a table with an entry for each name in order stands for them.
+-- Tables that give each name a number. A name may occur more than once in the list: its number is the place of its
+-- first occurrence. The law: a table with an entry for each name, in order, is such a table.
 use Rattle.std.specs.Prelude.{ℕ, zero, suc, ◌+◌, ◌<◌, ◌≤◌, ◌≡◌, Bool, true, false, cond, List, [], ◌∷◌, ◌++◌, length, take, Option, Some, None, option_map, if◌then◌else◌}
 use Rattle.std.specs.Str.{bytes_eq}
 use Rattle.std.proofs.Common.{get_or, refl, sym, ap, ◌∙◌, arith}
@@ -18,7 +18,7 @@ abbrev pub entries_from : ℕ → List (List ℕ) → List (Entry ℕ)
 entries_from n [] = []
 entries_from n (name ∷ names) = record { name = name; value = n } ∷ entries_from (suc n) names
 
--- an entry is added at the end
+-- the entries of one name more: an entry is added at the end
 pub entries-next : (n : ℕ) (names : List (List ℕ)) (k : ℕ) (name : List ℕ) → k < length names
     → get_or names k [] ≡ name →
     entries_from n (take k names) ++ record { name = name; value = n + k } ∷ []

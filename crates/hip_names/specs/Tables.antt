@@ -17,7 +17,7 @@ value_of (e ∷ es) name = if bytes_eq e.name name then Some e.value else value_
 abbrev pub value_beside : {V : Type 0} → List (List ℕ) → List V → List ℕ → Option V
 value_beside names values name = option_and_then (slice_get values) (number_of names name)
 
--- names and values stand for a list of entries
+-- names and values are a table of these entries
 pub record StandsFor {V : Type 0} (names : List (List ℕ)) (values : List V) (entries : List (Entry V)) : Type 0 where
   pub as_long : length names ≡ length values
   pub finds : (name : List ℕ) → value_beside names values name ≡ value_of entries name

@@ -21,26 +21,26 @@ later_note None b = b
 later_note (Some a) None = Some a
 later_note (Some a) (Some b) = cond (nat_lt a.step b.step) (Some b) (Some a)
 
--- the first flush of a loose byte's line after its store
+-- the first flush of a loose byte's line after the store of the byte
 abbrev pub flush_told : (ℕ → Option LineNote) → LooseByte → Option FlushNote
 flush_told lines b = first_after b.tag (flushes_in (lines (b.offset / LINE_SIZE)))
 
--- one loose byte more of a store
+-- the group of a store after one more of its loose bytes
 abbrev pub joined : Bool → Option FlushNote → Option Group → Group
 joined flushed flush None = record { flushed = flushed; latest = flush }
 joined flushed flush (Some g) = record { flushed = g.flushed && flushed; latest = later_note g.latest flush }
 
--- the group of the store of a step after more loose bytes
+-- the group of the store of a step after more loose bytes; those of other stores do not count
 abbrev pub group_from : (ℕ → Option LineNote) → ℕ → Option Group → List LooseByte → Option Group
 group_from lines tag g [] = g
 group_from lines tag g (b ∷ bs) =
     group_from lines tag (cond (nat_eq b.tag tag) (Some (joined b.flushed (flush_told lines b) g)) g) bs
 
--- the site of the flush that lacks a fence: the latest one, where all loose bytes of the store are flushed; else none
+-- the site of the flush that lacks a fence: the latest flush, if all loose bytes of the store are flushed; else none
 abbrev pub site_told : Bool → Option FlushNote → Option Site
 site_told flushed latest = cond flushed (option_map (λ f. f.site) latest) None
 
--- what a check finds of a store, where calls of these births stand
+-- what a check reports of a store, where the standing calls have these births
 abbrev pub store_told : List ℕ → Option ℕ → StoreNote → Group → StoreReport
 store_told births fence note g =
     record {
@@ -51,12 +51,12 @@ store_told births fence note g =
       closed = closed_by births note.calls.value;
     }
 
--- what it finds of a store that has a note; nothing where there is no note
+-- what a check reports of a store that has a note; nothing if it has none
 abbrev pub store_in : List ℕ → Option ℕ → Option StoreNote → Group → List StoreReport
 store_in births fence None g = []
 store_in births fence (Some note) g = store_told births fence note g ∷ []
 
--- what it finds of the stores of these steps
+-- what a check reports of the stores of these steps
 abbrev pub stores_told : List ℕ → Option ℕ → List StoreNote → List (ℕ × Group) → List StoreReport
 stores_told births fence notes [] = []
 stores_told births fence notes (e ∷ es) =

@@ -34,7 +34,7 @@ use Rattle.hip_notes.specs.declared.pending.LineNote.{LineNote}
 use Rattle.hip_notes.specs.declared.pending.StoreNote.{StoreNote}
 
 -- The notes after n steps of a run: its counts, calls and last fence, what is kept of pending stores, marks and
--- reports. What has the number of an entry in it is so where the header's entries were counted right.
+-- reports. The numbers of entries in them are right if those of the header were counted right.
 pub record AreNoted (P : Program) (I : Input) (n : ℕ) (c : Notes) : Type 0 where
   pub steps : c.steps ≡ n
   pub counted : (run P I n).counts.steps ≡ n
@@ -70,8 +70,8 @@ pub record IsNoteOf (step entry : ℕ) (site : Site) (calls : List Level) (note 
   pub site_is : note.site ≡ site
   pub calls_are : note.calls.value ≡ calls
 
--- a store of m bytes at offset o appends its note, and its lines have a store since their last flush; without a site
--- nothing is required
+-- a store of m bytes at offset o appends its note, and its lines are noted as stored into; without a site nothing is
+-- required
 abbrev pub StoredAt : Option Site → ℕ → ℕ → List Level → ℕ → ℕ → Pending → Pending → Type 0
 StoredAt None step entry calls o m old new = Unit {0}
 StoredAt (Some site) step entry calls o m old new =
@@ -79,22 +79,22 @@ StoredAt (Some site) step entry calls o m old new =
     × (new.stores.items ≡ old.stores.items ++ note ∷ []))
     × ChangeLines (λ l. Some (with_store l)) o m old new
 
--- a flush of n bytes at offset o goes into the notes of its lines into which a store came since the flush before, and
--- the stores stay; without a site nothing is required
+-- a flush of n bytes at offset o is noted in each of its lines that was stored into since its last flush, and the notes
+-- of stores stay; without a site nothing is required
 abbrev pub FlushedAt : Option Site → ℕ → ℕ → ℕ → Pending → Pending → Type 0
 FlushedAt None step o n old new = Unit {0}
 FlushedAt (Some site) step o n old new =
     (new.stores.items ≡ old.stores.items)
     × ChangeLines (option_map (with_flush (record { step = step; site = site }))) o n old new
 
--- What a step with this event does to what is kept, in a region from a base on: a store and a flush are noted, and
--- nothing else changes anything; after a persist its lines have no loose byte.
+-- What a step with this event does to what is kept, in a region from a base on: a store and a flush are noted, and any
+-- other event changes nothing. (A persist needs no note: its lines have no loose byte after it.)
 abbrev pub Follows : Event → Option Site → ℕ → ℕ → ℕ → List Level → Pending → Pending → Type 0
 Follows (events.Store a v m) site base step entry calls old new = StoredAt site step entry calls (a - base) m old new
 Follows (events.Flush line size) site base step entry calls old new = FlushedAt site step (line - base) size old new
 Follows _ site base step entry calls old new = StaySame old new
 
--- a store or a flush, counted from a base, ends below 2^64
+-- a store or a flush ends below 2^64, counted from a base
 abbrev pub EndsBelow : ℕ → Event → Type 0
 EndsBelow base (events.Store a v m) = (a - base) + m < 2 ^ 64
 EndsBelow base (events.Flush line size) = (line - base) + size < 2 ^ 64
@@ -108,7 +108,7 @@ calls_after before after step None ls = cond (nat_lt after before) (drop 1 ls) l
 calls_after before after step (Some site) ls =
     cond (nat_lt before after) (record { call = site; birth = step } ∷ ls) (cond (nat_lt after before) (drop 1 ls) ls)
 
--- and their births, the outermost one first
+-- the births of these calls, the outermost one first
 abbrev pub births_after : ℕ → ℕ → ℕ → Option Site → List ℕ → List ℕ
 births_after before after step None bs = cond (nat_lt after before) (take (length bs - 1) bs) bs
 births_after before after step (Some site) bs =
@@ -116,7 +116,7 @@ births_after before after step (Some site) bs =
 
 -- ---- what an event checks
 
--- the reports with those of a check of a range appended, if there is one
+-- the reports after an event: if it checks a range, those of the check are appended
 abbrev pub Reported : Option Range → List ℕ → ℕ → Option ℕ → Pending → List (Waiting Part)
     → List Report
     → List Report → Type 0
@@ -133,23 +133,23 @@ Reported (Some r) births entry fence p lines old new =
 unfoldable pub loose_of_line : List (Waiting Part) → ℕ → List LooseByte
 loose_of_line ws j = loose_from ws (LINE_SIZE * j) LINE_SIZE
 
--- the flush, where its step is among some
+-- the flush as a list, if its step is among these
 abbrev pub flush_among : (ℕ → Bool) → FlushNote → List FlushNote
 flush_among steps f = cond (steps f.step) (f ∷ []) []
 
--- Fewer of the flushes of line j: each loose byte of the line still has the same first flush after its store.
+-- Fewer flushes of line j are kept, but each loose byte of the line still has the same first flush after its store.
 pub record IsThinned (ws : List (Waiting Part)) (j : ℕ) (old new : List FlushNote) : Type 0 where
   pub ascend : (a b : ℕ) → FlushesAscend a b old → FlushesAscend a b new
   pub first : (x : LooseByte) → In x (loose_of_line ws j) → first_after x.tag new ≡ first_after x.tag old
 
--- line j has no note any more, or its note with fewer flushes
+-- line j has no note any more, or its note, perhaps with fewer flushes
 abbrev pub MayThin : List (Waiting Part) → ℕ → Option LineNote → Option LineNote → Type 0
 MayThin ws j old None = Unit {0}
 MayThin ws j None (Some new) = ⊥
 MayThin ws j (Some old) (Some new) = (new.stored ≡ old.stored) × IsThinned ws j old.flushes new.flushes
 
--- What is kept of the notes when these parts are pending: some of the stores, including each store by which a byte is
--- loose, and the note of each line that has a loose byte, maybe with fewer flushes.
+-- What is kept of the notes, where these parts are pending: each store by which a byte is loose, and perhaps others;
+-- and the note of each line that has a loose byte, perhaps with fewer flushes.
 pub record IsLetGo (ws : List (Waiting Part)) (region : ℕ) (old new : Pending) : Type 0 where
   pub tags : ℕ → Bool
   pub told : (x : LooseByte) → In x (loose_from ws 0 region) → tags x.tag ≡ true
@@ -158,6 +158,6 @@ pub record IsLetGo (ws : List (Waiting Part)) (region : ℕ) (old new : Pending)
   pub there : (x : LooseByte) → In x (loose_from ws 0 region) → IsSome (lines_of old.lines (x.offset / LINE_SIZE))
       → IsSome (lines_of new.lines (x.offset / LINE_SIZE))
 
--- all stays, or only what the loose bytes need is kept
+-- all is kept, or at least what the loose bytes need
 abbrev pub IsForgotten : List (Waiting Part) → ℕ → Pending → Pending → Type 0
 IsForgotten ws region old new = (new ≡ old) ⊎ IsLetGo ws region old new

@@ -10,7 +10,7 @@ use Rattle.hip_notes.specs.declared.pending.StoreNote.{StoreNote}
 
 -- ---- stores
 
--- the first note of a store that was made by a step
+-- the first note of the store that a step made
 abbrev pub note_of : List StoreNote → ℕ → Option StoreNote
 note_of [] tag = None
 note_of (x ∷ xs) tag = cond (nat_eq x.tag tag) (Some x) (note_of xs tag)
@@ -20,7 +20,7 @@ abbrev pub StoresAscend : ℕ → ℕ → List StoreNote → Type 0
 StoresAscend a b [] = Unit {0}
 StoresAscend a b (x ∷ xs) = (a ≤ x.tag) × (x.tag < b) × StoresAscend (x.tag + 1) b xs
 
--- so the steps of flushes
+-- the same for the steps of flushes
 abbrev pub FlushesAscend : ℕ → ℕ → List FlushNote → Type 0
 FlushesAscend a b [] = Unit {0}
 FlushesAscend a b (x ∷ xs) = (a ≤ x.step) × (x.step < b) × FlushesAscend (x.step + 1) b xs
@@ -40,7 +40,7 @@ lines_of m j = tree.get nat_cmp m j
 abbrev pub is_between : ℕ → ℕ → ℕ → Bool
 is_between first end j = nat_le first j && nat_lt j end
 
--- the flushes that are noted of a line, the earliest first; none where it has no note
+-- the noted flushes of a line, the earliest first; none if it has no note
 abbrev pub flushes_in : Option LineNote → List FlushNote
 flushes_in None = []
 flushes_in (Some l) = l.flushes
@@ -49,7 +49,7 @@ flushes_in (Some l) = l.flushes
 abbrev pub with_store : Option LineNote → LineNote
 with_store l = record { stored = true; flushes = flushes_in l }
 
--- A line after a flush of it, which is noted where a store came since the flush before.
+-- A line after a flush of it. The flush is noted if the line was stored into since the flush before.
 abbrev pub with_flush : FlushNote → LineNote → LineNote
 with_flush f l = cond l.stored (record { stored = false; flushes = l.flushes ++ f ∷ [] }) l
 

@@ -28,20 +28,20 @@ mark_by P I s site k (Some a) = mark_of site k (object_at P I.base s.frames a)
 abbrev pub mark_at : Program → Input → State → Site → ℕ → List Mark
 mark_at P I s site k = mark_by P I s site k (pointer_of P I s k)
 
--- those of the first operands
+-- the marks of the first k operands
 abbrev pub marks_to : Program → Input → State → Site → ℕ → List Mark
 marks_to P I s site zero = []
 marks_to P I s site (suc k) = marks_to P I s site k ++ mark_at P I s site k
 
--- to marks that were met, these add what those add
+-- after these marks were met, the two lists add the same marks
 abbrev pub AddAlike : List Mark → List Mark → List Mark → Type 0
 AddAlike met_before these those = met same_mark met_before these ≡ met same_mark met_before those
 
--- unless a step with this event ends the run, these marks add what those add
+-- the same, unless a step with this event ends the run
 abbrev pub AddUnlessEnded : Event → List Mark → List Mark → List Mark → Type 0
 AddUnlessEnded e met_before these those = AddAlike met_before (unless_ended e these) (unless_ended e those)
 
--- whether a step with this event does nothing that is noted: it is quiet or prints
+-- whether a step with this event has nothing to note: it is quiet or prints
 abbrev pub is_still : Event → Bool
 is_still events.Quiet = true
 is_still (events.Print z) = true

@@ -19,13 +19,13 @@ pub record IsLooseAt (ls : List (Line StorePart)) (b k : ℕ) (x : StorePart) : 
   pub line_at : slice_get ls (b / LINE_SIZE) ≡ Some line
   pub loose : IsLooseBy covers line b k x
 
--- the flush that a note is of, by its step and its site
+-- the step and the site of a noted flush
 abbrev pub flush_of : FlushNote → Flush
 flush_of f = record { step = f.step; site = f.site }
 
--- What is kept of the part of a store by which byte b is loose: the note of the store, with its site, its calls and,
--- when the header has as many entries as were counted, its entry; and the note of the byte's line, which gives the
--- first flush of the part.
+-- What is kept of the part of a store by which byte b is loose. There is the note of the store, with its site, its
+-- calls and, if the header's entries were counted right, its entry. And there is the note of the byte's line, which
+-- gives the first flush after the part.
 pub record IsKept (I : Input) (header : ℕ) (notes : List StoreNote) (lines : ℕ
     → Option LineNote) (b : ℕ) (x : StorePart) : Type 0 where
   pub note : StoreNote

@@ -10,12 +10,11 @@ use Rattle.hip_types.specs.Numbers.{bits, modulus, sign_of, signed, wrapped}
 use Rattle.hip_num.specs.declared.arithmetic.NumTrap.{NumTrap}
 use Rattle.hip_num.specs.declared.arithmetic.NumTrap.TheVariants.{DivZero, DivOverflow, ShiftRange}
 
--- there is no quotient by 0
+-- the quotient, or a trap if the divisor is 0
 abbrev pub divided : ℕ → ℕ → Result ℕ NumTrap
 divided divisor value = if divisor == 0 then Err DivZero else Ok value
 
--- why a division with a sign has no result: a divisor of 0, or -2 ^ (N - 1) by -1, whose quotient is no integer of N
--- bits
+-- why a division with a sign traps: a divisor of 0, or -2 ^ (N - 1) by -1, whose quotient is no integer of N bits
 abbrev pub division_fault : Width → ℕ → ℕ → Option NumTrap
 division_fault w a b =
     if b == 0 then Some DivZero else (if a == sign_of w && b == modulus w - 1 then Some DivOverflow else None)
@@ -25,7 +24,7 @@ abbrev pub unless : Option NumTrap → ℕ → Result ℕ NumTrap
 unless (Some trap) value = Err trap
 unless None value = Ok value
 
--- a shift is by less than the width
+-- a shift traps unless it is by less than the width
 abbrev pub shifted : Width → ℕ → ℕ → Result ℕ NumTrap
 shifted w amount value = if nat_lt amount (bits_of w) then Ok value else Err ShiftRange
 

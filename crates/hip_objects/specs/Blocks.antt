@@ -8,11 +8,11 @@ use Rattle.hip_runs.specs.declared.event.Object.TheVariants as objects
 use Rattle.hip_objects.specs.Order.{AreInOrder}
 use Rattle.hip_objects.specs.declared.blocks.Block.{Block}
 
--- a block of the code as a block of a frame: the same address, size and site
+-- a block of the code as a block of a frame, with the same address, size and site
 abbrev pub slot_of : Block → Slot
 slot_of b = record { addr = b.addr; size = b.size; site = b.site }
 
--- the same of each block, in their order
+-- the same for each block, in their order
 abbrev pub slots_of : List Block → List Slot
 slots_of bs = map slot_of bs
 
@@ -20,11 +20,11 @@ slots_of bs = map slot_of bs
 abbrev pub AreStacked : List Block → Type 0
 AreStacked bs = AreInOrder (λ b. b.addr) (λ b. b.size) bs
 
--- all these blocks end at an address or before it
+-- all these blocks end at or before an address
 abbrev pub IsBehind : ℕ → List Slot → Type 0
 IsBehind a xs = All (λ x. x.addr + x.size ≤ a) xs
 
--- the block, of these from the newest one on, that has the byte at an address; they stand from the oldest one on
+-- the newest of these blocks that has the byte at an address; the blocks are given from the oldest one on
 abbrev pub object_in : List Slot → ℕ → Option Object
 object_in xs a = slot_in (reverse xs) a
 

@@ -7,11 +7,11 @@ use Rattle.hip_objects.specs.Order.{AreInOrder, first_at}
 use Rattle.hip_objects.specs.declared.globals.GlobalTable.TheInside.{Inside}
 use Rattle.hip_objects.specs.declared.globals.Place.{Place}
 
--- where a global lies that is laid from a place on, with its number
+-- where a global lies that is laid from a place on, and its number
 abbrev pub place_of : ℕ → GlobalVar → ℕ → Place
 place_of at g number = record { start = global_start at g; size = (shape g.ty).size; number = number }
 
--- Where those of these globals lie that are persistent, or that are not, laid from a place on; the first of these
+-- Where the persistent ones of these globals lie, or the others, if they are laid from a place on. The first of these
 -- globals has number n.
 abbrev pub places_from : Bool → ℕ → ℕ → List GlobalVar → List Place
 places_from persistent at n [] = []
@@ -34,7 +34,7 @@ pub record Laid : Type 0 where
   pub volatile : List Place
   pub persistent : List Place
 
--- the persistent ones lie from the base on, the volatile ones before it
+-- the number of the global at an address: a persistent one from the base on, a volatile one below it
 abbrev pub global_in : Laid → ℕ → Option ℕ
 global_in l a = cond (nat_lt a l.base) (number_at a l.volatile) (number_at a l.persistent)
 

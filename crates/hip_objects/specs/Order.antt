@@ -1,4 +1,4 @@
--- Things that lie one after the other in memory, each from its first byte on.
+-- Items that lie one after the other in memory, each with its first byte and its size.
 use Rattle.std.specs.Prelude.{ℕ, ◌+◌, ◌<◌, ◌≤◌, cond, List, [], ◌∷◌, Option, Some, None, length, slice_index_or}
 use Rattle.hip_mem.specs.Memory.{range_contains}
 
@@ -12,7 +12,7 @@ pub record AreSplit {X : Type 0} (start : X → ℕ) (xs : List X) (a n : ℕ) :
   pub before : (i : ℕ) (d : X) → i < n → i < length xs → start (slice_index_or xs i d) ≤ a
   pub behind : (i : ℕ) (d : X) → n ≤ i → i < length xs → a < start (slice_index_or xs i d)
 
--- what the first one that has the byte at an address gives
+-- what the first item that has the byte at an address gives
 abbrev pub first_at : {X B : Type 0} → (X → ℕ) → (X → ℕ) → (X → B) → ℕ → List X → Option B
 first_at start size told a [] = None
 first_at start size told a (x ∷ xs) =

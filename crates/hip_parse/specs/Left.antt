@@ -1,4 +1,4 @@
--- What a parser has left, and what its methods say of it.
+-- What a parser has left, and what the contracts of its methods say of it.
 use Rattle.std.specs.Prelude.{◌≡◌, ℕ, List, [], ◌∷◌, Option, Some, None, Result, Ok, Err}
 use Rattle.hip_tokens.specs.declared.lexer.Token.{Token}
 use Rattle.hip_tokens.specs.Tokens.{At, cut}
@@ -18,23 +18,23 @@ and_after (Some x) ts = (record { tok = seen x.0; line = x.1 }) ∷ ts
 unfoldable pub left : Parser → List At
 left p = and_after p.token (cut p.lexer.line 0 p.lexer.rest.now)
 
--- the tokens after the first one; of no tokens none
+-- the tokens after the first one; none if there are no tokens
 abbrev pub tail : List At → List At
 tail [] = []
 tail (t ∷ ts) = ts
 
--- What a method gave, seen by `view`, is what the reading gives. The parser is then after it, or at the refused
--- place.
+-- What a method gave, under `view`, is what the reading gives. After it the parser is at the token after what was read,
+-- or at the refused place.
 abbrev pub Gives : {X Y : Type 0} → (X → Y) → Result X (Option Fault) → Outcome Fault Y → List At → Type 0
 Gives view (Ok x) read after = read ≡ Ok (view x, after)
 Gives view (Err why) read after = read ≡ Err (why, after)
 
--- the failure of a method that takes memory: a refusal as above, or out of memory, which says nothing of the reading
+-- the failure of a method that takes memory: a refusal as above, or out of memory, where nothing is said of the reading
 abbrev pub Fails : {Y : Type 0} → ReadError → Outcome Fault Y → List At → Type 0
 Fails errors.Memory read after = Unit {0}
 Fails (errors.Refused why) read after = read ≡ Err (why, after)
 
--- what `Gives` says, of a method that takes memory
+-- the same as `Gives`, for a method that takes memory
 abbrev pub Takes : {X Y : Type 0} → (X → Y) → Result X ReadError → Outcome Fault Y → List At → Type 0
 Takes view (Ok x) read after = read ≡ Ok (view x, after)
 Takes view (Err e) read after = Fails e read after

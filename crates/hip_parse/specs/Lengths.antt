@@ -1,4 +1,4 @@
--- A part that is read leaves no more tokens than there were, and one that begins by a token leaves fewer.
+-- A part that is read leaves at most as many tokens as there were, and fewer if it begins with a token.
 use Rattle.std.proofs.Common.{◌≡◌, ◌≤◌, List, Ok, length}
 use Rattle.hip_types.specs.declared.number.Scalar.{Scalar}
 use Rattle.hip_types.specs.declared.number.Width.{Width}

@@ -1,4 +1,4 @@
--- Worths as they are added up, and the greatest of them.
+-- Worths as they are summed, and the greatest of them.
 use Rattle.std.specs.Prelude.{ℕ, ◌≡◌, Bool, true, false, cond, not, ◌&&◌, nat_eq, List, Option, Some, None, ℤ, pos, int_lt, ◌≤ℤ◌, FitsSigned, unwrap_or}
 use Rattle.std.specs.Int.{w128}
 use Rattle.std.specs.List.{All}
@@ -12,7 +12,7 @@ use Rattle.hip_runs.specs.Found.Scores.{is_marked, worth, worth_in, worth_of}
 use Rattle.hip_runs.specs.declared.report.Mark.{Mark}
 use Rattle.hip_runs.specs.declared.report.Marks.{Marks}
 
--- what a mark adds to the worth of an operand; nothing where it is of another operand
+-- what a mark adds to the worth of an operand; 0 if it is of another operand
 abbrev pub added_by : List ℕ → Mark → Site → ℕ → ℤ
 added_by hit mark site operand =
     cond (same_site mark.site site && nat_eq mark.operand operand) (worth_of (is_marked hit mark.object)) (pos 0)
@@ -25,7 +25,7 @@ is_pointer a = has_pointer a.ty
     has_pointer Ptr = true
     has_pointer (Int w) = false
 
--- the greater one of the greatest worth so far and a worth
+-- the greater of a worth and the greatest one so far
 abbrev pub greatest : Option ℤ → ℤ → Option ℤ
 greatest None a = Some a
 greatest (Some b) a = Some (cond (int_lt b a) a b)
@@ -51,7 +51,7 @@ OperandKey = Site × ℕ
 abbrev pub same_operand : OperandKey → OperandKey → Bool
 same_operand a b = same_site a.0 b.0 && nat_eq a.1 b.1
 
--- the worth that stands in the table for an operand; 0 where none does
+-- the worth in the table of an operand; 0 if it has none
 abbrev pub worth_among : List (OperandKey × ℤ) → OperandKey → ℤ
 worth_among entries key = unwrap_or (lookup (same_operand key) entries) (pos 0)
 
@@ -60,7 +60,7 @@ pub record HasWorths (entries : List (OperandKey × ℤ)) (hit : List ℕ) (mark
   pub worth : (site : Site) (operand : ℕ) →
       worth_among entries (site, operand) ≡ worth_in hit site operand marks (pos 0)
 
--- the greater one of two numbers
+-- the greater of two numbers
 abbrev pub greater_one : ℤ → ℤ → ℤ
 greater_one a b = cond (int_lt a b) b a
 

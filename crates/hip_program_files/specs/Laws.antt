@@ -22,7 +22,7 @@ counts_then : (rises : Bool) (old mid new : ℕ) → mid ≡ old → CountsUp ri
 counts_then true old mid new same up = (omega (arith, same, up.0), subst (λ n. Rose n new) same up.1)
 counts_then false old mid new same up = up ∙ same
 
--- where the first of two calls met nothing, both have met what the second met
+-- where the first of two calls met nothing, both together met what the second met
 pub met_then : {missed failed : Bool} {old mid new : CabinetState} → HasMet false false old mid
     → HasMet missed failed mid new → HasMet missed failed old new
 met_then {missed} {failed} {old} {mid} {new} first second = record {
@@ -46,7 +46,7 @@ fetches_then m n {old} {mid} {new} first second =
 
 -- ---- one answer
 
--- a register without an assignment may be shown by one path or another
+-- the fault without the path that shows a register without an assignment, since another path may show it too
 abbrev pub without_path : TypeFault → TypeFault
 without_path (faults.Unassigned path) = faults.Unassigned []
 without_path fault = fault

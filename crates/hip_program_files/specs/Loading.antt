@@ -26,7 +26,7 @@ pub record IsRefusedText (text : List ℕ) (why : Fault) (line : ℕ) : Type 0 w
   pub unread : (program : Program) → Reads text program → ⊥
   pub refused : IsRefusal text why line
 
--- the text is refused so; never out of memory
+-- the text is refused in this way; out of memory is no such refusal
 abbrev pub RefusesText : List ℕ → ParseRefusal → Type 0
 RefusesText text (parse.Syntax line) = IsRefusedText text faults.Syntax line
 RefusesText text (parse.Unsupported line) = IsRefusedText text faults.Unsupported line
@@ -34,7 +34,7 @@ RefusesText text (parse.Range line) = IsRefusedText text faults.Range line
 RefusesText text (parse.TooDeep line) = IsRefusedText text faults.TooDeep line
 RefusesText text parse.NoMemory = ⊥
 
--- the text is not read, or it is read as a program that is not sound
+-- the text reads as no program, or as one that is not sound
 abbrev pub RefusesProgram : List ℕ → ProgramRefusal → Type 0
 RefusesProgram text (refusals.Text why) = RefusesText text why
 RefusesProgram text (refusals.Form why) = (program : Program) × Reads text program × IsRefused program why

@@ -1,15 +1,15 @@
--- What a call has met outside.
+-- What a call has met in its files.
 use Rattle.std.specs.Prelude.{ℕ, ◌+◌, ◌-◌, ◌^◌, ◌≡◌, ◌≤◌, min, Bool, true, false}
 use Rattle.hip_io.specs.Cabinets.{CabinetState}
 use Rattle.hip_io.specs.Counts.{Rose}
 
--- a count rose in the call, or it is as it was
+-- a count rose in the call, or it is the same
 abbrev pub CountsUp : Bool → ℕ → ℕ → Type 0
 CountsUp true old new = (old ≤ new) × Rose old new
 CountsUp false old new = new ≡ old
 
--- No file has changed. The count of misses rose exactly where a file was missing, and the count of faults exactly
--- where one could not be read.
+-- No file has changed. The count of misses rose exactly if a file was missing, and the count of faults exactly if a
+-- file could not be read.
 pub record HasMet (missed failed : Bool) (old new : CabinetState) : Type 0 where
   pub files : new.files ≡ old.files
   pub misses : CountsUp missed old.misses new.misses

@@ -14,7 +14,7 @@ abbrev pub HoldsNothing : {T : Type 0} → Result T RecordRefusal → ℕ → Ty
 HoldsNothing (Ok value) held = held ≡ 0
 HoldsNothing (Err refusal) held = HoldsNothingAfter refusal held
 
--- No memory was left, and nothing more is given to the sink: the refusal is a write fault where the delivery failed.
+-- Memory ran out, and nothing more is given to the sink. The refusal is a write fault if the delivery failed.
 abbrev pub EndsOutOfMemory : SinkState → SinkState → RecordRefusal → Type 0
 EndsOutOfMemory old new refusals.NoMemory = AppendsAll old new []
 EndsOutOfMemory old new refusals.WriteFault = AppendsPrefix old new []

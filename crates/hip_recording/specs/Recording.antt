@@ -44,7 +44,7 @@ abbrev pub StopsRecording : Program → Input → SinkState → SinkState → Re
 StopsRecording P I old new refusals.WriteFault = HasFailedRecording P I old new
 StopsRecording P I old new refusals.NoMemory = HasStoppedRecording P I old new
 
--- what is written, by the answer, which does not have what the run found
+-- what is written, by the answer, which has no findings
 abbrev pub PutsTrace : Program → Input → SinkState → SinkState → Result Ended RecordRefusal → Type 0
 PutsTrace P I old new (Ok done) = HasPutTrace P I old new done
 PutsTrace P I old new (Err refusal) = StopsRecording P I old new refusal

@@ -20,12 +20,12 @@ use Rattle.hip_sound.specs.Sound.{IsSound}
 abbrev pub repaired_for : Program → Findings → Program
 repaired_for P found = repaired P (plan_for P found) (direct P)
 
--- What a repair by a plan does, whose clones do not flush the stores to skip. On every valid input the repaired
--- program prints the same and reaches the same memory at corresponding steps, and it leaves no crash image that was not
+-- What a repair by a plan does; its clones do not flush the stores to skip. On every valid input the repaired program
+-- prints the same and reaches the same memory at corresponding steps, and it leaves no crash image that was not
 -- possible there before. On this input every byte is durable where it is checked. A hoisted call goes to a clone of its
 -- callee, and every store under it is durable after the fence that follows it. The repaired program is sound, and its
--- canonical text reads as it. What is durable survives a crash, no crash history is added, and all this lasts through
--- later repairs.
+-- canonical text reads as the repaired program. What is durable survives a crash, no crash history is added, and all
+-- this lasts through later repairs.
 pub record IsCuredBy (P : Program) (I : Input) (plan : Plan) (skip : Site → Bool) : Type 0 where
   pub harmless : IsHarmless P plan skip
   pub clean : IsClean (repaired P plan skip) I
@@ -35,6 +35,6 @@ pub record IsCuredBy (P : Program) (I : Input) (plan : Plan) (skip : Site → Bo
   pub reads : Reads (show (repaired P plan skip)) (repaired P plan skip)
   pub crashes : IsCrashSafe P I plan skip
 
--- the repair for what a run found does so, on the run's input
+-- the repair for what a run found does all this, on the run's input
 abbrev pub IsCured : Program → Input → Findings → Type 0
 IsCured P I found = IsCuredBy P I (plan_for P found) (direct P)

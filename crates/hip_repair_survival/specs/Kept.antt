@@ -30,9 +30,9 @@ IsAsDurable s s' =
     (j : ℕ) (l l' : Line StorePart) → slice_get s.lines j ≡ Some l → slice_get s'.lines j ≡ Some l' →
     (l.flushed ≤ l'.flushed) × (l.durable ≤ l'.durable)
 
--- On every valid input the repaired program has, in each state, at least as much flushed and durable as the program
--- has in the corresponding state. So each byte that is loose here is loose there, and each byte that survives a crash
--- there survives one here.
+-- On every valid input the repaired program has, in each state, at least as much flushed and durable as the program has
+-- in the corresponding state. So each byte that is loose in the repaired program's run is loose in the program's, and
+-- each byte that survives a crash of the program survives one of the repaired program.
 pub record LoosensNothing (P : Program) (plan : Plan) (skip : Site → Bool) : Type 0 where
   pub durable : (I : Input) → IsValid P I → (n : ℕ) →
       IsAsDurable (run P I (matched P plan skip I n)) (run (repaired P plan skip) I n)
@@ -54,8 +54,8 @@ pub record HasReportOf (P Q : Program) (I : Input) (steps_of : ℕ → ℕ) (n :
   pub store' : IsOfStep Q I step r'
   pub store : IsOfStep P I (steps_of step) report
 
--- A check of Q's run, after n steps, is a check of P's run in the corresponding state. Each report of it has a report
--- there of the same store, so it reports nothing where that check reports nothing.
+-- A check of Q's run, after n steps, is a check of P's run in the corresponding state. For each report of Q's check P's
+-- check has a report of the same store, so Q's check reports nothing if P's reports nothing.
 pub record IsNoWorse (P Q : Program) (I : Input) (steps_of : ℕ → ℕ) (n : ℕ) (range : Range) : Type 0 where
   pub there : next_check P I (run P I (steps_of n)) ≡ Some range
   pub reports : (r' : Report) → In r' (check_reports (run Q I n) (Some range)) → HasReportOf P Q I steps_of n range r'
@@ -87,8 +87,8 @@ pub record IsStoredSince (s : State) (step b : ℕ) : Type 0 where
   pub over : IsLastOver covers line.parts b place part
   pub since : step ≤ part.step
 
--- Wherever the run of Q stands at a fence directly after a call of a clone, each byte of the region whose last store
--- came since that call survives a crash after the fence.
+-- At each fence of Q directly after a call of a clone: each byte of the region whose last store came since that call
+-- survives a crash after the fence.
 abbrev pub CoveredSurvive : Program → Program → Type 0
 CoveredSurvive P Q =
     (I : Input) → IsValid P I → (j n : ℕ) → IsBehindClone Q (length P.functions) (run Q I n) → IsLastBefore Q I j n →

@@ -16,7 +16,7 @@ use Rattle.hip_runs.specs.declared.report.Findings.{Findings}
 use Rattle.hip_tree.specs.declared.program.Program.{Program}
 use Rattle.hip_tree.specs.declared.site.Site.{Site}
 
--- the repair by this plan, whose clones do not flush the stores to skip
+-- the repair by this plan; its clones do not flush the stores to skip
 pub record IsRepairBy (P : Program) (plan : Plan) (skip : Site → Bool) (repair : Repair) : Type 0 where
   pub plan_is : repair.plan ≡ plan
   pub applied : IsApplied P plan skip repair.repaired
@@ -25,12 +25,12 @@ pub record IsRepairBy (P : Program) (plan : Plan) (skip : Site → Bool) (repair
 abbrev pub IsRepairFor : Program → Findings → Repair → Type 0
 IsRepairFor P found repair = IsRepairBy P (plan_for P found) (direct P) repair
 
--- The repair by that plan whose clones do not flush the low stores, and the number of stores that are spared by it.
+-- The repair by that plan whose clones do not flush the low stores, and how many stores this spares.
 pub record IsThinnedFor (P : Program) (found : Findings) (thinned : Thinned) : Type 0 where
   pub repair : IsRepairBy P (plan_for P found) (low_stores P) thinned.repair
   pub spared_is : thinned.spared ≡ spared_count P (plan_for P found)
 
--- The repair by the union of the plans, which has each of them, with a reason for each of its sites.
+-- The repair by the union of the plans, which contains each of them, with a reason for each site of the union.
 pub record IsRepairForAll (P : Program) (plans : List Plan) (made : ManyRepair) : Type 0 where
   pub union : IsUnion plans made.repair.plan
   pub contains : (part : Plan) → In part plans → Contains made.repair.plan part

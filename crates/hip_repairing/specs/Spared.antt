@@ -1,4 +1,4 @@
--- The stores of cloned functions that get no flush by cloning since they are low, though they are not direct.
+-- The stores of cloned functions that their clones do not flush because they are low, though they are not direct.
 use Rattle.std.specs.Prelude.{ℕ, Bool, ◌&&◌, not, nat_eq, List, length}
 use Rattle.std.specs.List.{filter, list_any}
 use Rattle.hip_tree.specs.Sites.{has_site, sites_of}

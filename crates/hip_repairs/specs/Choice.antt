@@ -48,8 +48,8 @@ level_for P found r MissingFence = 0
 level_for P found r MissingFlush = best_on P found r.closed r.path
 level_for P found r MissingBoth = best_on P found r.closed r.path
 
--- The level at which a report is repaired: 0 at its store, n at the n-th call outward from it. Where a fence alone is
--- missing it is 0, and plays no part.
+-- The level at which a report is repaired: 0 at its store, n at the n-th call outward from it. If only a fence is
+-- missing it is 0, and is not used.
 abbrev pub choice : Program → Findings → Report → ℕ
 choice P found r = level_for P found r r.kind
 
@@ -66,15 +66,15 @@ asks_flush MissingFence level path s = false
 asks_flush MissingFlush level path s = nat_eq level 0 && is_site (slice_get path 0) s
 asks_flush MissingBoth level path s = nat_eq level 0 && is_site (slice_get path 0) s
 
--- whether it needs a fence after the site: if only the fence is missing, after the flush that the report names; if both
--- are missing, after the store at level 0
+-- whether it needs a fence after the site: after the flush that the report names, if only the fence is missing; after
+-- the store at level 0, if both are missing
 abbrev pub asks_fence : Kind → ℕ → Option Site → List Site → Site → Bool
 asks_fence MissingFence level flush path s = is_site flush s
 asks_fence MissingFlush level flush path s = false
 asks_fence MissingBoth level flush path s = nat_eq level 0 && is_site (slice_get path 0) s
 
--- whether it needs the call at the site hoisted: if a flush is missing, the call of that level on the path, but not at
--- level 0
+-- whether it needs the call at the site hoisted: the call of that level on the path, if a flush is missing and the
+-- level is not 0
 abbrev pub asks_hoist : Kind → ℕ → List Site → Site → Bool
 asks_hoist MissingFence level path s = false
 asks_hoist MissingFlush zero path s = false

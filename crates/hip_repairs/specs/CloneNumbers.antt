@@ -8,16 +8,16 @@ use Rattle.hip_repairs.specs.declared.plan.CloneOf.{CloneOf}
 use Rattle.hip_repairs.specs.declared.plan.Plan.{Plan}
 use Rattle.hip_repairs.specs.Repaired.{wanted_by, clones_of, cloned, repaired, repaired_function}
 
--- the functions of these numbers, and their clones from a number on
+-- pairs of these functions and their clones, which are numbered from a number on
 abbrev pub numbered_from : ℕ → List ℕ → List CloneOf
 numbered_from copy [] = []
 numbered_from copy (f ∷ fs) = record { original = f; copy = copy } ∷ numbered_from (suc copy) fs
 
--- the clones of a plan stand after all functions of the program
+-- the clones of a plan come after all functions of the program
 abbrev pub clone_numbers : Program → Plan → List CloneOf
 clone_numbers P plan = numbered_from (length P.functions) (cloned P plan)
 
--- In the repaired program the one function is the clone of the other, under the fresh name of its place.
+-- In the repaired program one function is the clone of the other, under the fresh name of its place.
 pub record IsCloneOf (P : Program) (plan : Plan) (skip : Site → Bool) (clone : CloneOf) : Type 0 where
   pub function : Function
   pub original : slice_get P.functions clone.original ≡ Some function

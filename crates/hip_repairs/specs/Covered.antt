@@ -27,28 +27,28 @@ is_fence (Some calls.Sfence) = Unit {0}
 is_fence (Some calls.Mfence) = Unit {0}
 is_fence _ = ⊥
 
--- there is an instruction, and it is a call of one of these two intrinsics
+-- the instruction is there, and is a call of one of these two intrinsics
 abbrev pub IsFenceCall : Option Instr → Type 0
 IsFenceCall (Some (Call dest ret callee args)) = is_fence (call_of callee)
 IsFenceCall _ = ⊥
 
--- there is an instruction, and it is a call of function g of the program
+-- the instruction is there, and is a call of function g of the program
 abbrev pub IsCallOf : Program → ℕ → Option Instr → Type 0
 IsCallOf P g (Some (Call dest ret callee args)) = function_number P callee ≡ Some g
 IsCallOf P g _ = ⊥
 
--- the function of that name is numbered from a number up
+-- the function has this number or a greater one
 abbrev pub is_numbered_from : ℕ → Option ℕ → Type 0
 is_numbered_from functions None = ⊥
 is_numbered_from functions (Some f) = functions ≤ f
 
--- there is an instruction, and it is a call of a function of Q that is numbered from that number up
+-- the instruction is there, and is a call of a function of Q with this number or a greater one
 abbrev pub IsCallFrom : Program → ℕ → Option Instr → Type 0
 IsCallFrom Q functions (Some (Call dest ret callee args)) = is_numbered_from functions (function_number Q callee)
 IsCallFrom Q functions _ = ⊥
 
--- The state stands at a call of `sfence` or `mfence` directly after a call of a clone in its block; clones are
--- numbered from a number up.
+-- The state stands at a call of `sfence` or `mfence` directly after a call of a clone in its block; clones have the
+-- numbers from `functions` on.
 pub record IsBehindClone (Q : Program) (functions : ℕ) (s : State) : Type 0 where
   pub going : s.world.ending ≡ None
   pub frame : Frame
@@ -59,13 +59,13 @@ pub record IsBehindClone (Q : Program) (functions : ℕ) (s : State) : Type 0 wh
   pub call : IsCallFrom Q functions (slice_get (body_at Q frame.function frame.block) at)
   pub fence : IsFenceCall (slice_get (body_at Q frame.function frame.block) (suc at))
 
--- j is the last number below n with as many frames
+-- j is the last step before n with as many frames as n
 pub record IsLastBefore (Q : Program) (I : Input) (j n : ℕ) : Type 0 where
   pub before : j < n
   pub same : length (run Q I j).frames ≡ length (run Q I n).frames
   pub between : (i : ℕ) → j < i → i < n → length (run Q I i).frames ≢ length (run Q I n).frames
 
--- The state stands at a call at that place in the function and the block of a frame, with the same frames below.
+-- The state stands at a call at that place, in the function and the block of a frame, with the same frames below.
 pub record IsAtCall (frame : Frame) (others : List Frame) (at : ℕ) (s : State) : Type 0 where
   pub top : Frame
   pub frames : s.frames ≡ top ∷ others
@@ -90,9 +90,9 @@ pub record CallsClone (P Q : Program) (s s' : State) : Type 0 where
   pub clone_called : StandsAtCall Q clone s'
   pub is_clone : IsClone P Q callee clone
 
--- Wherever the run stands at a fence after a call of a clone, there is a last state before with as many frames, which
--- stands at that call. There the run of P calls a function, and the clone is one of that function. Each part of a store
--- that the cache lines got from the call on is durable after the fence.
+-- Wherever the run of Q stands at a fence directly after a call of a clone, there is a last state before it with as
+-- many frames, and that state stands at the call. There the run of P calls a function, and the clone is one of that
+-- function. Each part of a store that the cache lines got from the call on is durable after the fence.
 pub record IsCovered (P Q : Program) : Type 0 where
   pub call :
       (I : Input) → IsValid P I → (n : ℕ) (behind : IsBehindClone Q (length P.functions) (run Q I n)) →
@@ -108,14 +108,14 @@ pub record IsCovered (P Q : Program) : Type 0 where
 
 -- ---- the fence after a hoisted call
 
--- where the instruction at a site of the program stands in the repaired body, of its function or of the function's
--- clone: after the repaired body of what stands before it
+-- where the instruction at a site of the program stands in the repaired body of its function, or in that of the
+-- function's clone: after the repaired body of the instructions before it
 abbrev pub repaired_place : Program → Plan → (Site → Bool) → Bool → Site → ℕ
 repaired_place P plan skip clone s =
     length (repaired_body (clones_of P plan) (wanted_by plan skip) clone s.function s.block 0
     (take s.index (body_at P s.function s.block)))
 
--- a call of function g stands at that place of the block, and a fence directly after it
+-- a call of function g is at that place of the block, and a fence directly after it
 pub record IsFenced (Q : Program) (g f b place : ℕ) : Type 0 where
   pub call : IsCallOf Q g (slice_get (body_at Q f b) place)
   pub fence : IsFenceCall (slice_get (body_at Q f b) (suc place))
@@ -129,7 +129,7 @@ pub record IsHoisted (P : Program) (plan : Plan) (skip : Site → Bool) (s : Sit
   pub cloned : (c : ℕ) → slice_get (cloned P plan) c ≡ Some s.function →
       IsFenced (repaired P plan skip) clone (length P.functions + c) s.block (repaired_place P plan skip true s)
 
--- each hoisted call of a defined function has become so
+-- each hoisted call of a defined function has become such a call
 abbrev pub AreHoistsFenced : Program → Plan → (Site → Bool) → Type 0
 AreHoistsFenced P plan skip =
     (s : Site) (dest : Option (List ℕ)) (ret : Option Scalar) (callee : List ℕ) (args : List Arg) (g : ℕ) →

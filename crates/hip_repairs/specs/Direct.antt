@@ -1,4 +1,4 @@
--- The stores whose bytes are never in the region, as their address operand shows.
+-- The stores whose address operand shows that their bytes are never in the region.
 use Rattle.std.specs.Prelude.{ℕ, Bool, false, ◌&&◌, not, List, Option, Some}
 use Rattle.std.specs.List.{list_any}
 use Rattle.std.specs.Str.{bytes_eq}
@@ -26,26 +26,26 @@ allocates name _ = false
 abbrev pub allocates_in : List Block → List ℕ → Bool
 allocates_in blocks name = list_any (λ b. list_any (allocates name) b.body) blocks
 
--- a global of that name is volatile; in a sound program one global has the name at most
+-- a global of that name is volatile; in a sound program at most one global has the name
 abbrev pub is_volatile_global : List GlobalVar → List ℕ → Bool
 is_volatile_global globals name = list_any (λ g. bytes_eq g.name name && not g.persistent) globals
 
--- the constant is the address of a volatile global; a `getelementptr` from one is not taken for one
+-- the constant is the name of a volatile global; a `getelementptr` does not count
 abbrev pub names_volatile : List GlobalVar → Const-F Const ConstGep TypedConst → Bool
 names_volatile globals (Const-F.Address name) = is_volatile_global globals name
 names_volatile globals _ = false
 
--- an address that is never in the region, as it is written: a register that an `alloca` of these blocks assigns, or
--- the name of a volatile global
+-- the operand alone shows that the address is never in the region: it is a register that an `alloca` of these blocks
+-- assigns, or the name of a volatile global
 abbrev pub is_outside : Program → List Block → Operand → Bool
 is_outside P blocks (Reg name) = allocates_in blocks name
 is_outside P blocks (Fixed value) = names_volatile P.globals (out-Const value)
 
--- there is an instruction, and it is a store whose address is never in the region, as it is written
+-- the instruction is there, and is a store whose address operand shows this
 abbrev pub stores_outside : Program → List Block → Option Instr → Bool
 stores_outside P blocks (Some (Store ty value addr align)) = is_outside P blocks addr
 stores_outside P blocks _ = false
 
--- A store whose address operand is a register assigned by `alloca`, or a volatile global itself.
+-- A store whose address operand is a register that an `alloca` assigns, or the name of a volatile global.
 abbrev pub direct : Program → Site → Bool
 direct P s = stores_outside P (blocks_of P s.function) (instr_of P s)

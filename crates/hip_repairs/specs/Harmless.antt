@@ -19,7 +19,7 @@ use Rattle.hip_repairs.specs.Repaired.{Marked, Clone, Wanted, wanted_by, clones_
 abbrev pub marked_body : Program → List Clone → Wanted → Bool → ℕ → ℕ → List Marked
 marked_body P clones w clone f b = repaired_body clones w clone f b 0 (body_at P f b)
 
--- the marked body of a block of the clone that was made of this function; no instructions where there is no clone
+-- the marked body of a block of the clone that was made of this function; no instructions if there is no such clone
 abbrev marked_clone : Program → List Clone → Wanted → Option ℕ → ℕ → List Marked
 marked_clone P clones w None b = []
 marked_clone P clones w (Some f) b = marked_body P clones w true f b
@@ -30,12 +30,12 @@ marked_at P plan skip f b =
     cond (nat_lt f (length P.functions)) (marked_body P (clones_of P plan) (wanted_by plan skip) false f b)
     (marked_clone P (clones_of P plan) (wanted_by plan skip) (slice_get (cloned P plan) (f - length P.functions)) b)
 
--- whether the first of these instructions is inserted; not so where there is none, as at the end of a block
+-- whether the first of these instructions is inserted; false at the end of a block, where there is none
 abbrev pub is_inserted : List Marked → Bool
 is_inserted [] = false
 is_inserted (m ∷ ms) = m.1
 
--- whether the top frame stands at an inserted instruction; not so once the run has ended, nor where no frame stands
+-- whether the top frame stands at an inserted instruction; false once the run has ended, and where no frame stands
 abbrev pub inserted_on : Program → Plan → (Site → Bool) → Option Ending → List Frame → Bool
 inserted_on P plan skip (Some e) fs = false
 inserted_on P plan skip None [] = false
@@ -46,7 +46,7 @@ abbrev pub stands_inserted : Program → Plan → (Site → Bool) → State → 
 stands_inserted P plan skip s = inserted_on P plan skip s.world.ending s.frames
 
 -- How many of the first n steps of the repaired program did not stand at an inserted instruction: the number of the
--- program's step that corresponds. A step after the end counts.
+-- program's steps to which they correspond. A step after the end counts.
 unfoldable pub matched : Program → Plan → (Site → Bool) → Input → ℕ → ℕ
 matched P plan skip I zero = 0
 matched P plan skip I (suc n) =
@@ -60,7 +60,7 @@ pub record Content : Type 0 where
   pub offset : ℕ
   pub bytes : List ℕ
 
--- the parts of a cache line, each by its offset in the region and its bytes alone
+-- the parts of a cache line, with only their offsets in the region and their bytes
 abbrev pub contents : Line StorePart → List Content
 contents l = map (λ p. record { offset = p.offset; bytes = p.bytes }) l.parts
 
@@ -69,7 +69,7 @@ pub record Extent : Type 0 where
   pub addr : ℕ
   pub size : ℕ
 
--- the blocks on the stack, each by its address and its size in bytes alone: a repair may move the site of an `alloca`
+-- the blocks on the stack, with only their addresses and sizes: a repair may move the site of an `alloca`
 abbrev pub extents : List Slot → List Extent
 extents slots = map (λ s. record { addr = s.addr; size = s.size }) slots
 
@@ -82,7 +82,7 @@ pub record SameFrame (functions : ℕ) (copied : List ℕ) (f f' : Frame) : Type
   pub mark : f'.mark ≡ f.mark
   pub slots : extents f'.slots ≡ extents f.slots
 
--- there are as many frames, and from the top one down each is the same as the one at its place
+-- both lists have as many frames, and each frame is the same as the one at its place
 abbrev pub SameFrames : ℕ → List ℕ → List Frame → List Frame → Type 0
 SameFrames functions copied [] [] = Unit {0}
 SameFrames functions copied (f ∷ fs) (f' ∷ fs') = SameFrame functions copied f f'

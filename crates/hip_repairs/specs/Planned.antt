@@ -1,4 +1,4 @@
--- What plans have: what the reports ask for, what one of two plans has, and nothing.
+-- What plans have: the sites that reports need, and the sites of two plans.
 use Rattle.std.specs.Prelude.{◌≡◌, Bool, true, ◌||◌, List}
 use Rattle.std.specs.List.{filter}
 use Rattle.hip_tree.specs.Sites.{has_site, sites_of}
@@ -14,7 +14,7 @@ pub record AreSites (P : Program) (test : Site → Bool) (list : List Site) : Ty
   pub site : (s : Site) → has_site list s ≡ true → has_site (sites_of P) s ≡ true
   pub asked : (s : Site) → has_site list s ≡ true → test s ≡ true
 
--- the plan for what was found has in each list the program's sites that some report needs there
+-- each list of the plan for what was found has the program's sites that some report needs there
 pub record IsAsked (P : Program) (found : Findings) : Type 0 where
   pub flushes : AreSites P (wants_flush P found) (plan_for P found).flush_after
   pub fences : AreSites P (wants_fence P found) (plan_for P found).fence_after
@@ -33,7 +33,7 @@ union P a b =
       hoist = either_list P a.hoist b.hoist;
     }
 
--- the plan names sites of the program alone
+-- the plan names only sites of the program
 pub record IsWithin (P : Program) (plan : Plan) : Type 0 where
   pub flush_after : (s : Site) → has_site plan.flush_after s ≡ true → has_site (sites_of P) s ≡ true
   pub fence_after : (s : Site) → has_site plan.fence_after s ≡ true → has_site (sites_of P) s ≡ true

@@ -9,13 +9,12 @@ use Rattle.hip_runs.specs.State.{Frame, site_of}
 use Rattle.hip_runs.specs.Step.{event, run}
 use Rattle.hip_runs.specs.Validity.{IsValid}
 
--- the event of a store into the region; a store elsewhere has no such event
+-- the event is that of a store into the region
 abbrev pub stores_in_region : Event → Type 0
 stores_in_region (events.Store addr value size) = Unit {0}
 stores_in_region _ = ⊥
 
--- A set of sites is quiet where, in the run of every valid input, no store at one of them lies in the region: a step
--- whose frame stands there is no store into the region.
+-- A set of sites is quiet if, in the run of every valid input, no step at one of them is a store into the region.
 abbrev pub IsQuiet : Program → (Site → Bool) → Type 0
 IsQuiet P skip =
     (I : Input) → IsValid P I → (n : ℕ) (f : Frame) (fs : List Frame) → (run P I n).frames ≡ f ∷ fs →

@@ -26,7 +26,7 @@ use Rattle.hip_repairs.specs.declared.plan.Plan.{Plan}
 
 -- ---- inserted instructions
 
--- LLVM's intrinsic for CLWB, the flush of the cache line that has an address (Intel's manual, CLWB)
+-- LLVM's intrinsic for CLWB, the flush of the cache line that contains an address (Intel's manual, CLWB)
 abbrev pub clwb_name : List ℕ
 clwb_name = codes "llvm.x86.clwb"
 
@@ -38,7 +38,7 @@ sfence_name = codes "llvm.x86.sse.sfence"
 abbrev pub pmem_flush_name : List ℕ
 pmem_flush_name = codes "pmem_flush"
 
--- A store is wide where its access alignment is below its size, so that it may lie in two cache lines.
+-- A store is wide if its access alignment is below its size, so that it may lie in two cache lines.
 abbrev pub is_wide : Scalar → Option ℕ → Bool
 is_wide ty align = nat_lt (access_align ty align) (scalar_size ty)
 
@@ -71,12 +71,12 @@ pub record Clone : Type 0 where
   pub name : List ℕ
   pub original : List ℕ
 
--- the name of the clone of a function; its own name where it has none
+-- the name of the clone of a function; the function's own name if it has no clone
 abbrev pub clone_name : List Clone → List ℕ → List ℕ
 clone_name [] name = name
 clone_name (c ∷ cs) name = cond (bytes_eq c.original name) c.name (clone_name cs name)
 
--- The instruction. With `to_clone` a call names the clone of its callee; a callee without a clone stays.
+-- The instruction; with `to_clone`, a call names the clone of its callee, if the callee has one.
 abbrev pub renamed : List Clone → Instr → Bool → Instr
 renamed clones (Call dest ret callee args) to_clone =
     Call dest ret (cond to_clone (clone_name clones callee) callee) args
@@ -177,7 +177,7 @@ clone_functions P clones w _ _ = []
 abbrev pub cloned : Program → Plan → List ℕ
 cloned P plan = callees P plan.hoist
 
--- the names of the functions of these numbers, each with the name of its clone, as far as both lists go
+-- these functions by their names, each with the name of its clone, as far as both lists go
 abbrev pub clones_from : Program → List ℕ → List (List ℕ) → List Clone
 clones_from P (f ∷ fs) (name ∷ names) = record { name = name; original = name_of P f } ∷ clones_from P fs names
 clones_from P _ _ = []
@@ -197,20 +197,20 @@ is_call_of name _ = false
 abbrev pub inserts : List ℕ → List Marked → Bool
 inserts name ms = list_any (λ m. m.1 && is_call_of name m.0) ms
 
--- whether a call of that function is inserted in the blocks of function f, or of its clone, the first of which has
+-- whether a call of that function is inserted in these blocks of function f, or of its clone; the first block has
 -- number b
 abbrev pub inserts_in : List ℕ → List Clone → Wanted → Bool → ℕ → ℕ → List Block → Bool
 inserts_in name clones w clone f b [] = false
 inserts_in name clones w clone f b (x ∷ xs) =
     inserts name (repaired_body clones w clone f b 0 x.body) || inserts_in name clones w clone f (suc b) xs
 
--- whether one is inserted in functions, the first of which has number f; their clones do not count
+-- whether one is inserted in these functions, the first of which has number f; their clones do not count
 abbrev pub inserts_from : List ℕ → List Clone → Wanted → ℕ → List Function → Bool
 inserts_from name clones w f [] = false
 inserts_from name clones w f (x ∷ xs) =
     inserts_in name clones w false f 0 x.blocks || inserts_from name clones w (suc f) xs
 
--- whether one is inserted in the clone of function f; not so where there is no such function
+-- whether one is inserted in the clone of function f; false if there is no such function
 abbrev pub inserts_cloned : List ℕ → List Clone → Wanted → ℕ → Option Function → Bool
 inserts_cloned name clones w f None = false
 inserts_cloned name clones w f (Some x) = inserts_in name clones w true f 0 x.blocks
@@ -249,6 +249,6 @@ repaired_by P plan w =
           ++ clone_functions P (clones_of P plan) w (cloned P plan) (fresh_names P (cloned P plan));
     }
 
--- The program repaired by a plan, where the clones of the stores to skip get no flush by cloning.
+-- The program repaired by a plan; its clones get no flush by cloning at the stores to skip.
 abbrev pub repaired : Program → Plan → (Site → Bool) → Program
 repaired P plan skip = repaired_by P plan (wanted_by plan skip)

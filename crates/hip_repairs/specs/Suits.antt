@@ -12,20 +12,20 @@ site_before a b =
     nat_lt a.function b.function
     || (nat_eq a.function b.function && (nat_lt a.block b.block || (nat_eq a.block b.block && nat_lt a.index b.index)))
 
--- the order of sites is strict, and of two sites that differ one is before the other
+-- the order of sites is strict, and of two different sites one is before the other
 pub record IsStrictOrder : Type 0 where
   pub apart : (a : Site) → site_before a a ≡ false
   pub trans : (a b c : Site) → site_before a b ≡ true → site_before b c ≡ true → site_before a c ≡ true
   pub total : (a b : Site) → (site_before a b ≡ true) ⊎ ((a ≡ b) ⊎ (site_before b a ≡ true))
 
--- each site is before the next, so that none is there twice; an empty list and one of a single site ascend
+-- each site is before the next one, so no site is there twice; an empty list and one of a single site ascend
 abbrev pub is_ascending : List Site → Bool
 is_ascending [] = true
 is_ascending (a ∷ []) = true
 is_ascending (a ∷ b ∷ rest) = site_before a b && is_ascending (b ∷ rest)
 
--- Flushes are put after stores, fences after flush calls and after stores that a flush is put after, and the hoisted
--- calls are calls of defined functions; each list is strictly ascending.
+-- Flushes are put after stores, fences after flush calls and after stores that the plan flushes, and the hoisted calls
+-- are calls of defined functions; each list is strictly ascending.
 pub record IsSuiting (P : Program) (plan : Plan) : Type 0 where
   pub flushes : (s : Site) → has_site plan.flush_after s ≡ true → is_store (instr_of P s) ≡ true
   pub fences : (s : Site) → has_site plan.fence_after s ≡ true →

@@ -1,4 +1,4 @@
--- A machine whose steps a tracker noted up to the end of the run.
+-- A machine at the end of its run, with all steps noted by a tracker.
 use Rattle.std.specs.Prelude.{◌≡◌, true}
 use Rattle.hip_report.specs.Tracking.{HasNoted, Tracked}
 use Rattle.hip_runs.specs.Step.{has_ended}

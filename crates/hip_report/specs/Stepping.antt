@@ -1,4 +1,4 @@
--- What is known before a step, when its notes are taken after it.
+-- What is known before a step whose notes are taken after it.
 use Rattle.std.specs.Prelude.{◌≡◌, ℕ, ◌-◌, ◌<◌, ◌^◌, false, length, map, Option, None, Some}
 use Rattle.hip_tree.specs.declared.program.Program.{Program}
 use Rattle.hip_runs.specs.Ends.{longest}
@@ -21,24 +21,24 @@ pub record TakesStep (old new : Seen) (e : Event) : Type 0 where
   pub step : new ≡ after_step old
   pub event : e ≡ event old.program old.input (state_of old)
 
--- The notes are those of the steps of a machine, whose program has no block of 2^64 instructions.
+-- The notes are those of the steps of a machine; its program has no block of 2^64 instructions.
 pub record Tracks (m : Seen) (c : Notes) : Type 0 where
   pub noted : AreNoted m.program m.input m.taken c
   pub short : longest m.program < 2 ^ 64
 
 -- ---- what is seen before a step
 
--- the number of the global that an object is
+-- the number of the global, if the object is one
 abbrev pub global_of : Option Object → Option ℕ
 global_of (Some (objects.Global g)) = Some g
 global_of _ = None
 
--- a target, if there is one, tells the global at its address
+-- the object of a target, if there is one, is the global at its address
 abbrev pub TellsGlobal : Program → Input → Option Target → Type 0
 TellsGlobal P I None = Unit {0}
 TellsGlobal P I (Some t) = global_of t.object ≡ global_at P I.base t.addr
 
--- What is seen in a state, beside notes of what was met before.
+-- What is seen in a state, beside the notes of what was met before.
 pub record Sees (P : Program) (I : Input) (s : State) (c : Notes) (sight : Sight) : Type 0 where
   pub ended : sight.ended ≡ has_ended s
   pub site : sight.site ≡ next_site P s
@@ -48,8 +48,8 @@ pub record Sees (P : Program) (I : Input) (s : State) (c : Notes) (sight : Sight
 
 -- ---- a step that a machine has taken
 
--- After n steps the run goes on, with a step of this event; the notes are those of the n steps, and this is what is
--- seen before the next one.
+-- After n steps the run goes on, and its next step has this event. The notes are those of the n steps, and this is what
+-- is seen before the next one.
 pub record StandsBefore (P : Program) (I : Input) (n : ℕ) (e : Event) (c : Notes) (sight : Sight) : Type 0 where
   pub noted : AreNoted P I n c
   pub short : longest P < 2 ^ 64
@@ -61,7 +61,7 @@ pub record StandsBefore (P : Program) (I : Input) (n : ℕ) (e : Event) (c : Not
 abbrev pub HasTaken : Seen → Event → Notes → Sight → Type 0
 HasTaken m e c sight = (0 < m.taken) × StandsBefore m.program m.input (m.taken - 1) e c sight
 
--- A machine stood where the notes were these and this was seen, and has taken a step with this event, unless it had ended.
+-- A machine took a step with this event, or had ended. Before it the notes were these, and this was seen.
 pub record HasStepped (m : Seen) (e : Event) (c : Notes) (sight : Sight) : Type 0 where
   pub before : Seen
   pub takes : TakesStep before m e

@@ -1,4 +1,4 @@
--- What is seen of a tracker.
+-- What contracts see of a tracker.
 use Rattle.std.specs.Prelude.{◌≡◌, ◌⊎◌, ℕ, ◌<◌, ◌^◌, Bool, true, false, Option, Some, None}
 use Rattle.hip_tree.specs.declared.program.Program.{Program}
 use Rattle.hip_runs.specs.Ends.{longest}
@@ -9,14 +9,14 @@ use Rattle.hip_notes.specs.declared.notes.Notes.{Notes}
 use Rattle.hip_report.specs.declared.tracker.Source.{Source}
 use Rattle.hip_report.specs.declared.tracker.Tracker.TheInside.{Inside}
 
--- The number of entries before the first step, the machine as it was when its last step was noted, if one was, and
--- whether the tracker ran out of memory.
+-- The number of entries of the header, the machine after the last noted step, if there is one, and whether the tracker
+-- ran out of memory.
 pub record Tracked : Type 0 where
   pub header : ℕ
   pub noted : Option Seen
   pub failed : Bool
 
--- each step that a machine took was noted, where this was noted last
+-- each step that the machine took was noted, where `noted` is the machine after the last noted step
 abbrev pub notes_all : Option Seen → Seen → Type 0
 notes_all None m = m.taken ≡ 0
 notes_all (Some s) m = s ≡ m
@@ -26,7 +26,7 @@ pub record HasNoted (t : Tracked) (m : Seen) : Type 0 where
   pub working : t.failed ≡ false
   pub all : notes_all t.noted m
 
--- One that has noted no step of any machine yet, or every step of a machine, or that ran out of memory.
+-- A tracker that noted every step of a machine so far, or ran out of memory.
 abbrev pub MayAdvance : Tracked → Seen → Type 0
 MayAdvance t m = (t.failed ≡ true) ⊎ HasNoted t m
 
@@ -42,21 +42,21 @@ seen_in (Some s) n = Some (record { program = s.checked.now; input = s.input.now
 abbrev pub tracked_of : Inside → Tracked
 tracked_of t = record { header = t.notes.header; noted = seen_in t.source t.notes.steps; failed = t.failed }
 
--- the notes are those of the run that was noted, or of any run's first state
+-- the notes are those of the noted run, or of the first state of any run
 abbrev pub NotesOf : Option Source → Notes → Type 0
 NotesOf None c = (P : Program) → (I : Input) → AreNoted P I 0 c
 NotesOf (Some s) c = AreNoted s.checked.now s.input.now c.steps c × (longest s.checked.now < 2 ^ 64)
 
--- the source is that of a machine
+-- the source is the program and the input of the machine
 abbrev pub IsSource : Option Source → Seen → Type 0
 IsSource None m = ⊥
 IsSource (Some s) m = (s.checked.now ≡ m.program) × (s.input.now ≡ m.input)
 
--- Unless the tracker ran out of memory, the notes are those of the run that was noted.
+-- Unless the tracker ran out of memory, its notes are those of the noted run.
 pub record IsTracking (t : Inside) : Type 0 where
   pub notes : t.failed ≡ false → NotesOf t.source t.notes
 
--- The notes are those of every step that a machine took, or of any run's first state where none was noted.
+-- The notes are those of all steps of the machine, or of the first state of any run if the machine has taken no step.
 pub record MayNote (o : Option Source) (c : Notes) (m : Seen) : Type 0 where
   pub notes : NotesOf o c
   pub all : notes_all (seen_in o c.steps) m

@@ -7,11 +7,11 @@ use Rattle.hip_repairs.specs.declared.plan.Plan.{Plan}
 abbrev pub count_line : List ℕ → ℕ → List ℕ
 count_line word n = word ++ codes " " ++ decimal n ++ codes "\n"
 
--- of `check`: how many reports there are
+-- the counts of `check`: how many reports there are
 abbrev pub check_counts : ℕ → List ℕ
 check_counts reports = count_line (codes "reports") reports
 
--- of `repair`: how many reports there are, how long the plan's lists are, and how many clones there are
+-- the counts of `repair`: how many reports there are, how long the plan's lists are, and how many clones there are
 abbrev pub repair_counts : ℕ → Plan → ℕ → List ℕ
 repair_counts reports plan clones =
     count_line (codes "reports") reports
@@ -20,6 +20,6 @@ repair_counts reports plan clones =
     ++ count_line (codes "hoists") (length plan.hoist)
     ++ count_line (codes "clones") clones
 
--- of `rerun`: how many reports there are of the program's run, and how many of the repaired program's
+-- the counts of `rerun`: how many reports the program's run has, and how many the repaired program's run
 abbrev pub rerun_counts : ℕ → ℕ → List ℕ
 rerun_counts before after = count_line (codes "before") before ++ count_line (codes "after") after

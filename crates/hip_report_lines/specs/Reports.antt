@@ -36,7 +36,7 @@ flush_text P (Some s) = codes " flush " ++ site_text P s
 abbrev pub path_text : Program → List Site → List ℕ
 path_text P sites = flat_map (λ s. codes " " ++ site_text P s) sites
 
--- words and the decimal digits of a number, with no blank put between them
+-- words and the decimal digits of a number, with nothing between them
 abbrev pub numbered : List ℕ → ℕ → List ℕ
 numbered words n = words ++ decimal n
 

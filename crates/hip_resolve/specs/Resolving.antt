@@ -9,7 +9,7 @@ use Rattle.hip_code.specs.declared.code.Code.{Code}
 use Rattle.hip_code.specs.declared.op.Op.{Op}
 use Rattle.hip_resolve.specs.Made.{IsFront}
 
--- the ops are those of the whole program
+-- there is an op for each place of the program
 pub record AreWhole (P : Program) (base : ℕ) (ops : List Op) (t : Tables) : Type 0 where
   pub front : IsFront P base ops t
   pub count : length ops ≡ entry P (length P.functions) 0

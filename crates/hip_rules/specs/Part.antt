@@ -1,10 +1,10 @@
--- A part of a grammar: its rule, and how it is read. The test by which a choice goes serves the reading alone.
+-- A part of a grammar: its rule, and how it is read. Only the reading uses the test for the next token.
 use Rattle.std.specs.Prelude.{Bool, List, Option, [], ◌∷◌, if◌then◌else◌}
 use Rattle.hip_tokens.specs.Tokens.{Tok}
 use Rattle.hip_rules.specs.Rule.{Rule, Verdict, Yes, No, done, one, both, ◌or◌, many, perhaps}
 use Rattle.hip_rules.specs.Reader.{Reader, done_at, one_at, both_at, either_at, many_at, perhaps_at, leaders_at, on_ok, by_head}
 
--- a rule that derives values of type A, and a reader of them; that the reader is exact for it is left to the laws
+-- a rule that derives values of type A, and a reader of them; laws show that the reader is exact for the rule
 pub record Part (F A : Type 0) : Type 1 where
   pub rule : Rule F A
   pub read : Reader F A
@@ -22,15 +22,15 @@ infixl 10 ◌>>=◌
 abbrev pub ◌>>=◌ : {F A B : Type 0} → Part F A → (A → Part F B) → Part F B
 l >>= f = record { rule = both l.rule (λ x. (f x).rule); read = both_at l.read (λ x. (f x).read) }
 
--- the first case where the next token passes, else the second
+-- the first case if the next token passes, else the second
 abbrev pub either : {F A : Type 0} → (Tok → Bool) → Part F A → Part F A → Part F A
 either k l m = record { rule = l.rule or m.rule; read = either_at k l.read m.read }
 
--- any number, as long as the next token passes
+-- any number of parts, as long as the next token passes
 abbrev pub repeated : {F A : Type 0} → (Tok → Bool) → Part F A → Part F (List A)
 repeated k l = record { rule = many l.rule; read = many_at k l.read }
 
--- one where the next token passes, else none
+-- one part if the next token passes, else none
 abbrev pub optional : {F A : Type 0} → (Tok → Bool) → Part F A → Part F (Option A)
 optional k l = record { rule = perhaps l.rule; read = perhaps_at k l.read }
 
@@ -46,7 +46,7 @@ passing k = token (the k)
 unfoldable pub one_more_by : {F A : Type 0} → (Tok → Bool) → Part F A → Part F A
 one_more_by k l = passing k >>= λ _. l
 
--- parts, one at least, with such a token between each two
+-- at least one part, with such a token between each two
 unfoldable pub separated : {F A : Type 0} → (Tok → Bool) → Part F A → Part F (List A)
 separated k l = l >>= λ first. repeated k (one_more_by k l) >>= λ others. gives (first ∷ others)
 
@@ -54,21 +54,21 @@ separated k l = l >>= λ first. repeated k (one_more_by k l) >>= λ others. give
 unfoldable pub none_up_to : {F A : Type 0} → (Tok → Bool) → Part F (List A)
 none_up_to close = passing close >>= λ _. gives []
 
--- parts, one at least, with such a token between each two, up to a closing token
+-- at least one part, with such a token between each two, up to a closing token
 unfoldable pub some_up_to : {F A : Type 0} → (Tok → Bool) → (Tok → Bool) → Part F A → Part F (List A)
 some_up_to k close l = separated k l >>= λ items. passing close >>= λ _. gives items
 
--- parts, or none, up to a closing token
+-- any number of parts, with such a token between each two, up to a closing token
 unfoldable pub listed : {F A : Type 0} → (Tok → Bool) → (Tok → Bool) → Part F A → Part F (List A)
 listed k close l = either close (none_up_to close) (some_up_to k close l)
 
--- any number, with no value
+-- any number of parts, with no value
 unfoldable pub skipped : {F A : Type 0} → (Tok → Bool) → Part F A → Part F (Unit {0})
 skipped k l = repeated k l >>= λ _. gives tt
 
--- Any number of parts of one kind, and what follows them, which may begin by the same head.
--- The rule reads the parts and then what follows. The reading goes by the next tokens: after a head that no such
--- part follows comes `after_head`, and without a head `no_head`.
+-- Any number of parts of one kind, and what follows them, which may begin with the same head. The rule is the parts and
+-- then what follows. The reading goes by the next tokens: after a head that is not followed by such a part it reads
+-- `after_head`, and without a head `no_head`.
 abbrev pub phased : {F X P B : Type 0} → (Tok → Bool) → Part F X → (Tok → Bool) → (X → Part F P)
     → (List P → X → Part F B) → (List P → Part F B) → (List P → Part F B) → Part F B
 phased kh head kf part after_head no_head following = record {

@@ -11,7 +11,7 @@ Outcome F A = Result (A × List At) (Option F × List At)
 abbrev pub Reader : Type 0 → Type 0 → Type 0
 Reader F A = List At → Outcome F A
 
--- what is read after a value that was read; a refusal stays
+-- the reading that follows a value that was read; a refusal stays
 abbrev pub on_ok : {F A B : Type 0} → Outcome F A → (A → Reader F B) → Outcome F B
 on_ok (Ok x) f = f x.0 x.1
 on_ok (Err e) f = Err e
@@ -40,11 +40,11 @@ abbrev pub next : (Tok → Bool) → List At → Bool
 next p [] = false
 next p (t ∷ ts) = p t.tok
 
--- the first case where the next token passes, else the second, at the end of the tokens too
+-- the first case if the next token passes, else the second, at the end of the tokens too
 abbrev pub either_at : {F A : Type 0} → (Tok → Bool) → Reader F A → Reader F A → Reader F A
 either_at p r s ts = if next p ts then r ts else s ts
 
--- one part where the next token passes, else none, with no token taken
+-- one part if the next token passes, else none, with no token taken
 abbrev pub perhaps_at : {F A : Type 0} → (Tok → Bool) → Reader F A → Reader F (Option A)
 perhaps_at p r ts = if next p ts then on_ok (r ts) (λ x more. Ok (Some x, more)) else Ok (None, ts)
 
@@ -59,21 +59,20 @@ times_at p r (suc n) ts =
 abbrev pub many_at : {F A : Type 0} → (Tok → Bool) → Reader F A → Reader F (List A)
 many_at p r ts = times_at p r (length ts) ts
 
--- what was read before, and what is still read
+-- the values that were read before, and then those still to be read
 abbrev pub with_front : {F A : Type 0} → List A → Outcome F (List A) → Outcome F (List A)
 with_front front o = on_ok o (λ xs rest. Ok (front ++ xs, rest))
 
--- what is still read is taken up one by one
+-- the values are folded into a start, one by one
 abbrev pub folded : {A S : Type 0} → (S → A → S) → S → List A → S
 folded step s [] = s
 folded step s (x ∷ xs) = folded step (step s x) xs
 
--- the values that are still read are taken up from a start, one by one; a refusal stays
+-- the values still to be read are folded into a start, one by one; a refusal stays
 abbrev pub taken_up : {F A S : Type 0} → (S → A → S) → S → Outcome F (List A) → Outcome F S
 taken_up step s o = on_ok o (λ xs rest. Ok (folded step s xs, rest))
 
--- At most n parts of one kind that begin with a head. If no such part follows a head, the head is
--- given with them.
+-- At most n parts of one kind that begin with a head. A head that is not followed by such a part is given with them.
 unfoldable pub leading_at : {F X P : Type 0} → (Tok → Bool) → Reader F X → (Tok → Bool) → (X → Reader F P)
     → ℕ
     → Reader F (List P × Option X)
@@ -91,12 +90,12 @@ abbrev pub leaders_at : {F X P : Type 0} → (Tok → Bool) → Reader F X → (
     → Reader F (List P × Option X)
 leaders_at kh rh kf rf ts = leading_at kh rh kf rf (length ts) ts
 
--- what the head asks for, or what stands where there is none
+-- what is read after the head, or the outcome where there is no head
 abbrev pub by_head : {F X B : Type 0} → Option X → (X → Reader F B) → Reader F B → Reader F B
 by_head (Some x) r o = r x
 by_head None r o = o
 
--- the parts that were read before and those still read, with the head that no part follows, if there is one
+-- the parts that were read before and those still to be read, with the last head if no part follows it
 abbrev pub with_leaders : {F X P : Type 0} → List P → Outcome F (List P × Option X)
     → Outcome F (List P × Option X)
 with_leaders front o = on_ok o (λ q rest. Ok ((front ++ q.0, q.1), rest))

@@ -1,4 +1,4 @@
--- Grammars by parts. A rule says of two places in one list of tokens, the second at or after the first, what the
+-- Grammars by parts. A rule is about two places in one list of tokens, the second at or after the first: what the
 -- tokens between them are.
 use Rattle.std.specs.Prelude.{◌≡◌, List, [], ◌∷◌, ◌++◌, Option, Some, None, ◌⊎◌}
 use Rattle.hip_tokens.specs.Tokens.{Tok, At}
@@ -16,13 +16,13 @@ pub record Rule (F A : Type 0) : Type 1 where
   -- they are a front, and the token at the second place is refused for this reason
   pub Refuses : F → List At → List At → Type 0
 
--- what a place for one token says of a token: its value, or that it is refused, perhaps for a reason of this place
+-- what a place for one token makes of a token: its value, or a refusal, perhaps with a reason of this place
 pub data Verdict (F A : Type 0) : Type 0 where
   Yes : A → Verdict F A
   Because : F → Verdict F A
   No : Verdict F A
 
--- nothing
+-- no token
 unfoldable pub done : {F A : Type 0} → A → Rule F A
 done {F} {A} a = record {
   Derives = λ ts x rest. (rest ≡ ts) × (x ≡ a);

@@ -35,54 +35,53 @@ abbrev pub is_empty : List ℕ → Bool
 is_empty [] = true
 is_empty (b ∷ bs) = false
 
--- INPUT and IMAGE entries give an input whose initial bytes go up to the last line that an IMAGE entry names.
--- An INPUT stands before each IMAGE, and there are at most 1,048,576.
+-- An INPUT entry adds a number to the input so far. It comes before each IMAGE, and there are at most 1,048,576.
 abbrev pub with_number : Input → ℤ → Option Input
 with_number I number =
     if is_empty I.image && nat_lt (length I.numbers) MOST_NUMBERS
     then Some (record I { numbers = I.numbers ++ number ∷ [] }) else None
 
--- An IMAGE is of a cache line of the region, after the lines before it, and has a byte other than 0.
+-- An IMAGE entry is for a cache line of the region, after the lines before it, and has a byte other than 0.
 abbrev pub is_next_line : Program → Input → ℕ → List ℕ → Bool
 is_next_line P I addr bytes =
     nat_le (I.base + length I.image) addr && (nat_le (addr + LINE_SIZE) (I.base + region_size P) && some_byte bytes)
 
--- the bytes between two lines are 0
+-- an IMAGE entry adds the bytes up to the end of its line; those between two lines are 0
 abbrev pub with_line : Program → Input → ℕ → List ℕ → Option Input
 with_line P I addr bytes =
     if is_next_line P I addr bytes
     then Some (record I { image = I.image ++ (zeros (addr - (I.base + length I.image)) ++ bytes) }) else None
 
--- the input so far with what the next piece gives; none where that is no INPUT or IMAGE that is valid there
+-- the input so far with what the next piece gives; none if the piece is no INPUT or IMAGE that is valid there
 abbrev pub with_entry : Program → Input → Option Entry → Option Input
 with_entry P I (Some (Number number)) = with_number I number
 with_entry P I (Some (Image addr bytes)) = with_line P I addr bytes
 with_entry P I _ = None
 
--- the bytes after the last line are 0
+-- the input with its initial bytes filled up with 0 to the end of the region
 abbrev pub filled : Program → Input → Input
 filled P I = record I { image = I.image ++ zeros (region_size P - length I.image) }
 
 -- ---- the header
 
--- the header ends after n entries where the next piece gives no input, and else goes on with the input it gives
+-- the header ends after n entries if the next piece gives no input, and else goes on with the input that it gives
 abbrev pub go_on : Program → Input → ℕ → (Input → Header) → Option Input → Header
 go_on P I count rest None = Gives count (filled P I)
 go_on P I count rest (Some more) = rest more
 
--- the header where n entries gave the input so far and these pieces follow
+-- the header, where n entries gave the input so far and these pieces follow
 abbrev pub header_from : Program → Input → ℕ → List (Option Entry) → Header
 header_from P I count [] = Gives count (filled P I)
 header_from P I count (e ∷ es) = go_on P I count (λ more. header_from P more (suc count) es) (with_entry P I e)
 
--- the header where the second piece gave this base and these pieces follow; of one entry where it gave none
+-- the header, where the second piece gave this base and these pieces follow; it has one entry if the piece gave none
 abbrev pub behind_register : Program → ℕ → List (Option Entry) → Option ℕ → Header
 behind_register P limit es None = Stops 1
 behind_register P limit es (Some base) =
     header_from P (record { base = base; image = []; numbers = []; limit = limit }) 2 es
 
--- the header where the first piece gave this limit and these pieces follow; of no entry where it gave none, and of
--- one where no piece follows
+-- the header, where the first piece gave this limit and these pieces follow; it has no entry if the piece gave none,
+-- and one if no piece follows
 abbrev pub behind_start : Program → List (Option Entry) → Option ℕ → Header
 behind_start P es None = Stops 0
 behind_start P [] (Some limit) = Stops 1

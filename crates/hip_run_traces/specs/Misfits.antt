@@ -1,4 +1,4 @@
--- Where the pieces of a trace are not the trace of a run of the program: at the first number at which they differ.
+-- The misfit of a trace: the first number at which its pieces differ from the trace of a run of the program.
 use Rattle.std.specs.Prelude.{ℕ, ◌+◌, ◌≡◌, ◌≢◌, Bool, true, List, map, take, slice_get, Option, Some, None}
 use Rattle.hip_tree.specs.declared.program.Program.{Program}
 use Rattle.hip_run_traces.specs.Headers.{Header, Stops, Gives, header}
@@ -14,21 +14,21 @@ abbrev pub kind_of : Option Entry → MisfitKind → MisfitKind
 kind_of None otherwise = Malformed
 kind_of (Some e) otherwise = otherwise
 
--- At one number a piece and an entry of the run's trace differ. The end of either differs from every entry, and the end
--- of the pieces counts only where the file is whole.
+-- A piece and an entry of the run's trace at the same number differ. The end of the pieces, or of the entries, differs
+-- from every entry, but the end of the pieces counts only if the file is whole.
 abbrev pub DiffersAt : Bool → Option (Option Entry) → Option Entry → MisfitKind → Type 0
 DiffersAt whole None None kind = ⊥
 DiffersAt whole None (Some e) kind = (whole ≡ true) × (kind ≡ Early)
 DiffersAt whole (Some piece) None kind = kind ≡ kind_of piece Extra
 DiffersAt whole (Some piece) (Some e) kind = (piece ≢ Some e) × (kind ≡ kind_of piece Differs)
 
--- So many pieces spell the first entries of the trace, and the next one does not.
+-- `count` pieces spell the first entries of the trace, and the next piece does not spell the next entry.
 pub record FirstDiffers (whole : Bool) (pieces : List (Option Entry)) (trace : List Entry) (count : ℕ)
     (kind : MisfitKind) : Type 0 where
   pub before : take count pieces ≡ map (λ e. Some e) (take count trace)
   pub here : DiffersAt whole (slice_get pieces count) (slice_get trace count) kind
 
--- the piece after a header of less than two entries is not there, or is no valid entry
+-- after a header of less than two entries, the next piece is missing or is no valid entry
 abbrev pub StopsAt : Bool → Option (Option Entry) → MisfitKind → Type 0
 StopsAt whole None kind = (whole ≡ true) × (kind ≡ Early)
 StopsAt whole (Some piece) kind = kind ≡ kind_of piece Differs
@@ -42,15 +42,15 @@ pub record DiffersFromRun (P : Program) (I : Input) (whole : Bool) (pieces : Lis
   pub number : entry ≡ count + 1
   pub differs : FirstDiffers whole pieces trace count kind
 
--- After a header that gives no input the misfit is the next entry, which is missing or not valid there; after
--- another it is the first one at which the pieces differ from the trace of the run on the input.
+-- After a header that gives no input the misfit is the next entry, which is missing or not valid there. After a header
+-- that gives an input it is the first one at which the pieces differ from the trace of the run on that input.
 abbrev pub MisfitBehind : Header → Program → Bool → List (Option Entry) → ℕ → MisfitKind → Type 0
 MisfitBehind (Stops count) P whole pieces entry kind = (entry ≡ count + 1)
     × StopsAt whole (slice_get pieces count) kind
 MisfitBehind (Gives count I) P whole pieces entry kind = DiffersFromRun P I whole pieces entry kind
 
 -- The misfit of a program and the bytes of a trace, or of a front of a trace that is not whole: the number of an entry,
--- counted from 1, and in which way it is not the run's. (This project's own.)
+-- counted from 1, and how it differs from the run's. (This project's own.)
 pub record IsMisfit (P : Program) (bytes : List ℕ) (whole : Bool) (entry : ℕ) (kind : MisfitKind) : Type 0 where
   pub here : MisfitBehind (header P (spelled whole bytes)) P whole (spelled whole bytes) entry kind
 

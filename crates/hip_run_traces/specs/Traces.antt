@@ -50,7 +50,7 @@ entry_of_event (events.End ending) = Some (entry_of_ending ending)
 
 -- ---- before the first step
 
--- an IMAGE for each of n cache lines that has a byte other than 0, the first of which lies at an address
+-- an IMAGE for each of n cache lines that has a byte other than 0; the first line begins at an address
 abbrev pub image_entries : ℕ → ℕ → List ℕ → List Entry
 image_entries zero addr bytes = []
 image_entries (suc n) addr bytes =
@@ -76,12 +76,12 @@ entry_list (Some e) = e ∷ []
 abbrev pub next_entries : Program → Input → State → List Entry
 next_entries P I s = if has_ended s then [] else entry_list (entry_of_event (event P I s))
 
--- The trace of a run's first n steps: what stands before the first step, and the entries of the steps in order.
+-- The trace of a run's first n steps: the entries before the first step, and the entries of the steps in order.
 unfoldable pub trace : Program → Input → ℕ → List Entry
 trace P I zero = header_of I
 trace P I (suc n) = trace P I n ++ next_entries P I (run P I n)
 
--- entries as pieces that spell them
+-- each entry as a piece that spells it
 abbrev pub told : List Entry → List (Option Entry)
 told es = map (λ e. Some e) es
 

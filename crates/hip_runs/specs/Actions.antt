@@ -55,7 +55,7 @@ pub data Action : Type 0 where
   Allocates : List ℕ → (addr size : ℕ) → Action
   -- bytes are stored from an address on
   Stores : (addr : ℕ) → List ℕ → Action
-  -- the cache lines of a range are flushed; the lines are flushed and a fence is taken; a fence is taken
+  -- the cache lines of a range are flushed; they are flushed and a fence is taken; a fence is taken
   Flushes : (addr size : ℕ) → Action
   Persists : (addr size : ℕ) → Action
   Fences : Action
@@ -66,14 +66,15 @@ pub data Action : Type 0 where
   Reads : Option (List ℕ) → ℤ → List ℤ → Action
   -- a frame is made for the function of that number, with these registers; its result goes into a register
   Calls : ℕ → Registers → Option (List ℕ) → Action
-  -- control goes to the block of that number, and these are the registers there
+  -- control goes to the block of that number, with these registers
   Jumps : ℕ → Registers → Action
   -- the frame's function returns a value
   Returns : ℕ → Action
 
 -- ---- addresses that are valid
 
--- whether the n bytes from address a on all lie from `from` to below `to`; of no bytes, whether a lies so or is `to`
+-- whether the n bytes from address a on lie between `from` and `to`; for n = 0, whether a lies between them or is one
+-- of them
 abbrev pub is_within : ℕ → ℕ → ℕ → ℕ → Bool
 is_within from to a n = nat_le from a && nat_le (a + n) to
 
@@ -81,8 +82,8 @@ is_within from to a n = nat_le from a && nat_le (a + n) to
 abbrev pub in_region : Input → ℕ → ℕ → Bool
 in_region I a n = is_within I.base (I.base + length I.image) a n
 
--- Whether the n bytes from address a on are all valid: the bytes of the volatile globals, those of the stack below the
--- mark, and those of the region are, and none of these areas touches another. (This project's own.)
+-- Whether the n bytes from address a on are all valid. The bytes of the volatile globals, those of the stack below the
+-- mark, and those of the region are valid, and none of these areas touches another. (This project's own.)
 abbrev pub are_valid : Program → Input → World → ℕ → ℕ → Bool
 are_valid P I w a n =
     is_within volatile_start (volatile_end P) a n || (is_within stack_start w.mark a n || in_region I a n)
@@ -91,7 +92,8 @@ are_valid P I w a n =
 abbrev pub memory_of : Program → Input → World → Memory
 memory_of P I w = record { base = I.base; volatile = volatile_bytes P I.base; region = I.image; writes = w.writes }
 
--- An access of n bytes is refused by its alignment first, and then by its bytes.
+-- An access of n bytes traps if its address is not a multiple of its alignment, and then if one of its bytes is not
+-- valid.
 unfoldable pub accessed : Program → Input → World → ℕ → ℕ → ℕ → Action → Action
 accessed P I w a n align go =
     cond (nat_eq (a % align) 0) (cond (are_valid P I w a n) go (Traps traps.Address)) (Traps traps.Misaligned)
@@ -109,7 +111,7 @@ abbrev pub calculated : List ℕ → Result Bits NumTrap → Action
 calculated dest (Ok b) = Assigns (Some dest) b.value
 calculated dest (Err trap) = Traps (trap_of trap)
 
--- 1 for what holds
+-- a test as a number: 1 if it holds, else 0
 abbrev pub truth : Bool → ℕ
 truth true = 1
 truth false = 0
@@ -145,32 +147,31 @@ allocated w dest size align =
 
 -- ---- calls
 
--- the call of the function of number g, given that function if there is one: its parameters take the values in order;
--- a trap where there is none
+-- the call of function g: its parameters take the values in order; a trap if there is no such function
 abbrev pub bound_call : Option Function → ℕ → List ℕ → Option (List ℕ) → Action
 bound_call None g values dest = Traps traps.Unreachable
 bound_call (Some f) g values dest = Calls g (bound f.params values) dest
 
--- the call of the function whose number the callee's name has; a trap where no function has the name
+-- the call of the function of that number; a trap if there is no number, since no function has the callee's name
 abbrev pub numbered_call : Program → Option ℕ → List ℕ → Option (List ℕ) → Action
 numbered_call P None values dest = Traps traps.Unreachable
 numbered_call P (Some g) values dest = bound_call (slice_get P.functions g) g values dest
 
--- A call of a defined function makes a frame, where fewer than 16,384 stand. A name that no function has traps, which
--- never comes in a sound program.
+-- A call of a defined function makes a frame, if fewer than 16,384 stand. It traps if no function has the name, which
+-- does not occur in a sound program.
 unfoldable pub entered : Program → ℕ → List ℕ → List ℕ → Option (List ℕ) → Action
 entered P below callee values dest =
     cond (nat_lt below (MOST_FRAMES - 1)) (numbered_call P (function_number P callee) values dest) (Traps traps.Depth)
 
--- the value of argument k of a call, counted from 0; 0 where there are fewer
+-- the value of argument k of a call, counted from 0; 0 if there are fewer
 abbrev pub arg_value : List ℕ → ℕ → ℕ
 arg_value values k = unwrap_or (slice_get values k) 0
 
--- the flush of a range: none of a range without bytes, and a trap where some byte is not valid
+-- the flush of a range; it traps if a byte of the range is not valid
 unfoldable pub flushing : Program → Input → World → ℕ → ℕ → Action → Action
 flushing P I w a n go = cond (nat_eq n 0) go (cond (are_valid P I w a n) go (Traps traps.Address))
 
--- what `read_i64` does with these input numbers left: it gives the first of them, and traps where none is left
+-- what `read_i64` does with these input numbers left: it gives the first of them, and traps if none is left
 abbrev pub read_next : Option (List ℕ) → List ℤ → Action
 read_next dest [] = Traps traps.InputEnd
 read_next dest (z ∷ rest) = Reads dest z rest
@@ -182,14 +183,14 @@ abbrev pub flushed_size : List Scalar → List ℕ → ℕ
 flushed_size (addr ∷ size ∷ more) values = arg_value values 1
 flushed_size _ values = 1
 
--- What is done to the cache lines of a range, by the effect of a function on them. (One that has none is not asked.)
+-- What a function with this effect does to the cache lines of a range. (No function without an effect comes here.)
 abbrev pub line_action : Program → Input → World → LineEffect → (addr size : ℕ) → Action
 line_action P I w effects.Nothing a n = Traps traps.Unreachable
 line_action P I w effects.Flush a n = flushing P I w a n (Flushes a n)
 line_action P I w effects.Fence a n = Fences
 line_action P I w effects.FlushAndFence a n = flushing P I w a n (Persists a n)
 
--- What an external function does: one that flushes or fences, what its effect and its parameters in the table say. The
+-- What an external function does: if it flushes or fences, what its effect and its parameters in the table say. The
 -- others are this project's own.
 abbrev pub extern_action : Program → Input → World → ExternCall → List ℕ → Option (List ℕ) → Action
 extern_action P I w calls.ReadI64 values dest = read_next dest w.left
@@ -240,26 +241,28 @@ instr_action P I w below rs (Call dest ret callee args) =
 -- ---- ends of blocks
 
 -- the value of the operand that a phi has for control from the block with a label, by its first edge of that label; 0
--- where no edge has it
+-- if no edge has it
 abbrev pub edge_value : List GlobalVar → ℕ → Registers → List Edge → List ℕ → ℕ
 edge_value globals base rs [] from = 0
 edge_value globals base rs (e ∷ es) from =
     cond (bytes_eq e.label from) (value_of globals base rs e.value) (edge_value globals base rs es from)
 
--- Phis take their values together, each from the registers at the edge.
+-- Phis take their values at the same time, each from the registers at the edge.
 abbrev pub after_phis : List GlobalVar → ℕ → Registers → List ℕ → List Phi → Registers
 after_phis globals base rs from [] = rs
 after_phis globals base rs from (p ∷ ps) =
     (p.dest, edge_value globals base rs p.edges from) ∷ after_phis globals base rs from ps
 
--- control goes from the frame's block to that of a number, whose phis take their values; a trap without a number
+-- control goes from the frame's block to the block of that number, whose phis take their values; a trap without a
+-- number
 abbrev pub jump_to : Program → Input → Frame → Option ℕ → Action
 jump_to P I f None = Traps traps.Unreachable
 jump_to P I f (Some b) =
     Jumps b (after_phis P.globals I.base f.registers (label_of (block_at P f.function f.block))
     (phis_of (block_at P f.function b)))
 
--- Control goes to the block with the label. A label that no block has traps, which never comes in a sound program.
+-- Control goes to the block with the label. It traps if no block has the label, which does not occur in a sound
+-- program.
 unfoldable pub jump : Program → Input → Frame → List ℕ → Action
 jump P I f label = jump_to P I f (block_number (blocks_of P f.function) label)
 
@@ -273,7 +276,7 @@ abbrev pub returned : List GlobalVar → ℕ → Registers → Option Arg → �
 returned globals base rs None = 0
 returned globals base rs (Some arg) = value_of globals base rs arg.value
 
--- A block that is not there traps, which never comes in a sound program.
+-- What the end of a block does. It traps if the block does not exist, which does not occur in a sound program.
 unfoldable pub end_action : Program → Input → Frame → Option End → Action
 end_action P I f None = Traps traps.Unreachable
 end_action P I f (Some (ends.Br label)) = jump P I f label
@@ -291,7 +294,7 @@ abbrev pub is_flush_or_fence : Option ExternCall → Bool
 is_flush_or_fence None = false
 is_flush_or_fence (Some c) = is_flush c || is_fence c
 
--- Each step is a turn but flushes and fences.
+-- Each step is a turn, except flushes and fences.
 abbrev pub is_turn : Instr → Bool
 is_turn (Call dest ret callee args) = not (is_flush_or_fence (call_of callee))
 is_turn _ = true
@@ -301,7 +304,7 @@ pub record Deed : Type 0 where
   pub turn : Bool
   pub action : Action
 
--- the instruction at the frame's place, or the block's end
+-- what the instruction at the frame's place does, or the block's end
 abbrev pub deed_of : Program → Input → World → ℕ → Frame → Option End → List Instr → Deed
 deed_of P I w below f end [] = record { turn = true; action = end_action P I f end }
 deed_of P I w below f end (i ∷ rest) = record { turn = is_turn i; action = instr_action P I w below f.registers i }

@@ -7,7 +7,7 @@ use Rattle.hip_runs.specs.declared.input.Input.{Input}
 use Rattle.hip_runs.specs.State.{StorePart, State}
 use Rattle.hip_types.specs.declared.areas.TheConstants.{LINE_SIZE}
 
--- whether a part covers the byte at an offset of the region, and the value that it gives it
+-- whether a part covers the byte at an offset of the region
 abbrev pub covers : StorePart → ℕ → Bool
 covers p b = nat_le p.offset b && nat_lt b (p.offset + length p.bytes)
 
@@ -15,12 +15,12 @@ covers p b = nat_le p.offset b && nat_lt b (p.offset + length p.bytes)
 abbrev pub byte_of : StorePart → ℕ → ℕ
 byte_of p b = slice_index p.bytes (b - p.offset)
 
--- A content of the region is a crash image of a state where each cache line by itself has its initial bytes, changed
--- by the first parts of its list, all durable ones among them.
+-- A content of the region is a crash image of a state if each cache line by itself has its initial bytes, changed by
+-- the first parts of its list, all durable ones among them.
 abbrev pub IsCrashImage : Input → State → List ℕ → Type 0
 IsCrashImage I s content = IsImage covers byte_of I.image s.lines content
 
--- a pick gives each line a number from its durable number to its length, and a content
+-- a pick gives each line a number from its durable number to its length
 abbrev pub IsCrashPick : State → (ℕ → ℕ) → Type 0
 IsCrashPick s pick = IsPick covers byte_of s.lines pick
 
@@ -30,19 +30,19 @@ crash_image I s pick = image_of covers byte_of s.lines pick I.image
 
 -- ---- whether a content is a crash image, line by line
 
--- whether in line j the content is the first one changed by the line's first q parts
+-- whether, in line j, the content is `first` changed by the line's first q parts
 abbrev pub is_line_after : List ℕ → List ℕ → ℕ → Line StorePart → ℕ → Bool
 is_line_after first content j l q =
     list_all
     (λ b. nat_eq (slice_index content b) (byte_after covers byte_of (take q l.parts) b (slice_index first b)))
     (range_with_len (LINE_SIZE * j) LINE_SIZE)
 
--- whether it is so for some number of parts, all durable ones among them
+-- whether this holds for some number of parts that has all durable ones
 abbrev pub is_line_image : List ℕ → List ℕ → ℕ → Line StorePart → Bool
 is_line_image first content j l =
     list_any (is_line_after first content j l) (range_with_len l.durable (suc (length l.parts) - l.durable))
 
--- whether it is so in each of these lines, the first of which has this number
+-- whether this holds in each of these lines, the first of which has number j
 abbrev pub are_line_images : List ℕ → List ℕ → ℕ → List (Line StorePart) → Bool
 are_line_images first content j [] = true
 are_line_images first content j (l ∷ ls) = is_line_image first content j l && are_line_images first content (suc j) ls

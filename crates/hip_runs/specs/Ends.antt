@@ -1,4 +1,4 @@
--- How long a run is at most, and that it ends.
+-- How many steps a run takes at most, and that it ends.
 use Rattle.std.specs.Prelude.{◌≡◌, ℕ, ◌+◌, ◌-◌, ◌*◌, suc, true, List, [], ◌∷◌, length, max}
 use Rattle.hip_tree.specs.declared.block.Block.{Block}
 use Rattle.hip_tree.specs.declared.program.Function.{Function}
@@ -11,7 +11,7 @@ abbrev pub longest_body : List Block → ℕ
 longest_body [] = 0
 longest_body (b ∷ bs) = max (length b.body) (longest_body bs)
 
--- the length of the longest body of all blocks of these functions; 0 where there is no block
+-- the length of the longest body of all blocks of these functions; 0 if there is no block
 abbrev pub longest_in : List Function → ℕ
 longest_in [] = 0
 longest_in (f ∷ fs) = max (longest_body f.blocks) (longest_in fs)
@@ -20,7 +20,7 @@ longest_in (f ∷ fs) = max (longest_body f.blocks) (longest_in fs)
 abbrev pub longest : Program → ℕ
 longest P = longest_in P.functions
 
--- how many steps are left at most: for each turn that the limit still allows one body, and what the top frame has to do
+-- how many steps are left at most: one body for each turn that the limit still allows, and what the top frame has left
 abbrev pub steps_left : Program → Input → ℕ → ℕ → ℕ
 steps_left P I turns left = (I.limit - turns) * suc (longest P) + left
 

@@ -1,4 +1,4 @@
--- What a run finds: reports, and what scores are made of.
+-- What a run finds: reports, and the marks by which sites are scored.
 pub mod Marks
 pub mod Objects
 pub mod Reports

@@ -6,16 +6,16 @@ use Rattle.hip_runs.specs.Sites.{called_number}
 use Rattle.hip_runs.specs.State.{Frame, State, site_of}
 use Rattle.hip_runs.specs.Step.{next}
 
--- a frame after a step through which it stays
+-- a frame before and after a step that keeps it
 pub record IsSameCall (f f' : Frame) : Type 0 where
   pub function : f'.function ≡ f.function
   pub mark : f'.mark ≡ f.mark
   pub dest : f'.dest ≡ f.dest
   pub level : f'.level ≡ f.level
 
--- The frames and the count of steps before a step and after it. A run that has ended rests. Else the top frame stays,
--- or a frame of a function comes upon it, made by the call of that function at which it stood, or it goes; the frames
--- below, or below the one that it returns to, are as they were.
+-- The frames and the count of steps before and after a step. A run that has ended rests. Else one of three things
+-- happens to the top frame: it stays; it calls a function, whose frame is put on top; or it returns. The frames below,
+-- or below the one that it returns to, do not change.
 pub data Moves (P : Program) (s s' : State) : Type 0 where
   rests : s' ≡ s → Moves P s s'
   stays : (f f' : Frame) (fs : List Frame) → s.frames ≡ f ∷ fs → s'.frames ≡ f' ∷ fs → IsSameCall f f' →

@@ -12,7 +12,7 @@ use Rattle.hip_types.specs.declared.number.Scalar.TheVariants.{Int, Ptr}
 use Rattle.hip_globals.specs.Values.{const_value}
 use Rattle.hip_runs.specs.State.{Registers}
 
--- the value of a register; 0 where it has none
+-- the value of a register; 0 if it has none
 abbrev pub look_up : Registers → List ℕ → ℕ
 look_up [] name = 0
 look_up (r ∷ rs) name = cond (bytes_eq r.0 name) r.1 (look_up rs name)
@@ -31,7 +31,7 @@ value_of globals base registers (Fixed constant) = const_value globals base cons
 abbrev pub values_of : List GlobalVar → ℕ → Registers → List Arg → List ℕ
 values_of globals base registers args = map (λ a. value_of globals base registers a.value) args
 
--- the registers of a new frame: each parameter with its argument
+-- the registers of a new frame: each parameter has its argument
 abbrev pub bound : List Param → List ℕ → Registers
 bound [] values = []
 bound (p ∷ ps) [] = []
@@ -42,7 +42,7 @@ abbrev pub scalar_size : Scalar → ℕ
 scalar_size (Int w) = bytes_of w
 scalar_size Ptr = 8
 
--- The alignment of an access: the less of its type's, which is its size, and the one that is written. (LLVM, "load".)
+-- The alignment of an access: the smaller of its type's, which is its size, and the written one. (LLVM, "load".)
 abbrev pub access_align : Scalar → Option ℕ → ℕ
 access_align s None = scalar_size s
 access_align s (Some n) = min (scalar_size s) n

@@ -1,4 +1,4 @@
--- What the event of a step tells of what the run printed, and of its end.
+-- What the event of a step says of what the run prints, and of its end.
 use Rattle.std.specs.Prelude.{ℕ, List, [], ◌++◌, Option, Some, None, codes}
 use Rattle.std.specs.Fmt.{signed_decimal}
 use Rattle.hip_runs.specs.declared.event.Ending.{Ending}
@@ -10,7 +10,7 @@ abbrev pub printed_by : Event → List ℕ
 printed_by (events.Print z) = signed_decimal z ++ codes "\n"
 printed_by _ = []
 
--- how the run ended, where the event tells its end; none for every other event
+-- how the run ended, if the event is its end
 abbrev pub ending_by : Event → Option Ending
 ending_by (events.End e) = Some e
 ending_by _ = None

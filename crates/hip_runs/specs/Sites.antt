@@ -1,4 +1,4 @@
--- What stands at the sites that the cache lines and the frames of a state name.
+-- The instructions at the sites that the cache lines and the frames of a state name.
 use Rattle.std.specs.Prelude.{◌≡◌, ℕ, ◌≤◌, Bool, true, false, ◌&&◌, ◌||◌, not, is_some, Option, Some, None, slice_get}
 use Rattle.hip_tree.specs.Sites.{instr_of}
 use Rattle.hip_tree.specs.declared.instr.Instr.{Instr}
@@ -50,8 +50,8 @@ is_defined_call P i = is_some (called_number P i)
 
 -- ---- what a state names
 
--- A part names a store as its site. Its first flush is a call that flushes, and one that takes no fence where the
--- part is not durable. The calls that stand, and those of each part, are calls of functions of the program.
+-- The site of a part is that of a store. Its first flush is a call that flushes, and takes no fence if the part is not
+-- durable. The standing calls, and those of each part, are calls of functions of the program.
 pub record HasSites (P : Program) (s : State) : Type 0 where
   pub store : (x : StorePart) → PartOf s.lines x → is_store (instr_of P x.site) ≡ true
   pub flush : (x : StorePart) (f : Flush) → PartOf s.lines x → x.first_flush ≡ Some f →

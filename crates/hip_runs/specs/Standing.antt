@@ -1,4 +1,4 @@
--- What a machine's memory and cache lines stand for: the state of a run.
+-- What a machine's memory and cache lines represent: the state of a run.
 use Rattle.std.specs.Prelude.{◌≡◌, ℕ, ◌*◌, List, length}
 use Rattle.hip_tree.specs.declared.program.Program.{Program}
 use Rattle.hip_lines.specs.Line.{Line, AreOrdered}
@@ -13,19 +13,19 @@ use Rattle.hip_runs.specs.StoredParts.Shown.{shown}
 use Rattle.hip_runs.specs.State.{StorePart}
 use Rattle.hip_runs.specs.Step.{run}
 
--- The areas of a `Ram` hold the memory after these writes, and the stack's mark is theirs.
+-- The areas of a `Ram` hold the memory after these writes, and their mark is the stack's mark.
 pub record HoldsMemory (P : Program) (I : Input) (r : Areas) (writes : List Write) (mark : ℕ) : Type 0 where
   pub holds : Holds r (record { base = I.base; volatile = volatile_bytes P I.base; region = I.image; writes = writes })
   pub mark_is : mark_of r ≡ mark
   pub laid_out : IsLaidOut r
 
--- The pending parts that a `Lines` shows are those of these cache lines.
+-- The pending parts of a `Lines` are those of these cache lines.
 pub record HoldsLines (I : Input) (ps : List (Pending Part)) (ls : List (Line StorePart)) : Type 0 where
   pub are : ps ≡ shown ls
   pub ordered : AreOrdered ls
   pub whole : length I.image ≡ LINE_SIZE * length ps
 
--- A `Ram` and a `Lines` stand for the state of a run after n steps.
+-- A `Ram` and a `Lines` represent the state of a run after n steps.
 pub record StandsFor (P : Program) (I : Input) (n : ℕ) (r : Areas) (ps : List (Pending Part)) : Type 0 where
   pub memory : HoldsMemory P I r (run P I n).world.writes (run P I n).world.mark
   pub lines : HoldsLines I ps (run P I n).lines

@@ -22,7 +22,7 @@ Registers = List (List ℕ × ℕ)
 
 -- A frame: its function, its basic block, and its place there, which is the number of the next instruction in the
 -- block's body, or that of its end; its registers; the stack mark at its call; its blocks on the stack, the newest
--- first; the register that its result goes into; and the call that made it, which the bottom frame has not.
+-- first; the register that its result goes into; and the call that made it, which the bottom frame does not have.
 pub record Frame : Type 0 where
   pub function : ℕ
   pub block : ℕ
@@ -38,9 +38,9 @@ pub record Flush : Type 0 where
   pub step : ℕ
   pub site : Site
 
--- The part of a store in a cache line: where it begins in the region, its bytes; the number of its store's step and of
--- its entry in the trace; the site of its store and the calls that the frame stood in, from the innermost one outward;
--- the first flush of its line after it; and whether a fence came after it.
+-- The part of a store in a cache line: its offset in the region and its bytes; the number of its store's step and of
+-- its entry in the trace; the site of its store and the calls that its frame stood in, from the innermost one outward;
+-- the first flush of its line after the store; and whether a fence came after the store.
 pub record StorePart : Type 0 where
   pub offset : ℕ
   pub bytes : List ℕ
@@ -66,14 +66,14 @@ pub record Counts : Type 0 where
   pub steps : ℕ
   pub entries : ℕ
 
--- the frames stand from the top one down
+-- the frames are listed from the top one down
 pub record State : Type 0 where
   pub world : World
   pub frames : List Frame
   pub lines : List (Line StorePart)
   pub counts : Counts
 
--- the calls with one more in front, where there is one; the bottom frame has none
+-- the calls with one more at the front, if there is one; the bottom frame has none
 abbrev pub level_list : Option Level → List Level → List Level
 level_list None rest = rest
 level_list (Some l) rest = l ∷ rest
@@ -83,6 +83,6 @@ abbrev pub levels_of : List Frame → List Level
 levels_of [] = []
 levels_of (f ∷ fs) = level_list f.level (levels_of fs)
 
--- the site of a frame's place; at the end of a block no instruction is there
+-- the site of a frame's place; at the end of a block there is no instruction
 abbrev pub site_of : Frame → Site
 site_of f = record { function = f.function; block = f.block; index = f.place }

@@ -26,15 +26,15 @@ state w fs ls counts = record { world = w; frames = fs; lines = ls; counts = cou
 
 -- ---- events
 
--- the address of the cache line that has address a of the region, where a range begins
+-- the address of the cache line that contains address a of the region
 abbrev pub first_line : Input → ℕ → ℕ
 first_line I a = I.base + LINE_SIZE * ((a - I.base) / LINE_SIZE)
 
--- 64 times the number of the region's cache lines that have a byte of the n bytes from a on, where n is at least 1
+-- 64 times the number of the region's cache lines that have one of the n bytes from a on; n is at least 1
 abbrev pub lines_size : Input → ℕ → ℕ → ℕ
 lines_size I a n = LINE_SIZE * (((a - I.base) + n - 1) / LINE_SIZE + 1) - LINE_SIZE * ((a - I.base) / LINE_SIZE)
 
--- whether the frame that stands on these is the bottom one
+-- whether the frame above these frames is the bottom one
 abbrev pub is_bottom : List Frame → Bool
 is_bottom [] = true
 is_bottom (f ∷ fs) = false
@@ -54,13 +54,13 @@ event_of I fs (Prints z) = events.Print z
 event_of I fs (Returns v) = cond (is_bottom fs) (events.End (Stop (signed W32 (bits W32 v).value))) events.Quiet
 event_of I fs _ = events.Quiet
 
--- a step has an entry in the trace, unless nothing is seen of it but what it prints
+-- a step has an entry in the trace, unless it is quiet or only prints
 abbrev pub has_entry : Event → Bool
 has_entry events.Quiet = false
 has_entry (events.Print z) = false
 has_entry _ = true
 
--- the counts after a step with this event: a step more, and an entry more where the event has one
+-- the counts after a step with this event: one step more, and one entry more if the event has one
 abbrev pub counted : Event → Counts → Counts
 counted e c = record { steps = suc c.steps; entries = cond (has_entry e) (suc c.entries) c.entries }
 
@@ -78,7 +78,7 @@ stop e w fs ls after = state (record w { ending = Some e }) fs ls after
 abbrev pub next : Frame → Frame
 next f = record f { place = suc f.place }
 
--- a register of the frame takes a value; the frame stays as it is where the value goes into none
+-- a register of the frame takes a value; the frame stays as it is if no register does
 abbrev pub with_register : Option (List ℕ) → ℕ → Frame → Frame
 with_register dest value f = record f { registers = assigned dest value f.registers }
 
@@ -147,16 +147,16 @@ perform I w f fs ls before after (Returns v) = leave v w f fs ls after
 
 -- ---- steps
 
--- the turns have reached the limit, and what comes next is a turn
+-- the turns have reached the limit, and the next step is a turn
 abbrev pub is_cut : Input → World → Deed → Bool
 is_cut I w d = d.turn && not (nat_lt w.turns I.limit)
 
--- the event of what a frame does above these frames: the end of the run where it is cut, else that of the action
+-- the event of a deed above these frames: the cut of the run if it is cut, else that of the action
 abbrev pub event_at : Input → World → List Frame → Deed → Event
 event_at I w fs d = cond (is_cut I w d) (events.End Cut) (event_of I fs d.action)
 
--- the state after the top frame's deed: where the run is cut, only its ending and the counts are new; else the action
--- is done, after one turn more where the deed is one
+-- the state after the top frame's deed: if the run is cut, only its ending and the counts are new; else the action is
+-- done, after one more turn if the deed is one
 unfoldable pub carry_out : Input → World → Frame → List Frame → List (Line StorePart) → Counts → Counts
     → Deed → State
 carry_out I w f fs ls before after d =
@@ -167,7 +167,7 @@ carry_out I w f fs ls before after d =
 abbrev pub deed_at : Program → Input → World → Frame → List Frame → Deed
 deed_at P I w f fs = deed_of P I w (length fs) f (end_at P f) (code_at P f)
 
--- the state after the top frame did what comes next; where no frame stands all stays as it is, the counts too
+-- the state after the top frame's next deed; if no frame stands, all stays as it is, the counts too
 unfoldable pub on_frames : Program → Input → World → List (Line StorePart) → Counts → List Frame → State
 on_frames P I w ls counts [] = state w [] ls counts
 on_frames P I w ls counts (f ∷ fs) =
@@ -178,32 +178,32 @@ unfoldable pub on_ending : Program → Input → State → Option Ending → Sta
 on_ending P I s (Some e) = s
 on_ending P I s None = on_frames P I s.world s.lines s.counts s.frames
 
--- the state after one step more of a run on an input; the same state where the run has ended
+-- the state after one more step of a run on an input; the same state if the run has ended
 unfoldable pub step : Program → Input → State → State
 step P I s = on_ending P I s s.world.ending
 
--- the event of what the top frame does next; nothing is seen where no frame stands
+-- the event of the top frame's next deed; quiet if no frame stands
 abbrev pub event_on_frames : Program → Input → World → List Frame → Event
 event_on_frames P I w [] = events.Quiet
 event_on_frames P I w (f ∷ fs) = event_at I w fs (deed_at P I w f fs)
 
--- the ending again where the run has ended so, else the event of what the top frame does next
+-- the ending again if the run has ended, else the event of the top frame's next deed
 abbrev pub event_on_ending : Program → Input → State → Option Ending → Event
 event_on_ending P I s (Some e) = events.End e
 event_on_ending P I s None = event_on_frames P I s.world s.frames
 
--- the event of the next step; after the end the ending again
+-- the event of the next step; after the end of the run its ending again
 unfoldable pub event : Program → Input → State → Event
 event P I s = event_on_ending P I s s.world.ending
 
 -- ---- runs
 
--- the number of `main`; 0 where there is none, which never comes in a sound program
+-- the number of `main`; 0 if there is none, which does not occur in a sound program
 abbrev pub numbered_main : Option ℕ → ℕ
 numbered_main None = 0
 numbered_main (Some f) = f
 
--- the number of the first function of the name `main`; 0 where none has it, which never comes in a sound program
+-- the number of the first function with the name `main`; 0 if there is none, which does not occur in a sound program
 abbrev pub main_number : Program → ℕ
 main_number P = numbered_main (function_number P (codes "main"))
 
@@ -218,7 +218,7 @@ abbrev pub image_lines : ℕ → List ℕ → ℕ
 image_lines zero bytes = 0
 image_lines (suc n) bytes = cond (some_byte (take LINE_SIZE bytes)) 1 0 + image_lines n (drop LINE_SIZE bytes)
 
--- how many entries stand before a run's first step: START, REGISTER, an INPUT for each number, and an IMAGE for each
+-- how many entries come before a run's first step: START, REGISTER, an INPUT for each number, and an IMAGE for each
 -- cache line of the initial region that has a byte other than 0
 abbrev pub header_entries : Input → ℕ
 header_entries I = 2 + length I.numbers + image_lines (length I.image / LINE_SIZE) I.image

@@ -11,8 +11,8 @@ pub record IsInput (I : Input) : Type 0 where
   pub bytes : All (λ b. b < 256) I.image
   pub numbers : All (FitsSigned w64) I.numbers
 
--- The base is a multiple of 4,096 from 2^32 to 2^46, the initial bytes are as many as the program's region has, at most
--- 1,048,576 numbers are read, and there are at most 2^40 turns. (This project's own.)
+-- The base is a multiple of 4,096 from 2^32 to 2^46, there are as many initial bytes as the program's region has, at
+-- most 1,048,576 numbers, and at most 2^40 turns. (This project's own.)
 pub record IsValid (P : Program) (I : Input) : Type 0 where
   pub base : IsBase I.base
   pub image : length I.image ≡ region_size P

@@ -15,12 +15,12 @@ pub record Grows (t u : Tables) : Type 0 where
   pub edges : Extends t.edges u.edges
   pub cases : Extends t.cases u.cases
 
--- The tables grow from the first to the second, of which a fact holds, and of all that these grow to.
+-- The first tables grow to the second, and the fact holds of the second and of all tables that these grow to.
 pub record Makes (t u : Tables) (Fact : Tables → Type 0) : Type 0 where
   pub grows : Grows t u
   pub lasts : (v : Tables) → Grows u v → Fact v
 
--- nothing but constants is put into the tables
+-- only constants are put into the tables
 pub record OnlyConstants (t u : Tables) : Type 0 where
   pub terms : u.terms ≡ t.terms
   pub moves : u.moves ≡ t.moves

@@ -1,4 +1,4 @@
--- What the resolver has to know of a sound program's instructions.
+-- What the resolver needs to know of a sound program's instructions.
 use Rattle.std.specs.Prelude.{ℕ, ◌≡◌, ◌<◌, ◌⊎◌, true, List, All, Option, Some, None, slice_get}
 use Rattle.std.specs.List.{list_all}
 use Rattle.hip_types.specs.Layout.{Fits}
@@ -22,7 +22,7 @@ use Rattle.std.specs.Prelude.{ℕ, ◌≡◌, true, List, Some, None, slice_get}
 use Rattle.hip_tree.specs.declared.block.End.{End}
 use Rattle.hip_tree.specs.declared.block.End.TheVariants as ends
 
--- a register is one of the function's, and the types in a constant fit
+-- the operand is a register of the function, or a constant whose types fit
 abbrev pub OperandKnown : List (List ℕ) → named.Operand → Type 0
 OperandKnown names (Reg name) = IsAmong names name
 OperandKnown names (Fixed value) = All Fits (types_in value)
@@ -36,7 +36,7 @@ abbrev pub ResultKnown : List (List ℕ) → Option (List ℕ) → Type 0
 ResultKnown names None = Unit {0}
 ResultKnown names (Some name) = IsAmong names name
 
--- registers are the function's, types fit, alignments are none of 0, indices lead into the type, and callees are there
+-- registers are the function's, types fit, no alignment is 0, indices lead into the type, and callees are there
 abbrev pub InstrKnown : Program → List (List ℕ) → Instr → Type 0
 InstrKnown P names (Binary dest op flags width a b) = IsAmong names dest × OperandKnown names a × OperandKnown names b
 InstrKnown P names (Compare dest pred ty a b) = IsAmong names dest × OperandKnown names a × OperandKnown names b
@@ -64,17 +64,17 @@ EndKnown names (ends.Ret None) = Unit {0}
 EndKnown names (ends.Ret (Some arg)) = OperandKnown names arg.value
 EndKnown names ends.Unreachable = Unit {0}
 
--- the phi's register and operands are known, and it has an operand for control from a label
+-- the phi's register and operands are known, and it has an operand for control from the label
 pub record PhiKnown (names : List (List ℕ)) (from : List ℕ) (p : Phi) : Type 0 where
   pub dest : IsAmong names p.dest
   pub edges : All (λ e. OperandKnown names e.value) p.edges
   pub from_is : IsAmong (map (λ e. e.label) p.edges) from
 
--- of each of the phis the register and the operands are known, and it has an operand for control from a label
+-- the same for each of the phis
 pub record PhisKnown (names : List (List ℕ)) (from : List ℕ) (ps : List Phi) : Type 0 where
   pub at : (k : ℕ) (p : Phi) → slice_get ps k ≡ Some p → PhiKnown names from p
 
--- the number stands at the place that the operand names
+-- the operand is the place of a constant, which is this number
 abbrev pub IsConstant : List ℕ → Operand → ℕ → Type 0
 IsConstant constants (Constant place) value = slice_get constants place ≡ Some value
 IsConstant constants (Register slot) value = ⊥

@@ -1,4 +1,4 @@
--- Lists of numbers and tables that are made for one thing after another.
+-- Lists that have a number or a table for each item of another list, in order.
 use Rattle.std.specs.Prelude.{ℕ, ◌≡◌, ◌<◌, List, Some, length, slice_get}
 use Rattle.hip_tree.specs.declared.block.Block.{Block}
 use Rattle.hip_tree.specs.declared.program.Function.{Function}
@@ -7,15 +7,15 @@ use Rattle.hip_names.specs.declared.table.NameTable.{NameTable}
 use Rattle.hip_sound.specs.Sound.{register_names}
 use Rattle.hip_scope.specs.PhiNumbers.{HasTables}
 
--- n numbers, each of which its place in the list determines
+-- the list has `count` numbers, each given by its place
 pub record Lists (numbers : List ℕ) (count : ℕ) (number : ℕ → ℕ) : Type 0 where
   pub as_long : length numbers ≡ count
   pub at : (k : ℕ) → k < count → slice_get numbers k ≡ Some (number k)
 
--- the registers of each function differ
+-- the registers of each function have different names
 pub record RegistersDiffer (fs : List Function) : Type 0 where
   pub at : (g : ℕ) (fn : Function) → slice_get fs g ≡ Some fn → AllDiffer (register_names fn)
 
--- for each block there are the tables of its phis
+-- for each block the list has the tables of its phis
 pub record SourcesOf (sources : List (List (NameTable ℕ))) (bs : List Block) : Type 0 where
   pub at : (b : ℕ) (block : Block) → slice_get bs b ≡ Some block → HasTables sources b block.phis

@@ -1,10 +1,10 @@
--- Tables of the numbers of phis' edges by their labels.
+-- Tables that number the edges of phis by their labels.
 use Rattle.std.specs.Prelude.{ℕ, ◌≡◌, List, Some, map, slice_get}
 use Rattle.hip_tree.specs.declared.block.Phi.{Phi}
 use Rattle.hip_names.specs.declared.table.NameTable.{NameTable}
 use Rattle.hip_names.specs.Numbered.{Numbers}
 
--- the table of that number has the numbers of a phi's edges by their labels
+-- the table at that place numbers the edges of a phi by their labels
 pub record HasNumbers (tables : List (NameTable ℕ)) (k : ℕ) (p : Phi) : Type 0 where
   pub table : NameTable ℕ
   pub here : slice_get tables k ≡ Some table
@@ -14,7 +14,7 @@ pub record HasNumbers (tables : List (NameTable ℕ)) (k : ℕ) (p : Phi) : Type
 pub record NumbersPhis (tables : List (NameTable ℕ)) (ps : List Phi) : Type 0 where
   pub at : (k : ℕ) (p : Phi) → slice_get ps k ≡ Some p → HasNumbers tables k p
 
--- the tables of that number are those of phis
+-- the tables at that place are those of phis
 pub record HasTables (sources : List (List (NameTable ℕ))) (k : ℕ) (ps : List Phi) : Type 0 where
   pub tables : List (NameTable ℕ)
   pub here : slice_get sources k ≡ Some tables

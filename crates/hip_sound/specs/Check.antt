@@ -1,4 +1,4 @@
--- Checks of a program: what each requires, and the first fault that it finds.
+-- Checks of a program: what each check requires, and the first fault that it finds.
 use Rattle.std.specs.Prelude.{ℕ, ◌≡◌, ◌+◌, Bool, List, [], ◌∷◌, Option, Some, None, IsTrue, if◌then◌else◌}
 use Rattle.hip_sound.specs.declared.fault.Fault.{Fault}
 use Rattle.hip_sound.specs.declared.fault.Finding.{Finding}
@@ -14,7 +14,7 @@ pub record IsExact (c : Check) : Type 0 where
   pub sound : c.found ≡ None → c.Holds
   pub whole : c.Holds → c.found ≡ None
 
--- the earlier finding, or else the later one; none where neither is there
+-- the earlier finding, or else the later one, if there is either
 abbrev pub or_else : Option Finding → Option Finding → Option Finding
 or_else None later = later
 or_else (Some f) later = Some f
@@ -23,12 +23,12 @@ or_else (Some f) later = Some f
 abbrev pub nothing_asked : Check
 nothing_asked = record { Holds = Unit {0}; found = None }
 
--- a fact with the test that decides it
+-- the check that requires a fact, with the test that decides it and the fault where it fails
 abbrev pub asks : Type 0 → Bool → Fault → Place → Check
 asks fact test fault place =
     record { Holds = fact; found = if test then None else Some (record { fault = fault; place = place }) }
 
--- the check that a test passes, which finds this fault at this place where it does not
+-- the check that requires a test to pass, with the fault where it fails
 abbrev pub asks_true : Bool → Fault → Place → Check
 asks_true test fault place = asks (IsTrue test) test fault place
 

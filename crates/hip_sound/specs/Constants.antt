@@ -12,7 +12,7 @@ use Rattle.hip_tree.specs.declared.constant.Const.TheFolds.{fold-Const, fold-Con
 use Rattle.hip_globals.specs.Constants.{index_of, joined}
 use Rattle.hip_sound.specs.Types.{is_int, is_ptr, is_struct, same_type}
 
--- the names at one level of a constant, with the names in each part inside in its place
+-- the names at one level of a constant, with the names of each part inside in its place
 abbrev names_step : Const-F (List (List ℕ)) (List (List ℕ)) (List (List ℕ)) → List (List ℕ)
 names_step (Const-F.Address name) = name ∷ []
 names_step (Const-F.Gep names) = names
@@ -28,11 +28,11 @@ gep_names_step gep = gep.base
 abbrev item_names_step : TypedConst-F (List (List ℕ)) (List (List ℕ)) (List (List ℕ)) → List (List ℕ)
 item_names_step item = item.value
 
--- the names whose addresses stand in a constant, in the order of its text, each as often as it stands there
+-- the names of globals in a constant, in the order of its text, with repeats
 abbrev pub names_in : Const → List (List ℕ)
 names_in = fold-Const (List (List ℕ)) (List (List ℕ)) (List (List ℕ)) names_step gep_names_step item_names_step
 
--- the names whose addresses stand in a member of an aggregate constant, in the order of its text
+-- the names of globals in a member of an aggregate constant, in the order of its text
 abbrev pub item_names : TypedConst → List (List ℕ)
 item_names = fold-TypedConst (List (List ℕ)) (List (List ℕ))
     (List (List ℕ)) names_step gep_names_step item_names_step
@@ -43,7 +43,7 @@ entered i (Ty-F.Array n element) = Some element
 entered i (Ty-F.Struct fields) = slice_get fields i
 entered i _ = None
 
--- an index enters a type, and the test of the further indices passes there; false where it enters none
+-- an index enters a type, and the test of the further indices passes there; false if it enters none
 abbrev pub goes_in : (Ty → Bool) → Option Ty → Bool
 goes_in rest None = false
 goes_in rest (Some t) = rest t
@@ -53,7 +53,7 @@ abbrev pub enters : List Bits → Ty → Bool
 enters [] t = true
 enters (i ∷ is) t = goes_in (enters is) (entered (index_of i) (out-Ty t))
 
--- the first index steps over whole values, each further one enters
+-- the first index steps over whole values, and each further one enters an aggregate
 abbrev pub path_exists : List Bits → Ty → Bool
 path_exists [] t = false
 path_exists (first ∷ further) t = enters further t
@@ -70,8 +70,8 @@ array_has items (Ty-F.Array n t) = length items == n && all_have items t
 array_has items _ = false
 
 -- Whether one level of a constant has the shape of a type, with the test of each part inside in its place. An integer
--- has that of the type of its width; `null`, an address and a `getelementptr` that of `ptr`; lists those of arrays
--- and structs; `zeroinitializer` that of every type. (LLVM, "Constants".)
+-- has the shape of the type of its width; `null`, an address and a `getelementptr` have that of `ptr`; lists have those
+-- of arrays and structs; `zeroinitializer` has that of every type. (LLVM, "Constants".)
 abbrev shape_step : Const-F (Ty → Bool) Bool (Ty → Bool) → Ty → Bool
 shape_step (Const-F.Int b) t = is_int b.width (out-Ty t)
 shape_step Const-F.Null t = is_ptr (out-Ty t)
@@ -86,7 +86,7 @@ shape_step (Const-F.Struct items) t = is_struct items (out-Ty t)
 abbrev gep_shape : ConstGep-F (Ty → Bool) Bool (Ty → Bool) → Bool
 gep_shape gep = gep.base Ptr && path_exists gep.indices gep.ty
 
--- one level of a member of an aggregate constant: it is written under this type, and its value has the shape
+-- one level of a member of an aggregate constant: it has this type, and its value has the shape of the type
 abbrev item_shape : TypedConst-F (Ty → Bool) Bool (Ty → Bool) → Ty → Bool
 item_shape item t = same_type item.ty t && item.value t
 
@@ -98,6 +98,6 @@ has_shape = fold-Const (Ty → Bool) Bool (Ty → Bool) shape_step gep_shape ite
 abbrev pub gep_is_sound : ConstGep → Bool
 gep_is_sound = fold-ConstGep (Ty → Bool) Bool (Ty → Bool) shape_step gep_shape item_shape
 
--- the member of an aggregate constant is written under this type, and its value has the type's shape
+-- the member of an aggregate constant has this type, and its value has the type's shape
 abbrev pub item_has_shape : TypedConst → Ty → Bool
 item_has_shape = fold-TypedConst (Ty → Bool) Bool (Ty → Bool) shape_step gep_shape item_shape

@@ -1,4 +1,4 @@
--- Whether two constants or operands are one, as a test.
+-- Whether two constants or operands are equal, as a test.
 use Rattle.std.specs.Prelude.{ℕ, ◌==◌, ◌&&◌, Bool, true, false, List, [], ◌∷◌}
 use Rattle.std.specs.Str.{bytes_eq}
 use Rattle.hip_types.specs.declared.number.Bits.{Bits}
@@ -57,7 +57,7 @@ abbrev pub is_struct_constant : List (TypedConst → Bool) → Const-F Const Con
 is_struct_constant tests (Const-F.Struct items) = all_pass tests items
 is_struct_constant tests _ = false
 
--- one level of a constant, with the test of each constant inside in its place
+-- whether a constant has this level, with the test of each constant inside in its place
 abbrev pub same_level : Const-F (Const → Bool) (ConstGep → Bool) (TypedConst → Bool) →
     Const-F Const ConstGep TypedConst → Bool
 same_level (Const-F.Int b) c = is_int_constant b c

@@ -1,4 +1,4 @@
--- What holds in a sound program, fact by fact, for what runs or changes it.
+-- What holds in a sound program, fact by fact, for code that runs or changes it.
 use Rattle.std.specs.Prelude.{ℕ, ◌≡◌, ◌⊎◌, List, map, All, Option, Some, slice_get}
 use Rattle.hip_types.specs.declared.number.Scalar.{Scalar}
 use Rattle.hip_tree.specs.declared.block.Block.{Block}
@@ -17,7 +17,7 @@ use Rattle.hip_sound.specs.Sound.{IsBlockAt, IsTyped}
 
 -- ---- calls
 
--- the name is a function's, which has this result and these parameters
+-- the callee is a function, which has this result and these parameters
 pub record CallsFunction (P : Program) (callee : List ℕ) (ret : Option Scalar) (args : List Arg) : Type 0 where
   pub number : ℕ
   pub function : Function
@@ -26,14 +26,14 @@ pub record CallsFunction (P : Program) (callee : List ℕ) (ret : Option Scalar)
   pub result : function.ret ≡ ret
   pub params : map (λ p. p.ty) function.params ≡ map (λ a. a.ty) args
 
--- the name is an external function's
+-- the callee is an external function, which has this result and these parameters
 pub record CallsExtern (callee : List ℕ) (ret : Option Scalar) (args : List Arg) : Type 0 where
   pub signature : Signature
   pub known : known_signature callee ≡ Some signature
   pub result : signature.ret ≡ ret
   pub params : signature.params ≡ map (λ a. a.ty) args
 
--- each call names a function or an external function with its result and its arguments' types
+-- each call names a function or an external function that has its result and its arguments' types
 abbrev pub CallsAgree : Program → Type 0
 CallsAgree P =
     (f b i : ℕ) (fn : Function) (block : Block) (dest : Option (List ℕ)) (ret : Option Scalar) (callee : List ℕ)
@@ -62,13 +62,13 @@ pub record HasBlock (fn : Function) (label : List ℕ) : Type 0 where
   pub here : slice_get fn.blocks number ≡ Some block
   pub named : block.label ≡ label
 
--- each label that the end of a block names is that of a block of the same function
+-- each label that the end of a block names is the label of a block of the same function
 abbrev pub LabelsExist : Program → Type 0
 LabelsExist P =
     (f b : ℕ) (fn : Function) (block : Block) → IsBlockAt P f b fn block
     → All (HasBlock fn) (end_labels block.end)
 
--- a phi has an edge for each block whose end names its own
+-- a phi has an edge for each block whose end names the phi's own block
 abbrev pub PhisAgree : Program → Type 0
 PhisAgree P =
     (f b c i : ℕ) (fn : Function) (block prior : Block) (p : Phi) → IsBlockAt P f b fn block →

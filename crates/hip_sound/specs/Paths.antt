@@ -35,7 +35,7 @@ pub record IsPathTo (f : Function) (path : List ℕ) (last : ℕ) : Type 0 where
   pub earlier : List ℕ
   pub last_is : path ≡ earlier ++ last ∷ []
 
--- the registers that were assigned in a block before a point of it, where control came in at its start
+-- the registers that a block assigns before a point of it
 abbrev pub registers_before : Point → Block → List Register
 registers_before (Before k) b = phi_registers b.phis ++ body_registers (take k b.body)
 registers_before AtEnd b = block_registers b
@@ -53,18 +53,18 @@ abbrev pub names_before : Function → Point → ℕ → List (List ℕ)
 names_before f point b =
     unwrap_or (option_map (λ block. names_of (registers_before point block)) (slice_get f.blocks b)) []
 
--- what is assigned on a path, given as the blocks before its last one, before a point in the last
+-- what is assigned on a path before a point in its last block; the path is given as the blocks before the last one
 abbrev pub assigned_on : Function → List ℕ → ℕ → Point → List (List ℕ)
 assigned_on f earlier last point =
     names_of (parameter_registers f) ++ (flat_map (whole_block_names f) earlier ++ names_before f point last)
 
--- A path to the point on which nothing assigns the register before it.
+-- A path to the point that does not assign the register before it.
 pub record IsUnassigned (f : Function) (last : ℕ) (point : Point) (name : List ℕ) (path : List ℕ) : Type 0 where
   pub leads : IsPathTo f path last
   pub earlier : List ℕ
   pub is : path ≡ earlier ++ last ∷ []
   pub none : ¬ IsAmong (assigned_on f earlier last point) name
 
--- The register has been assigned on every path to the point.
+-- Every path to the point assigns the register before it.
 abbrev pub IsAssigned : Function → ℕ → Point → List ℕ → Type 0
 IsAssigned f last point name = (path : List ℕ) → ¬ IsUnassigned f last point name path

@@ -66,9 +66,9 @@ first_of None other = other
 abbrev pub callee_of : Program → List ℕ → Option Signature
 callee_of P name = first_of (extern_of P.externs name) (function_of P.functions name)
 
--- ---- what a function's places refer to
+-- ---- what the places of a function refer to
 
--- the program and the function that a place stands in, and the function's registers
+-- the program and the function of a place, and the function's registers
 pub record Scope : Type 0 where
   pub program : Program
   pub function : Function
@@ -78,11 +78,11 @@ pub record Scope : Type 0 where
 abbrev pub scope_of : Program → Function → Scope
 scope_of P f = record { program = P; function = f; registers = registers_of f }
 
--- each name of the second list is one of the first, as all are where the second is empty
+-- each name of the second list is in the first one; true if the second is empty
 abbrev pub are_among : List (List ℕ) → List (List ℕ) → Bool
 are_among known names = list_all (is_among known) names
 
--- registers and globals that are named, exist
+-- the registers and globals that the uses name exist
 abbrev pub uses_known : Scope → List Use → Bool
 uses_known s us =
     list_all (λ n. is_some (find_register s.registers n)) (used_registers us)
@@ -96,7 +96,7 @@ fits_test t = nat_le (shape t).largest LARGEST_TYPE && nat_le (shape t).depth DE
 abbrev pub types_fit : List Ty → Place → Check
 types_fit ts place = asks (All Fits ts) (list_all fits_test ts) breaks.TooLarge place
 
--- the register that was found has that type; not where none was found, nor where it is that of a void call
+-- the register that was found has that type; false if none was found, or if it is that of a void call
 abbrev pub has_type : Scalar → Option (Option Scalar) → Bool
 has_type ty (Some (Some t)) = same_scalar t ty
 has_type ty _ = false
@@ -112,7 +112,7 @@ uses_agree s us = list_all (λ u. use_agrees s.registers u.operand u.ty) us
 
 -- ---- instructions
 
--- from an integer to an integer of more bits; not to one of the same width, and not from or to a pointer
+-- from an integer to an integer of more bits
 abbrev pub widens : Scalar → Scalar → Bool
 widens (scalars.Int v) (scalars.Int w) = nat_lt (bits_of v) (bits_of w)
 widens _ _ = false
@@ -130,8 +130,8 @@ cast_agrees casts.Trunc from to = widens to from
 cast_agrees casts.Ptrtoint from to = not (is_integer from) && is_integer to
 cast_agrees casts.Inttoptr from to = is_integer from && not (is_integer to)
 
--- The field that an integer of any width, sign-extended to 64 bits, numbers from 0: none where there is no such
--- field, and none for any other constant, `zeroinitializer` too. (LLVM, "getelementptr", which has an i32 there.)
+-- The field that an integer of any width, sign-extended to 64 bits, numbers from 0: none if there is no such field, and
+-- none for any other constant, `zeroinitializer` too. (LLVM, "getelementptr", which has an i32 there.)
 abbrev pub literal_field : List Ty → Const-F Const ConstGep TypedConst → Option Ty
 literal_field fields (Const-F.Int b) = slice_get fields (index_of b)
 literal_field fields _ = None
@@ -147,19 +147,20 @@ entered_by index (Ty-F.Array n element) = Some element
 entered_by index (Ty-F.Struct fields) = named_field fields index
 entered_by index _ = None
 
--- each of these indices, if any, enters an aggregate: the first one the type, each other what the one before gave
+-- each of these indices, if any, enters an aggregate: the first one the type, each other one what the index before it
+-- gave
 abbrev pub args_enter : List Arg → Ty → Bool
 args_enter [] t = true
 args_enter (index ∷ indices) t = goes_in (args_enter indices) (entered_by index.value (out-Ty t))
 
 -- The first index of a `getelementptr` steps over whole values of the type, and each further one enters an aggregate;
--- it does not agree without an index. (LLVM, "getelementptr".)
+-- false without an index. (LLVM, "getelementptr".)
 abbrev pub gep_agrees : List Arg → Ty → Bool
 gep_agrees [] t = false
 gep_agrees (first ∷ indices) t = args_enter indices t
 
--- A call agrees with a signature in its result, and in the number and the types of its arguments; not where what it
--- names has none. (LLVM, "call".)
+-- A call agrees with a signature in its result, and in the number and the types of its arguments; false if the callee
+-- has no signature. (LLVM, "call".)
 abbrev pub signature_agrees : Option Scalar → List Arg → Option Signature → Bool
 signature_agrees ret args None = false
 signature_agrees ret args (Some s) =
@@ -199,22 +200,22 @@ instr_check s i place =
 
 -- ---- ends
 
--- a value of the function's result type is returned, or no value where the function is void (LLVM, "ret")
+-- a value of the function's result type is returned, or no value if the function is void (LLVM, "ret")
 abbrev pub returned_agrees : Option Arg → Option Scalar → Bool
 returned_agrees None None = true
 returned_agrees (Some arg) (Some ty) = same_scalar arg.ty ty
 returned_agrees _ _ = false
 
--- a `ret` returns what a function with this result has to; every other end of a block passes
+-- a `ret` returns what a function with this result has to return; every other end of a block passes
 abbrev pub returns : Option Scalar → End → Bool
 returns ret (Ret arg) = returned_agrees arg ret
 returns ret _ = true
 
--- the end of a block returns what the function of the scope has to, where it is a `ret`
+-- if the end of a block is a `ret`, it returns what the function of the scope has to return
 abbrev pub end_agrees : Scope → End → Bool
 end_agrees s e = returns s.function.ret e
 
--- a test passes at each item of a list with each later one
+-- the test passes at each item of a list with each later one
 abbrev pub each_pair : {A : Type 0} → (A → A → Bool) → List A → Bool
 each_pair test [] = true
 each_pair test (x ∷ xs) = list_all (test x) xs && each_pair test xs
@@ -223,7 +224,7 @@ each_pair test (x ∷ xs) = list_all (test x) xs && each_pair test xs
 abbrev pub differ : Case → Case → Bool
 differ c d = not (same_bits c.value d.value)
 
--- no two cases of a switch have one value (LLVM, "switch")
+-- no two cases of a switch have the same value (LLVM, "switch")
 abbrev pub cases_differ : List Case → Bool
 cases_differ cases = each_pair differ cases
 
@@ -232,7 +233,7 @@ abbrev pub end_cases : End → List Case
 end_cases (Switch width value other cases) = cases
 end_cases _ = []
 
--- the label is that of the entry block, the first one; not where there are no blocks
+-- the label is that of the entry block, the first one; false if there are no blocks
 abbrev pub is_entry : List Block → List ℕ → Bool
 is_entry [] label = false
 is_entry (b ∷ bs) label = bytes_eq b.label label
@@ -261,11 +262,11 @@ predecessors [] label = []
 predecessors (b ∷ bs) label = if is_predecessor label b then b.label
     ∷ predecessors bs label else predecessors bs label
 
--- two edges of one label carry the same operand
+-- two edges with the same label carry the same operand
 abbrev pub carry_alike : Edge → Edge → Bool
 carry_alike e d = not (bytes_eq e.label d.label) || same_operand e.value d.value
 
--- all edges of one label carry the same operand
+-- all edges with the same label carry the same operand
 abbrev pub repeats_agree : List Edge → Bool
 repeats_agree edges = each_pair carry_alike edges
 
@@ -273,8 +274,8 @@ repeats_agree edges = each_pair carry_alike edges
 abbrev pub edge_labels : List Edge → List (List ℕ)
 edge_labels edges = map (λ e. e.label) edges
 
--- The edges name each predecessor, once or more, and nothing else, and edges of one label carry the same operand.
--- (LLVM, "phi".)
+-- The edges name each predecessor, once or more, and nothing else, and edges with the same label carry the same
+-- operand. (LLVM, "phi".)
 abbrev pub edges_agree : List (List ℕ) → List Edge → Bool
 edges_agree before edges =
     are_among (edge_labels edges) before && (are_among before (edge_labels edges) && repeats_agree edges)

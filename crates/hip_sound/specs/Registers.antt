@@ -29,7 +29,7 @@ pub record Register : Type 0 where
 abbrev register : List ℕ → Scalar → List Register
 register name ty = record { name = name; ty = Some ty } ∷ []
 
--- the register that a call names for its result, without a type where the call is void; empty where it names none
+-- the register that a call names for its result, without a type if the call is void; empty if it names none
 abbrev called_register : Option (List ℕ) → Option Scalar → List Register
 called_register None ret = []
 called_register (Some name) ret = record { name = name; ty = ret } ∷ []
@@ -66,7 +66,7 @@ parameter_registers f = map (λ p. record { name = p.name; ty = Some p.ty }) f.p
 abbrev pub registers_of : Function → List Register
 registers_of f = parameter_registers f ++ flat_map block_registers f.blocks
 
--- the type of the first register of that name: `None` where no register has it, `Some None` for that of a void call
+-- the type of the first register of that name: `None` if no register has it, `Some None` for that of a void call
 abbrev pub find_register : List Register → List ℕ → Option (Option Scalar)
 find_register [] name = None
 find_register (r ∷ rs) name = if bytes_eq r.name name then Some r.ty else find_register rs name

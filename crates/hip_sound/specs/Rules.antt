@@ -44,7 +44,7 @@ use Rattle.hip_sound.specs.declared.fault.TypeRefusal.{TypeRefusal}
 
 -- ---- names of globals, externs and functions differ, the three lists taken in this order
 
--- a name, put together with the place at which it is declared
+-- a name with the place at which it is declared
 abbrev named : List ℕ → Place → Named
 named name place = record { name = name; place = place }
 
@@ -64,14 +64,14 @@ function_declarations functions = numbered (λ n f. named f.name (places.Head n)
 abbrev pub declarations : Program → List Named
 declarations P = global_declarations P.globals ++ extern_declarations P.externs ++ function_declarations P.functions
 
--- the check that the names at the top of a program differ: Duplicate at the first one that an earlier one is equal to
+-- the check that the names at the top of a program differ: Duplicate at the first one that is equal to an earlier one
 abbrev pub names_check : Program → Check
 names_check P = all_differ (declarations P)
 
 -- ---- globals: their types fit, their initialisers have their types' shape and name globals
 
 -- the rules of the global of number n, in this order: its type and those in its initialiser fit (TooLarge), and the
--- initialiser has the shape of the type (BadGlobal) and names no globals but those that are known (Unknown)
+-- initialiser has the shape of the type (BadGlobal) and names only globals that are known (Unknown)
 abbrev pub global_check : List (List ℕ) → ℕ → GlobalVar → Check
 global_check known n g =
     and_then (types_fit (g.ty ∷ types_in g.init) (places.Global n))
@@ -82,7 +82,7 @@ global_check known n g =
 abbrev pub globals_check : Program → Check
 globals_check P = each (global_check (global_names P)) P.globals
 
--- ---- externs are of the table, and nothing else has a name of the table
+-- ---- the table has each external function, and nothing else has a name of the table
 
 -- the table of external functions does not have the name
 abbrev pub is_free : List ℕ → Bool
@@ -93,15 +93,16 @@ abbrev pub is_of : Extern → Option Signature → Bool
 is_of e None = false
 is_of e (Some s) = same_result e.ret s.ret && all_pass (map same_scalar s.params) e.params
 
--- the check that global n has no name of the table: BadExtern at the global
+-- the check that the name of global n is not in the table: BadExtern at the global
 abbrev pub free_global : ℕ → GlobalVar → Check
 free_global n g = asks_true (is_free g.name) breaks.BadExtern (places.Global n)
 
--- the check that external declaration n has a name of the table, and its signature: BadExtern at the declaration
+-- the check that the name of external declaration n is in the table, with the same signature: BadExtern at the
+-- declaration
 abbrev pub declared : ℕ → Extern → Check
 declared n e = asks_true (is_of e (known_signature e.name)) breaks.BadExtern (places.Extern n)
 
--- the check that function n has no name of the table: BadExtern at the head of the function
+-- the check that the name of function n is not in the table: BadExtern at the head of the function
 abbrev pub free_function : ℕ → Function → Check
 free_function n f = asks_true (is_free f.name) breaks.BadExtern (places.Head n)
 
@@ -120,7 +121,7 @@ sizes_check P =
     (nat_le (region_size P) LARGEST_REGION && nat_le (volatile_end P) (volatile_start + LARGEST_VOLATILE))
     breaks.TooLarge places.Whole
 
--- ---- `main` is there, has no parameters and answers an i32
+-- ---- `main` is there, has no parameters and returns an i32
 
 -- the result of a function is an i32; false if the function is void
 abbrev pub is_i32 : Option Scalar → Bool
@@ -132,7 +133,7 @@ abbrev pub no_params : List Param → Bool
 no_params [] = true
 no_params _ = false
 
--- the function, whatever its name is, has no parameters and answers an i32
+-- the function, whatever its name is, has no parameters and returns an i32
 abbrev pub is_main : Function → Bool
 is_main f = no_params f.params && is_i32 f.ret
 
@@ -151,7 +152,7 @@ main_check P = asks_true (has_main P.functions) breaks.NoMain places.Whole
 abbrev pub site : ℕ → ℕ → ℕ → Site
 site f b i = record { function = f; block = b; index = i }
 
--- each name at its place: a parameter or a label at the function's head
+-- each name with its place; a parameter and a label have the function's head as their place
 abbrev pub named_in : ℕ → Declares Named
 named_in f = record {
   parameter = λ p. named p.name (places.Head f);
@@ -164,17 +165,17 @@ named_in f = record {
 abbrev pub inner_names : ℕ → Function → List Named
 inner_names f fn = declared_by (named_in f) fn
 
--- the check that the names inside function f differ: Duplicate at the first one that an earlier one is equal to
+-- the check that the names inside function f differ: Duplicate at the first one that is equal to an earlier one
 abbrev pub inner_check : ℕ → Function → Check
 inner_check f fn = all_differ (inner_names f fn)
 
--- parameters, labels and registers differ in each function; two functions may have the same ones
+-- parameters, labels and registers differ in each function; two functions may share them
 abbrev pub inner_names_check : Program → Check
 inner_names_check P = each inner_check P.functions
 
 -- ---- each place of each function
 
--- the rules of phi i of block b of function f, where `label` is that block's
+-- the rules of phi i of block b of function f; `label` is that block's label
 abbrev pub phi_at : Scope → List ℕ → ℕ → ℕ → ℕ → Phi → Check
 phi_at s label f b i p = phi_check s label p (places.Phi (site f b i))
 
@@ -196,7 +197,7 @@ function_check P f fn = each (block_check (scope_of P fn) f) fn.blocks
 abbrev pub places_check : Program → Check
 places_check P = each (function_check P) P.functions
 
--- ---- each use of a register is assigned on every path
+-- ---- every path to a use of a register assigns the register
 
 -- a use of a register: the place of its fault, and its point in the function
 pub record RegisterUse : Type 0 where
@@ -209,7 +210,7 @@ pub record RegisterUse : Type 0 where
 abbrev pub use_at : Place → ℕ → Point → List ℕ → RegisterUse
 use_at place b point name = record { place = place; block = b; point = point; name = name }
 
--- the number of the first block of that label, where blocks count from n, as a list: empty where no block has it
+-- the number of the first block of that label, where blocks count from n, as a list: empty if no block has it
 abbrev pub block_number_from : ℕ → List Block → List ℕ → List ℕ
 block_number_from n [] label = []
 block_number_from n (b ∷ bs) label = if bytes_eq b.label label then n ∷ [] else block_number_from (n + 1) bs label
@@ -220,7 +221,7 @@ edge_register_uses blocks place ty e =
     flat_map (λ b. map (use_at place b AtEnd) (used_registers (record { operand = e.value; ty = ty } ∷ [])))
     (block_number_from 0 blocks e.label)
 
--- the registers that a phi takes, edge by edge, all placed at the phi; an edge whose label no block has gives none
+-- the registers that a phi takes, edge by edge, all placed at the phi; an edge gives none if no block has its label
 abbrev pub phi_register_uses : List Block → Place → Phi → List RegisterUse
 phi_register_uses blocks place p = flat_map (edge_register_uses blocks place p.ty) p.edges
 
@@ -243,17 +244,17 @@ block_register_uses blocks f b block =
 abbrev pub register_uses : ℕ → Function → List RegisterUse
 register_uses f fn = joined (numbered (block_register_uses fn.blocks f) fn.blocks)
 
--- the register has been assigned on every path to its use
+-- every path to the use assigns the register
 abbrev pub UseIsAssigned : Function → RegisterUse → Type 0
 UseIsAssigned fn u = IsAssigned fn u.block u.point u.name
 
--- each register that is used in the function has been assigned on every path to the use (f is its number, for places)
+-- every path to each use of a register in the function assigns the register (f is its number, for places)
 abbrev pub AllAssigned : Function → ℕ → Type 0
 AllAssigned fn f = All (UseIsAssigned fn) (register_uses f fn)
 
 -- ---- what passes the checks
 
--- a program that is spelled, that passes each check, and whose uses are all assigned on every path
+-- a program that is spelled, that passes each check, and whose uses are assigned on every path
 pub record Passes (P : Program) : Type 0 where
   pub spelled : IsSpelled P
   pub names : (names_check P).Holds
@@ -265,7 +266,7 @@ pub record Passes (P : Program) : Type 0 where
   pub places : (places_check P).Holds
   pub assigned : (f : ℕ) (fn : Function) → slice_get P.functions f ≡ Some fn → AllAssigned fn f
 
--- the rules between spelling and paths, one after another
+-- the rules between spelling and paths, in order
 abbrev pub rules_check : Program → Check
 rules_check P =
     and_then (names_check P)
@@ -273,7 +274,7 @@ rules_check P =
     (and_then (externs_check P)
     (and_then (sizes_check P) (and_then (main_check P) (and_then (inner_names_check P) (places_check P))))))
 
--- The path shows that the use is not assigned; every use before it is.
+-- The path shows that the use is not assigned; every use before it is assigned.
 pub record IsFirstUnassigned (P : Program) (place : Place) (path : List ℕ) : Type 0 where
   pub function : ℕ
   pub fn : Function
@@ -306,6 +307,6 @@ is_first P place faults.BadEdge = BreaksFirst P breaks.BadEdge place
 is_first P place faults.TooLarge = BreaksFirst P breaks.TooLarge place
 is_first P place faults.NoMemory = ⊥
 
--- the fault and the place of a refusal are the first of the program; out of memory is none of its faults
+-- the fault and the place of a refusal are the first of the program; out of memory is no fault of the program
 abbrev pub IsFirstFault : Program → TypeRefusal → Type 0
 IsFirstFault P refusal = is_first P refusal.place refusal.fault

@@ -1,5 +1,5 @@
--- Sound programs: the rules, one a field. Names, types, edges and paths are LLVM's ("Well-Formedness", and of
--- instructions "phi", "switch", "call", "getelementptr" and the conversions; its rule of dominance is said by paths).
+-- Sound programs: the rules, each in a field. Names, types, edges and paths are LLVM's ("Well-Formedness", and of
+-- instructions "phi", "switch", "call", "getelementptr" and the conversions; its rule of dominance is stated by paths).
 -- The external functions and the limits are this project's own.
 use Rattle.std.specs.Prelude.{ℕ, ◌+◌, ◌≡◌, ◌≢◌, ◌≤◌, List, [], ◌∷◌, ◌++◌, map, All, Option, Some, None, slice_get, codes, option_map, IsTrue}
 use Rattle.std.specs.List.{flat_map, AllPairs}
@@ -69,13 +69,13 @@ names_in_function fn = names_of (parameter_registers fn) ++ flat_map names_in_bl
 abbrev pub HasItsShape : GlobalVar → Type 0
 HasItsShape g = IsTrue (has_shape g.init g.ty)
 
--- each name in the initialiser is that of a global, so no initialiser has the address of a function
+-- each name in the initialiser is the name of a global, so no initialiser has the address of a function
 abbrev pub NamesGlobals : Program → GlobalVar → Type 0
 NamesGlobals P g = All (IsAmong (global_names P)) (names_in g.init)
 
 -- ---- external functions
 
--- the declaration is the one that the table has for its name
+-- the table has this declaration for its name
 abbrev pub IsOfTable : Extern → Type 0
 IsOfTable e = known_signature e.name ≡ Some (record { ret = e.ret; params = e.params })
 
@@ -83,7 +83,7 @@ IsOfTable e = known_signature e.name ≡ Some (record { ret = e.ret; params = e.
 abbrev pub IsFree : List ℕ → Type 0
 IsFree name = call_of name ≡ None
 
--- external functions are declared exactly as the table has them, and nothing else has a name of the table
+-- external functions are declared exactly as in the table, and nothing else has a name of the table
 pub record KeepsToTable (P : Program) : Type 0 where
   pub globals : All (λ g. IsFree g.name) P.globals
   pub externs : All IsOfTable P.externs
@@ -98,7 +98,7 @@ pub record KeepsToSizes (P : Program) : Type 0 where
 
 -- ---- `main`
 
--- a function `main` without parameters answers an i32
+-- there is a function `main` without parameters, which returns an i32
 pub record HasMain (P : Program) : Type 0 where
   pub number : ℕ
   pub function : Function
@@ -109,35 +109,35 @@ pub record HasMain (P : Program) : Type 0 where
 
 -- ---- places
 
--- what a block has at a place
+-- an item of a block: a phi, an instruction or the end
 pub data Item : Type 0 where
   PhiItem : Phi → Item
   InstrItem : Instr → Item
   EndItem : End → Item
 
--- the operands, each with the type that its place states
+-- the operands of an item, each with the type that its place states
 abbrev pub uses_of : Item → List Use
 uses_of (PhiItem p) = phi_uses p
 uses_of (InstrItem i) = instr_uses i
 uses_of (EndItem e) = end_uses e
 
--- the labels that are named there, by the edges of a phi or by an end; an instruction names none
+-- the labels that an item names: those of a phi's edges or of an end; an instruction names none
 abbrev pub labels_of : Item → List (List ℕ)
 labels_of (PhiItem p) = edge_labels p.edges
 labels_of (InstrItem i) = []
 labels_of (EndItem e) = end_labels e
 
--- the callee's name at a call; none anywhere else
+-- the name of the callee at a call; none at any other item
 abbrev pub callees_of : Item → List (List ℕ)
 callees_of (InstrItem (Call dest ret callee args)) = callee ∷ []
 callees_of _ = []
 
--- the type that an `alloca` makes room for or a `getelementptr` steps over; none anywhere else
+-- the type that an `alloca` makes room for or a `getelementptr` steps over; none at any other item
 abbrev own_types : Item → List Ty
 own_types (InstrItem i) = written_types i
 own_types _ = []
 
--- the types that are written there, in constants too
+-- the types that are written in an item, in constants too
 abbrev pub types_of : Item → List Ty
 types_of x = own_types x ++ used_constant_types (uses_of x)
 
@@ -146,38 +146,38 @@ pub record IsBlockAt (P : Program) (f b : ℕ) (fn : Function) (block : Block) :
   pub function : slice_get P.functions f ≡ Some fn
   pub block_is : slice_get fn.blocks b ≡ Some block
 
--- a fact of each phi, each instruction and the end of a block
+-- a fact holds of each phi, each instruction and the end of a block
 pub record EachItem (block : Block) (fact : Item → Type 0) : Type 0 where
   pub phis : All (λ p. fact (PhiItem p)) block.phis
   pub body : All (λ i. fact (InstrItem i)) block.body
   pub last : fact (EndItem block.end)
 
--- a fact of each place of each function
+-- a fact holds of each item of each block of each function
 abbrev pub Everywhere : Program → (Function → Block → Item → Type 0) → Type 0
 Everywhere P fact =
     (f b : ℕ) (fn : Function) (block : Block) → IsBlockAt P f b fn block → EachItem block (fact fn block)
 
--- registers, globals, callees and labels that are named there exist
+-- the registers, globals, callees and labels that an item names exist
 pub record NamesExist (P : Program) (fn : Function) (x : Item) : Type 0 where
   pub registers : All (IsAmong (register_names fn)) (used_registers (uses_of x))
   pub globals : All (IsAmong (global_names P)) (used_globals (uses_of x))
   pub callees : All (IsAmong (callee_names P)) (callees_of x)
   pub labels : All (IsAmong (label_names fn)) (labels_of x)
 
--- each type that is written there, in constants too, fits
+-- each type that is written in an item, in constants too, fits
 abbrev pub TypesFit : Item → Type 0
 TypesFit x = All Fits (types_of x)
 
--- a register has the type that its place states, a constant that type's shape
+-- a register has the type that its place states, and a constant has the shape of that type
 abbrev pub operand_is_typed : List Register → Operand → Scalar → Type 0
 operand_is_typed registers (Reg name) ty = find_register registers name ≡ Some (Some ty)
 operand_is_typed registers (Fixed value) ty = IsTrue (has_shape value (type_of ty))
 
--- the operand of the use has the type that its place states, a register by the registers of the function
+-- the operand of the use has the type that its place states; a register has its type in the function
 abbrev pub IsTyped : Function → Use → Type 0
 IsTyped fn u = operand_is_typed (registers_of fn) u.operand u.ty
 
--- A call agrees with what it names in its result, and in the number and the types of its arguments. One without a
+-- A call agrees with its callee in its result, and in the number and the types of its arguments. A call without a
 -- result has no register.
 pub record CallAgrees (P : Program) (dest : Option (List ℕ)) (ret : Option Scalar) (callee : List ℕ)
     (args : List Arg) : Type 0 where
@@ -192,7 +192,7 @@ OwnTypesAgree P fn (InstrItem (Call dest ret callee args)) = CallAgrees P dest r
 OwnTypesAgree P fn (EndItem (Ret arg)) = option_map (λ a. a.ty) arg ≡ fn.ret
 OwnTypesAgree P fn _ = Unit {0}
 
--- each operand has the type that its place states, and what the place itself requires of types holds
+-- each operand has the type that its place states, and what the item itself requires of types holds
 pub record TypesAgree (P : Program) (fn : Function) (x : Item) : Type 0 where
   pub operands : All (IsTyped fn) (uses_of x)
   pub own : OwnTypesAgree P fn x
@@ -202,7 +202,7 @@ abbrev pub CasesDiffer : Item → Type 0
 CasesDiffer (EndItem (Switch width value other cases)) = AllPairs (λ c d. c.value ≢ d.value) cases
 CasesDiffer _ = Unit {0}
 
--- a block of the first label, whose end names the second
+-- a block has the first label, and its end names the second
 pub record Precedes (fn : Function) (from to : List ℕ) : Type 0 where
   pub number : ℕ
   pub block : Block
@@ -210,7 +210,7 @@ pub record Precedes (fn : Function) (from to : List ℕ) : Type 0 where
   pub label : block.label ≡ from
   pub named : IsAmong (end_labels block.end) to
 
--- A phi names each predecessor of its block and no other label, and edges of one label carry one operand.
+-- A phi names each predecessor of its block and no other label, and edges with the same label carry the same operand.
 pub record EdgesAgree (fn : Function) (block : Block) (edges : List Edge) : Type 0 where
   pub named : (label : List ℕ) → Precedes fn label block.label → IsAmong (edge_labels edges) label
   pub others : All (λ label. Precedes fn label block.label) (edge_labels edges)
@@ -229,24 +229,24 @@ abbrev pub EdgeIsAssigned : Function → Edge → Type 0
 EdgeIsAssigned fn e =
     (c : ℕ) → label_number fn e.label ≡ Some c → All (IsAssigned fn c AtEnd) (operand_registers e.value)
 
--- each register that is used in a block has been assigned on every path to the use
+-- every path to each use of a register in a block assigns the register
 pub record UsesAreAssigned (fn : Function) (b : ℕ) (block : Block) : Type 0 where
   pub phis : All (λ p. All (EdgeIsAssigned fn) p.edges) block.phis
   pub body : (i : ℕ) (instr : Instr) → slice_get block.body i ≡ Some instr →
       All (IsAssigned fn b (Before i)) (used_registers (instr_uses instr))
   pub last : All (IsAssigned fn b AtEnd) (used_registers (end_uses block.end))
 
--- Each register that is used in a block has been assigned on every path to the use; if no path comes to the use,
--- any register of the function may be used. (LLVM, "Well-Formedness": a definition dominates its uses.)
+-- Every path to each use of a register in a block assigns the register; if no path comes to the use, any register of
+-- the function may be used. (LLVM, "Well-Formedness": a definition dominates its uses.)
 abbrev pub RegistersAssigned : Program → Type 0
 RegistersAssigned P = (f b : ℕ) (fn : Function) (block : Block) → IsBlockAt P f b fn block
     → UsesAreAssigned fn b block
 
 -- ---- soundness
 
--- A program is sound where each of these rules holds.
+-- A program is sound if each of these rules holds.
 pub record IsSound (P : Program) : Type 0 where
-  -- it is what its canonical text reads as
+  -- its canonical text reads as the program
   pub spelled : IsSpelled P
   -- names of globals, external functions and functions differ
   pub names_differ : AllDiffer (top_names P)

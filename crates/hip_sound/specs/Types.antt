@@ -1,4 +1,4 @@
--- Whether two types are one, as a test.
+-- Whether two types are equal, as a test.
 use Rattle.std.specs.Prelude.{ℕ, ◌==◌, ◌&&◌, Bool, true, false, List, [], ◌∷◌, Option, Some, None}
 use Rattle.hip_types.specs.declared.number.Width.{Width}
 use Rattle.hip_types.specs.declared.number.Scalar.{Scalar}
@@ -12,19 +12,19 @@ use Rattle.hip_types.specs.Widths.{bits_of}
 abbrev pub same_width : Width → Width → Bool
 same_width v w = bits_of v == bits_of w
 
--- two scalars are both pointers, or both integers of one width
+-- two scalars are both pointers, or both integers of the same width
 abbrev pub same_scalar : Scalar → Scalar → Bool
 same_scalar (scalars.Int v) (scalars.Int w) = same_width v w
 same_scalar scalars.Ptr scalars.Ptr = true
 same_scalar _ _ = false
 
--- the results of two functions, which may have none
+-- the results of two functions are the same; a function may have none
 abbrev pub same_result : Option Scalar → Option Scalar → Bool
 same_result None None = true
 same_result (Some a) (Some b) = same_scalar a b
 same_result _ _ = false
 
--- each test passes at the type beside it, and there is one test for each type
+-- each test passes at the type beside it, and there are as many tests as types
 abbrev pub all_pass : {A : Type 0} → List (A → Bool) → List A → Bool
 all_pass [] [] = true
 all_pass (test ∷ tests) (x ∷ xs) = test x && all_pass tests xs
@@ -57,11 +57,11 @@ same_level Ty-F.Ptr t = is_ptr t
 same_level (Ty-F.Array n item) t = is_array n item t
 same_level (Ty-F.Struct tests) t = is_struct tests t
 
--- a whole type is like one that is given by its outermost level, with a test of each type inside
+-- the outermost level of a type is like this one, with a test of each type inside
 abbrev pub same_step : Ty-F (Ty → Bool) → Ty → Bool
 same_step tests t = same_level tests (out-Ty t)
 
--- Two types are equal if they are alike level by level; so a struct is known by its fields alone. (LLVM, "Structure
+-- Two types are equal if they are alike level by level, so a struct is given by its fields alone. (LLVM, "Structure
 -- Type": literal types are uniqued by their contents.)
 abbrev pub same_type : Ty → Ty → Bool
 same_type = fold-Ty (Ty → Bool) same_step

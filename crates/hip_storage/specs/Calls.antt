@@ -1,4 +1,4 @@
--- What the calls of a storage have done where they were not refused, and what a refusal says.
+-- What the calls of a storage do if they succeed, and what a refusal says.
 use Rattle.std.specs.Prelude.{◌≡◌, ℕ, Option, Some, None}
 use Rattle.hip_mem.specs.Areas.{bytes_in, block_address}
 use Rattle.hip_types.specs.Bytes.{little_endian}
@@ -25,17 +25,17 @@ pub record HasPushed (old new : Contents) (block size align : ℕ) : Type 0 wher
   pub contents : new ≡ after_push size align old
   pub address : block ≡ block_address old.areas align
 
--- the cache lines of a range may be flushed, and this is seen of it
+-- the cache lines of a range may be flushed, and a flush of it is seen as this event
 pub record ShowsFlush (s : Contents) (event : Event) (a n : ℕ) : Type 0 where
   pub allowed : range_trap s a n ≡ None
   pub seen : event ≡ flush_event s a n
 
--- the cache lines of a range may be flushed with a fence after it, and this is seen of it
+-- the cache lines of a range may be flushed with a fence after it, and a persist of it is seen as this event
 pub record ShowsPersist (s : Contents) (event : Event) (a n : ℕ) : Type 0 where
   pub allowed : range_trap s a n ≡ None
   pub seen : event ≡ persist_event s a n
 
--- a refusal is the trap of the run, or says that no memory was left
+-- a refusal is the trap of the run, or out of memory
 abbrev pub IsRefusedFor : Option TrapKind → StorageRefusal → Type 0
 IsRefusedFor trap (Trap kind) = trap ≡ Some kind
 IsRefusedFor trap NoMemory = Unit {0}

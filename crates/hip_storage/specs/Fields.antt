@@ -1,4 +1,4 @@
--- What the fields of a storage stand for.
+-- What the fields of a storage represent.
 use Rattle.std.specs.Prelude.{◌≡◌, ◌≤◌, ◌^◌, length}
 use Rattle.hip_types.specs.declared.limits.TheConstants.{LARGEST_REGION}
 use Rattle.hip_storage.specs.Contents.{Contents}

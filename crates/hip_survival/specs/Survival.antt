@@ -1,5 +1,5 @@
--- What survives a crash: each byte of the region that has, in every crash image, the value that it has in working
--- memory. (This project's own.)
+-- What survives a crash: each byte of the region that has the value of working memory in every crash image. (This
+-- project's own.)
 use Rattle.std.specs.Prelude.{◌≡◌, ℕ, ◌+◌, ◌/◌, ◌<◌, ◌≤◌, true, List, [], length, take, Option, Some, None, slice_get, slice_index}
 use Rattle.hip_tree.specs.declared.program.Program.{Program}
 use Rattle.hip_lines.specs.Image.{byte_after, parts_of}
@@ -26,7 +26,7 @@ working_byte P I s b = byte_at (memory_of P I s.world) (I.base + b)
 abbrev pub working_region : Program → Input → State → List ℕ
 working_region P I s = bytes_at (memory_of P I s.world) I.base (length I.image)
 
--- the parts of stores in the cache line of byte b of the region, in order; none where the region has no such line
+-- the parts of stores in the cache line of byte b of the region, in order; none if the region has no such line
 abbrev pub parts_over : State → ℕ → List StorePart
 parts_over s b = parts_of covers byte_of (slice_get s.lines (b / LINE_SIZE))
 
@@ -35,7 +35,7 @@ abbrev pub HasAllParts : Program → Input → State → ℕ → Type 0
 HasAllParts P I s b =
     (working_byte P I s b ≡ byte_after covers byte_of (parts_over s b) b (slice_index I.image b))
 
--- for each line the number of all its parts
+-- the number of all parts of each line
 abbrev pub all_parts : State → ℕ → ℕ
 all_parts s j = length (parts_of covers byte_of (slice_get s.lines j))
 
@@ -50,7 +50,7 @@ IsOnlyImage P I s = (content : List ℕ) → IsCrashImage I s content → conten
 
 -- ---- what a crash leaves
 
--- byte b of the region is loose: the last part in its line that covers it is not durable
+-- byte b of the region is loose: the last part of its line that covers it is not durable
 abbrev pub IsLooseAt : State → ℕ → Type 0
 IsLooseAt s b =
     (l : Line StorePart) × (slice_get s.lines (b / LINE_SIZE) ≡ Some l) × IsLoose covers l b
@@ -60,7 +60,7 @@ abbrev pub Survives : Program → Input → State → ℕ → Type 0
 Survives P I s b =
     (content : List ℕ) → IsCrashImage I s content → slice_index content b ≡ working_byte P I s b
 
--- In this content byte b of the region has the value of a part of a cache line, which stands at a place or later.
+-- In this content byte b of the region has the value of a part of the cache line, at this place or a later one.
 pub record IsFromPartOn (s : State) (line place : ℕ) (content : List ℕ) (b : ℕ) : Type 0 where
   pub later : ℕ
   pub part : StorePart
@@ -80,11 +80,11 @@ abbrev pub durable_byte : Input → State → ℕ → ℕ
 durable_byte I s b =
     byte_after covers byte_of (durable_of (slice_get s.lines (b / LINE_SIZE))) b (slice_index I.image b)
 
--- At each byte of the region this content has what the durable parts alone give.
+-- Each byte of the region in this content is what the durable parts alone give.
 abbrev pub HasDurableAlone : Input → State → List ℕ → Type 0
 HasDurableAlone I s content = (b : ℕ) → b < length I.image → slice_index content b ≡ durable_byte I s b
 
--- ---- what a report is of
+-- ---- the byte of a report
 
 -- A report is of the store into the region that the run makes in the step after n steps: it names that store's entry
 -- of the trace.
@@ -93,8 +93,8 @@ pub record IsOfStep (P : Program) (I : Input) (steps : ℕ) (r : Report) : Type 
   pub entry : r.entry ≡ (run P I steps).counts.entries + 1
 
 -- A report is of a byte of the range that was checked. In working memory the byte has the value that the report's store
--- gave it. The part of that store is the last one over the byte and is not durable, and some crash image has at that
--- byte what the parts before it give. So where the store changed the byte, a crash may take the change away.
+-- gave it. The part of that store is the last one over the byte and is not durable, and some crash image has there what
+-- the parts before it give. So if the store changed the byte, a crash may undo the change.
 pub record IsOfByte (P : Program) (I : Input) (s : State) (range : Range) (r : Report) : Type 0 where
   pub byte : ℕ
   pub low : range.offset ≤ byte

@@ -25,7 +25,7 @@ thinned_for P found = repaired P (plan_for P found) (low_stores P)
 abbrev pub IsThinned : Program → Input → Findings → Type 0
 IsThinned P I found = IsCuredBy P I (plan_for P found) (low_stores P)
 
--- of `thin`: the counts of `repair`, and how many stores are spared
+-- the counts of `thin`: those of `repair`, and how many stores are spared
 abbrev pub thin_counts : ℕ → Plan → ℕ → ℕ → List ℕ
 thin_counts reports plan clones spared = repair_counts reports plan clones ++ count_line (codes "spared") spared
 
@@ -40,6 +40,6 @@ pub record HasThinned (P : Program) (I : Input) (found : Findings) (answer : Ans
       (spared_count P (plan_for P found))
   pub cured : IsThinned P I found
 
--- the answers of `thin`: where there is a run, the program repaired for it, whose clones do not flush the low stores
+-- the answers of `thin`: if there is a run, the program repaired for it; its clones do not flush the low stores
 abbrev pub ThinAnswers : CabinetState → CabinetState → List ℕ → List ℕ → Answer → Type 0
 ThinAnswers = TraceAnswers HasThinned

@@ -1,11 +1,11 @@
--- What spells a token, and that the piece at a place is the longest.
+-- The bytes that spell a token, and that the piece at a place is the longest.
 use Rattle.std.specs.Prelude.{◌≡◌, ℕ, ◌+◌, ◌≤◌, Bool, true, false, not, ◌&&◌, ◌||◌, List, [], ◌∷◌, ◌++◌, codes, length, take, ◌==◌}
 use Rattle.std.specs.List.{list_all}
 use Rattle.hip_tokens.specs.Bytes.{byte, is_digit, begins_name, goes_on_name, is_mark, in_string}
 use Rattle.hip_tokens.specs.Tokens.{Tok, Word, Label, Local, Global, Num, Str, Mark, Odd, Piece}
 
--- A letter, `$`, `.` or `_`, and then any of these, digits and `-`; no empty text. (LLVM, "Identifiers", but that `-`
--- may not stand first.)
+-- A letter, `$`, `.` or `_`, and then any of these, digits and `-`; false for an empty text. (LLVM, "Identifiers",
+-- except that a `-` may not come first.)
 abbrev pub is_name : List ℕ → Bool
 is_name [] = false
 is_name (b ∷ bs) = begins_name b && list_all goes_on_name bs

@@ -4,7 +4,7 @@ use Rattle.std.specs.List.{prefix_len}
 use Rattle.hip_tokens.specs.Bytes.{byte, is_blank, is_digit, begins_name, goes_on_name, is_mark, in_string, in_comment}
 
 -- A token by its kind, with its text: without a label's `:`, a LOCAL's `%`, a GLOBAL's `@` and a string's quotes, but
--- with a number's `-`. A mark is its byte, and so is an odd byte, with which no other token begins there.
+-- with a number's `-`. A mark is its byte. A byte with which no other token begins is an odd byte.
 pub data Tok : Type 0 where
   Word : List ℕ → Tok
   Label : List ℕ → Tok
@@ -29,14 +29,14 @@ abbrev pub name_here : List ℕ → Bool
 name_here [] = false
 name_here (b ∷ bs) = begins_name b
 
--- a name is a label where `:` follows it
+-- a name is a label if `:` follows it
 unfoldable pub word_piece : ℕ → List ℕ → Piece
 word_piece b bs =
     if slice_index bs (prefix_len goes_on_name bs) == byte ":"
     then piece (Label (b ∷ take (prefix_len goes_on_name bs) bs)) (prefix_len goes_on_name bs + 1)
     else piece (Word (b ∷ take (prefix_len goes_on_name bs) bs)) (prefix_len goes_on_name bs)
 
--- after `%` and `@` a name follows, or nothing
+-- after `%`: the LOCAL of the name that begins with these bytes, or `%` alone as an odd byte
 unfoldable pub local_piece : List ℕ → Piece
 local_piece bs =
     if name_here bs
@@ -54,11 +54,11 @@ global_piece bs =
 unfoldable pub number_piece : ℕ → List ℕ → Piece
 number_piece b bs = piece (Num (b ∷ take (prefix_len is_digit bs) bs)) (prefix_len is_digit bs)
 
--- after `-` a digit follows, or nothing
+-- after `-`: the number of the digits that follow, or `-` alone as an odd byte
 unfoldable pub minus_piece : List ℕ → Piece
 minus_piece bs = if prefix_len is_digit bs == 0 then piece (Odd (byte "-")) 0 else number_piece (byte "-") bs
 
--- a string is closed on its line, or `"` is an odd byte
+-- a string that ends on its line, or `"` alone as an odd byte
 unfoldable pub string_piece : List ℕ → Piece
 string_piece bs =
     if slice_index bs (prefix_len in_string bs) == byte "\""
@@ -86,7 +86,7 @@ pub record At : Type 0 where
   pub tok : Tok
   pub line : ℕ
 
--- The tokens from a place on line `line`, of which the next `inside` bytes belong to a token or a comment.
+-- The tokens from a place on line `line`; the next `inside` bytes belong to a token or a comment.
 unfoldable pub cut : ℕ → ℕ → List ℕ → List At
 cut line inside [] = []
 cut line (suc inside) (b ∷ bs) = cut line inside bs

@@ -1,4 +1,4 @@
--- A token that is written is cut again, where what follows does not go on it.
+-- A token that is written is cut again, unless the bytes after it continue it.
 use Rattle.std.proofs.Common.{◌≡◌, ℕ, suc, ◌+◌, Bool, true, false, eqb, List, [], ◌∷◌, ◌++◌, drop, length, not, ◌&&◌, refl, ◌∙◌, arith}
 use Rattle.std.specs.Prelude.{slice_index, ◌==◌}
 use Rattle.std.specs.List.{prefix_len, list_all}
@@ -10,12 +10,12 @@ use Rattle.hip_tokens.specs.Tokens.{Tok, Word, Label, Local, Global, Num, Mark, 
 use Rattle.hip_tokens.specs.Longest.{is_name, are_digits}
 use Rattle.hip_tokens.specs.Cuts.{cut_token}
 
--- the bytes begin with none that passes
+-- the first byte does not pass the test; true if there is none
 abbrev pub begins_without : (ℕ → Bool) → List ℕ → Bool
 begins_without p [] = true
 begins_without p (b ∷ bs) = not (p b)
 
--- the bytes go on no name, and make none a label
+-- the bytes continue no name, and make none a label
 abbrev pub ends_word : List ℕ → Bool
 ends_word [] = true
 ends_word (b ∷ bs) = not (goes_on_name b) && not (b == byte ":")

@@ -1,4 +1,4 @@
--- What `hippo` answers, by the order that the words give.
+-- What `hippo` answers, by the order that its words give.
 use Rattle.std.specs.Prelude.{◌≡◌, ◌<◌, ◌≤◌, Bool, true, false, length, Option, Some, None}
 use Rattle.hip_answers.specs.Answers.{Answer, refusal}
 use Rattle.hip_answers.specs.declared.status.Status.TheVariants as statuses
@@ -16,7 +16,7 @@ use Rattle.hip_thin_commands.specs.Thin.{ThinAnswers}
 use Rattle.hip_words.specs.declared.order.Order.{Order}
 use Rattle.hip_words.specs.declared.order.Order.TheVariants.{Run, Record, Check, Repair, Rerun, Demo, Many, Crash, Thin}
 
--- The words are no order; no file is looked at.
+-- The words are no order; no file is read.
 pub record IsMisused (old new : CabinetState) (answer : Answer) : Type 0 where
   pub met : new ≡ old
   pub is : answer ≡ refusal statuses.Usage
@@ -36,7 +36,7 @@ AnswersTo (Some (Crash program trace entry picks)) old new answer =
     CrashAnswers old new program trace entry picks answer
 AnswersTo (Some (Thin program trace)) old new answer = ThinAnswers old new program trace answer
 
--- whether the text of an order goes out while it is made
+-- whether the command of an order writes its text while it makes it
 abbrev pub begins : Option Order → Bool
 begins (Some (Run program limit numbers)) = true
 begins (Some (Record program base limit numbers)) = true
@@ -44,7 +44,7 @@ begins (Some (Rerun program trace)) = true
 begins (Some (Crash program trace entry picks)) = true
 begins _ = false
 
--- whether an order writes what one run of the program does, as it is: `run`, `record` and `crash`
+-- whether an order writes what one run of the program does: `run`, `record` and `crash`
 abbrev pub is_run : Order → Bool
 is_run (Run program limit numbers) = true
 is_run (Record program base limit numbers) = true

@@ -40,7 +40,7 @@ use Rattle.hip_words.specs.declared.order.Order.TheVariants.{Run, Record, Check,
 
 -- ---- nothing fails
 
--- a count stays the same, and could have risen: it is below the last value that it can have
+-- a count stays the same, though it could have risen: it is below the last value that it can have
 pub record Stays (before after : ℕ) : Type 0 where
   pub same : after ≡ before
   pub room : before < 2 ^ 64 - 1
@@ -57,7 +57,7 @@ pub record IsCall (order : Order) (old new : CabinetState) (s : Sinks) (status :
   pub answered : HasAnswered (AnswersTo (Some order) old new) (begins (Some order)) old new s status
   pub nothing : NothingFails old new s
 
--- The call ends out of memory, or it has an answer of this kind and both texts of the answer are written.
+-- The call ends out of memory, or it has an answer of this kind and writes both texts of the answer.
 abbrev pub Gives : (Answer → Type 0) → Sinks → Status → Type 0
 Gives Is s status = (status ≡ NoMemory) ⊎ HasAnswer Is status (WritesBoth s)
 
@@ -65,7 +65,7 @@ Gives Is s status = (status ≡ NoMemory) ⊎ HasAnswer Is status (WritesBoth s)
 
 -- Q is a repair of P for a run on this input.
 pub record IsRepairOf (P Q : Program) (I : Input) : Type 0 where
-  -- Q is a sound program, and its canonical text reads as it.
+  -- Q is a sound program, and its canonical text reads as Q.
   pub sound : IsSound Q
   pub reads : Reads (show Q) Q
   -- On every valid input Q prints the same and reaches the same memory at corresponding steps, no crash image is new
@@ -111,7 +111,7 @@ pub record WritesOutput (P : Program) (I : Input) (answer : Answer) : Type 0 whe
   pub status_is : answer.status ≡ status_of_ending ending
   pub notes_is : answer.notes ≡ ending_line ending
 
--- what the run on the input finds, and the answer that follows from it
+-- the run on the input finds something, and the answer has the texts for it
 abbrev pub OfRun : (Program → Input → Findings → Answer → Type 0) → Program → Input → Answer → Type 0
 OfRun Texts P I answer = (found : Findings) × IsFound P I found × Texts P I found answer
 

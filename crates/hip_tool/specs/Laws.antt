@@ -1,4 +1,4 @@
--- The files give one answer of each order.
+-- The files determine one answer for each order.
 use Rattle.std.specs.Prelude.{Option}
 use Rattle.hip_answers.specs.Same.{AreOne}
 use Rattle.hip_tool.specs.Call.{AnswersTo}

@@ -16,17 +16,17 @@ use Rattle.hip_trace.specs.declared.entry.TrapWord.TheVariants as traps
 abbrev pub fields : List ℕ → List (List ℕ)
 fields text = slice_split (λ b. b == byte ";") text
 
--- the field after an entry's word, where there is exactly one
+-- the field after an entry's word, if there is exactly one
 abbrev pub one_field : List (List ℕ) → Option (List ℕ)
 one_field (a ∷ []) = Some a
 one_field _ = None
 
--- the fields after an entry's word, where there are exactly two
+-- the fields after an entry's word, if there are exactly two
 abbrev pub two_fields : List (List ℕ) → Option (List ℕ × List ℕ)
 two_fields (a ∷ b ∷ []) = Some (a, b)
 two_fields _ = None
 
--- the fields after an entry's word, where there are exactly three
+-- the fields after an entry's word, if there are exactly three
 abbrev pub three_fields : List (List ℕ) → Option (List ℕ × List ℕ × List ℕ)
 three_fields (a ∷ b ∷ c ∷ []) = Some (a, b, c)
 three_fields _ = None
@@ -69,7 +69,7 @@ is_store_size size = (size == 1) || ((size == 2) || ((size == 4) || (size == 8))
 abbrev pub is_sized : ℕ → ℕ → Bool
 is_sized value size = is_store_size size && nat_lt value (2 ^ (8 * size))
 
--- a store of a value, where its size is one
+-- a store of a value, if its size is one of these and its value fits the size
 abbrev pub sized_store : ℕ → ℕ → ℕ → Option Entry
 sized_store addr value size = if is_sized value size then Some (Store addr value size) else None
 
@@ -86,7 +86,7 @@ store fs =
 abbrev pub are_lines : ℕ → ℕ → Bool
 are_lines addr size = (addr % 64 == 0) && ((size % 64 == 0) && (nat_lt 0 size && nat_le (addr + size) (2 ^ 64)))
 
--- an address and a size, where they are those of one or more whole cache lines
+-- an address and a size, if they are those of one or more whole cache lines
 abbrev pub some_lines : ℕ × ℕ → Option (ℕ × ℕ)
 some_lines n = if are_lines n.0 n.1 then Some n else None
 
@@ -122,7 +122,7 @@ trap_text traps.Unreachable = codes "unreachable"
 abbrev pub is_trap_text : List ℕ → TrapWord → Bool
 is_trap_text text kind = bytes_eq text (trap_text kind)
 
--- the reason of a trap whose word a text is; none where it is no such word
+-- the reason of a trap for its word; none if the text is no such word
 unfoldable pub trap_of : List ℕ → Option TrapWord
 trap_of text =
     if is_trap_text text traps.DivZero then Some traps.DivZero
@@ -145,7 +145,7 @@ abbrev pub alone : Entry → List (List ℕ) → Option Entry
 alone e [] = Some e
 alone e (f ∷ fs) = None
 
--- the entry that a word and the fields after it spell; none where no entry has that word with such fields
+-- the entry that a word and the fields after it spell; none if no entry has that word with such fields
 unfoldable pub entry_by : List (List ℕ) → Option Entry
 entry_by [] = None
 entry_by (word ∷ fs) =

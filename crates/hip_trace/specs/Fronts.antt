@@ -1,4 +1,4 @@
--- What stands first in the bytes that a reader holds, once enough of them were taken.
+-- What comes first in the bytes that a reader holds, once it has taken enough of them.
 use Rattle.std.specs.Prelude.{ℕ, ◌+◌, ◌≡◌, ◌≤◌, ◌<◌, if◌then◌else◌, List, [], ◌∷◌, ◌++◌, length, take, drop, position, Option, Some, None, IfSome, option_map, Result, Ok, Err}
 use Rattle.hip_io.specs.Counts.{Rose}
 use Rattle.hip_io.specs.Cabinets.{CabinetState, StaysOpen}
@@ -17,7 +17,7 @@ use Rattle.hip_trace.specs.declared.refusal.Progress.TheVariants.{Reading, Ended
 
 -- ---- more bytes are taken
 
--- At least one byte was taken, which is held after those from before.
+-- At least one byte was taken; the reader holds it after those from before.
 pub record HasTakenSome (held held' : List ℕ) (s s' : CabinetState) : Type 0 where
   pub reading : IsReading s s'
   pub taken : List ℕ
@@ -25,14 +25,14 @@ pub record HasTakenSome (held held' : List ℕ) (s s' : CabinetState) : Type 0 w
   pub held_is : held' ≡ held ++ taken
   pub longer : length held + 1 ≤ length held'
 
--- The file has ended: the bytes held are those from before, and nothing failed.
+-- The file has ended: the reader holds the bytes from before, and nothing failed.
 pub record HasTakenNothing (held held' : List ℕ) (s s' : CabinetState) : Type 0 where
   pub same : held' ≡ held
   pub reading : IsReading s s'
   pub rest : s'.rest ≡ s.rest
   pub ended : IfSome s.rest (λ rest. rest ≡ [])
 
--- A read failed: the bytes held are those from before, and the count of faults rose.
+-- A read failed: the reader holds the bytes from before, and the count of faults rose.
 pub record HasFailedMore (held held' : List ℕ) (s s' : CabinetState) : Type 0 where
   pub same : held' ≡ held
   pub stays : StaysOpen s s'
@@ -46,9 +46,10 @@ HasTakenMore held held' s s' (taken.Got n) = HasTakenSome held held' s s'
 HasTakenMore held held' s s' taken.End = HasTakenNothing held held' s s'
 HasTakenMore held held' s s' taken.Failed = HasFailedMore held held' s s'
 
--- ---- what stands first
+-- ---- what comes first
 
--- Bytes were taken while they were needed, and are held after those from before. What is ahead is as before.
+-- Bytes were taken as long as they were needed, and the reader holds them after those from before. The bytes ahead are
+-- the same.
 pub record HoldsMore (held held' : List ℕ) (s s' : CabinetState) : Type 0 where
   pub reading : IsReading s s'
   pub takes : TakesAtNeed held s s'
@@ -82,16 +83,16 @@ pub record HasFailedFirst (held held' : List ℕ) (s s' : CabinetState) : Type 0
   pub takes : TakesAtNeed held s s'
   pub ahead : after_held held' s' ≡ after_held held s
 
--- what is held and what stands first in it, once enough bytes were taken to know it, by the answer
+-- what the reader holds and what comes first in it, by the answer
 abbrev pub FindsFront : List ℕ → List ℕ → CabinetState → CabinetState → Front → Type 0
 FindsFront held held' s s' (fronts.Piece n) = HasPieceFirst held held' s s' n
 FindsFront held held' s s' fronts.Rest = HasRestFirst held held' s s'
 FindsFront held held' s s' fronts.TooLong = IsTooLong held held' s s'
 FindsFront held held' s s' fronts.Failed = HasFailedFirst held held' s s'
 
--- ---- the answer to what stands first
+-- ---- the answer to what comes first
 
--- The first n bytes are a piece; with its end `taken` bytes are dropped.
+-- The answer to a piece that spells an entry or none, and the reader after it: `taken` bytes are dropped with an entry.
 abbrev pub answers_piece : Option Entry → ReaderState → ReaderState → ℕ → Result (Option Entry) TraceRefusal
     → Type 0
 answers_piece None r r' taken result =
@@ -114,12 +115,12 @@ answers_piece (Some e) r r' taken result =
 abbrev pub AnswersPiece : ReaderState → ReaderState → ℕ → ℕ → Result (Option Entry) TraceRefusal → Type 0
 AnswersPiece r r' n taken result = answers_piece (entry_of (take n r.held)) r r' taken result
 
--- The file has ended: what is held is the last piece, and where nothing is held there is no entry more.
+-- The file has ended: the bytes that are held are the last piece. If none are held, there are no more entries.
 abbrev pub answers_rest : List ℕ → ReaderState → ReaderState → Result (Option Entry) TraceRefusal → Type 0
 answers_rest [] r r' result = (result ≡ Ok None) × (r' ≡ record { held = []; count = r.count; progress = Ended })
 answers_rest (b ∷ bs) r r' result = AnswersPiece r r' (length (b ∷ bs)) (length (b ∷ bs)) result
 
--- the reader after a read that failed, from then on refusing; a text was begun where it holds a byte
+-- The reader after a read that failed, which refuses from then on. It has begun a text if it holds a byte.
 abbrev pub failed : ReaderState → ReaderState
 failed r =
     record {
@@ -128,7 +129,7 @@ failed r =
       progress = Refused ReadFault;
     }
 
--- the answer and the reader after it, by what stood first in the bytes that it held
+-- the answer and the reader after it, by what comes first in the bytes that it held
 abbrev pub AnswersFront : ReaderState → ReaderState → Front → Result (Option Entry) TraceRefusal → Type 0
 AnswersFront r r' (fronts.Piece n) result = AnswersPiece r r' n (n + 1) result
 AnswersFront r r' fronts.Rest result = answers_rest r.held r r' result

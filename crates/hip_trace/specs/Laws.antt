@@ -1,4 +1,4 @@
--- What a canonical text is for, and where a reader comes to an end.
+-- The use of canonical texts, and where a reader ends.
 pub mod FieldLaws
 pub mod FitLaws
 pub mod PieceLaws
@@ -13,7 +13,7 @@ use Rattle.hip_trace.specs.declared.entry.Entry.{Entry}
 use Rattle.hip_trace.specs.declared.refusal.TraceRefusal.{TraceRefusal}
 use Rattle.hip_trace.specs.declared.refusal.TraceRefusal.TheVariants.{ReadFault}
 
--- Where some text spells an entry, its canonical text does.
+-- If some text spells an entry, its canonical text does.
 abbrev pub CanonicalTextsSpell : Type 0
 CanonicalTextsSpell = (text : List ℕ) (e : Entry) → entry_of text ≡ Some e → entry_of (text_of e) ≡ Some e
 
@@ -22,7 +22,7 @@ abbrev pub CanonicalTextsAreShortest : Type 0
 CanonicalTextsAreShortest = (text : List ℕ) (e : Entry) → entry_of text ≡ Some e
     → length (text_of e) ≤ length text
 
--- At the file's end the answer of a reader that reads on is None, or a read failed.
+-- At the file's end, a reader that reads on answers None, or a read failed.
 abbrev pub ReadersEnd : Type 0
 ReadersEnd =
     (r r' : ReaderState) (s s' : CabinetState) (result : Result (Option Entry) TraceRefusal)

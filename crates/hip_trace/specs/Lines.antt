@@ -1,4 +1,4 @@
--- The line of an entry that stands first in some bytes.
+-- The line of an entry that comes first in some bytes.
 use Rattle.std.specs.Prelude.{ℕ, ◌≡◌, false, List, ◌∷◌, ◌++◌, take, position, Some}
 use Rattle.std.specs.List.{list_any}
 use Rattle.std.specs.Str.Parse.{AllDigits}
@@ -13,14 +13,14 @@ use Rattle.hip_trace.specs.declared.line.Line.{Line}
 use Rattle.hip_trace.specs.declared.line.Usual.{Usual}
 use Rattle.hip_trace.specs.declared.line.Usual.TheVariants as usuals
 
--- Hexadecimal digits of a number stand first.
+-- Hexadecimal digits of a number come first.
 pub record HasDigits (bytes : List ℕ) (number : ℕ) (rest : List ℕ) : Type 0 where
   pub digits : List ℕ
   pub whole : bytes ≡ digits ++ rest
   pub all : AllDigits 16 digits
   pub is : number_of 16 digits ≡ Some number
 
--- A field stands first, after its semicolon, which is a hexadecimal number.
+-- A field comes first, after its semicolon, and is a hexadecimal number.
 pub record HasField (bytes : List ℕ) (number : ℕ) (rest : List ℕ) : Type 0 where
   pub field : List ℕ
   pub whole : bytes ≡ (byte ";" ∷ field) ++ rest
@@ -28,7 +28,7 @@ pub record HasField (bytes : List ℕ) (number : ℕ) (rest : List ℕ) : Type 0
   pub plain : IsPlain field
   pub inner : list_any is_separator field ≡ false
 
--- The fields of an entry stand first.
+-- The fields of an entry come first.
 pub record HasEntry (bytes : List ℕ) (entry : Entry) (rest : List ℕ) : Type 0 where
   pub text : List ℕ
   pub whole : bytes ≡ text ++ rest
@@ -43,7 +43,7 @@ usual_entry usuals.Fence = Fence
 usual_entry (usuals.Persist addr size) = Persist addr size
 usual_entry (usuals.Assert addr size) = Assert addr size
 
--- The piece that stands first spells an entry.
+-- The piece that comes first spells an entry.
 pub record IsFirstLine (bytes : List ℕ) (line : Line) : Type 0 where
   pub here : position is_separator bytes ≡ Some line.len
   pub spells : entry_of (take line.len bytes) ≡ Some (usual_entry line.usual)

@@ -1,4 +1,4 @@
--- The pieces of a trace's bytes, of which each spells an entry or is malformed.
+-- The pieces of a trace's bytes; each spells an entry or is malformed.
 use Rattle.std.specs.Prelude.{ℕ, Bool, true, false, ◌||◌, List, [], ◌∷◌, length, map, Option, nat_lt, ◌==◌, if◌then◌else◌}
 use Rattle.std.specs.List.{slice_split}
 use Rattle.hip_tokens.specs.Bytes.{byte}
@@ -14,13 +14,13 @@ is_separator b = (b == byte "|") || (b == byte "\n")
 abbrev pub parts : List ℕ → List (List ℕ)
 parts bytes = slice_split is_separator bytes
 
--- The last part of a whole file is a piece where it is not empty. Where more of the file may follow, it is one
--- only if it has more than 256 bytes, and so can spell no entry however it goes on.
+-- The last part of a whole file is a piece if it is not empty. If more of the file may follow, it is a piece only if it
+-- has more than 256 bytes, and so can spell no entry however it goes on.
 abbrev pub counts_last : Bool → List ℕ → Bool
 counts_last true last = is_nonempty last
 counts_last false last = nat_lt 256 (length last)
 
--- the parts that are pieces: all before the last one, and the last one where it counts
+-- the parts that are pieces: all before the last one, and the last one if it counts
 abbrev pub counted : Bool → List (List ℕ) → List (List ℕ)
 counted whole [] = []
 counted whole (part ∷ []) = if counts_last whole part then part ∷ [] else []
@@ -30,6 +30,6 @@ counted whole (part ∷ next ∷ more) = part ∷ counted whole (next ∷ more)
 abbrev pub pieces : Bool → List ℕ → List (List ℕ)
 pieces whole bytes = counted whole (parts bytes)
 
--- what each piece spells, if anything
+-- what each piece spells; none for a malformed one
 abbrev pub spelled : Bool → List ℕ → List (Option Entry)
 spelled whole bytes = map entry_of (pieces whole bytes)

@@ -12,21 +12,21 @@ use Rattle.hip_trace.specs.declared.refusal.TraceRefusal.TheVariants.{Malformed,
 use Rattle.hip_trace.specs.declared.refusal.Progress.{Progress}
 use Rattle.hip_trace.specs.declared.refusal.Progress.TheVariants.{Reading, Ended, Refused}
 
--- The bytes that a reader holds, how many texts of entries were begun, and whether it has come to an end.
+-- The bytes that a reader holds, how many texts of entries it has begun, and whether it has come to an end.
 pub record ReaderState : Type 0 where
   pub held : List ℕ
   pub count : ℕ
   pub progress : Progress
 
--- What is ahead of a reader: the bytes that it holds, followed by the rest of the current file.
+-- The bytes ahead of a reader: those that it holds, and then the rest of the current file.
 abbrev pub after_held : List ℕ → CabinetState → Option (List ℕ)
 after_held held s = option_map (λ rest. held ++ rest) s.rest
 
--- the bytes that are ahead of a reader, where the cabinet tells its file
+-- the bytes ahead of a reader, if those of its file are known
 abbrev pub ahead : ReaderState → CabinetState → Option (List ℕ)
 ahead r s = after_held r.held s
 
--- what the pieces spell that are ahead, where the cabinet tells the file
+-- what the pieces ahead spell, if the bytes of the file are known
 abbrev pub entries_left : ReaderState → CabinetState → Option (List (Option Entry))
 entries_left r s = option_map (spelled true) (ahead r s)
 
@@ -41,7 +41,8 @@ pub record MayGoOn (bytes : List ℕ) : Type 0 where
   pub whole : list_any is_separator bytes ≡ false
   pub few : length bytes ≤ 256
 
--- What was held before the last read may go on, and begins with what was held at first. The last read gave `last`.
+-- The bytes that were held before the last read, which gave `last`, may go on, and they begin with those that were held
+-- at first.
 pub record WasNeeded (held taken : List ℕ) : Type 0 where
   pub before : List ℕ
   pub last : List ℕ
@@ -49,8 +50,8 @@ pub record WasNeeded (held taken : List ℕ) : Type 0 where
   pub longer : length held ≤ length before
   pub goes_on : MayGoOn before
 
--- A reader that holds some bytes takes more of the file, one read after the other, only while those that it holds may
--- go on. So it takes nothing where it holds the end of a text, or 257 bytes of one.
+-- A reader that holds some bytes takes more of the file, one read after the other, only as long as those that it holds
+-- may go on. So it takes nothing if it holds the end of a text, or 257 bytes of one.
 pub record TakesAtNeed (held : List ℕ) (old new : CabinetState) : Type 0 where
   pub taken : List ℕ
   pub bytes : old.rest ≡ option_map (λ rest. taken ++ rest) new.rest
@@ -61,23 +62,23 @@ pub record IsReading (old new : CabinetState) : Type 0 where
   pub stays : StaysOpen old new
   pub faults : new.faults ≡ old.faults
 
--- ---- the piece that stands first
+-- ---- the piece that comes first
 
--- It ended at a separator, which was taken too.
+-- The piece ended at a separator, which was taken too.
 pub record EndsAtSeparator (piece : List ℕ) (old new : Option (List ℕ)) : Type 0 where
   pub separator : ℕ
   pub separates : is_separator separator ≡ true
   pub whole : list_any is_separator piece ≡ false
   pub bytes : old ≡ option_map (λ rest. piece ++ separator ∷ rest) new
 
--- It ended with the file.
+-- The piece ended with the file.
 pub record EndsWithFile (piece : List ℕ) (old new : Option (List ℕ)) : Type 0 where
   pub some : is_nonempty piece ≡ true
   pub whole : list_any is_separator piece ≡ false
   pub bytes : old ≡ option_map (λ rest. piece ++ rest) new
   pub left : IfSome new (λ rest. rest ≡ [])
 
--- The piece was taken off what was ahead, with its separator, or up to the end of the file.
+-- The piece was taken from the bytes ahead, with its separator, or up to the end of the file.
 abbrev pub TakesPiece : List ℕ → Option (List ℕ) → Option (List ℕ) → Type 0
 TakesPiece piece old new = EndsAtSeparator piece old new ⊎ EndsWithFile piece old new
 
@@ -109,8 +110,8 @@ pub record HasMalformed (r r' : ReaderState) (s s' : CabinetState) : Type 0 wher
   pub count : r'.count ≡ one_more r.count
   pub progress : r'.progress ≡ Refused Malformed
 
--- A read failed. What was taken before is held, and has no piece whose end is known. A text was begun if a byte of
--- it is held.
+-- A read failed. The bytes that were taken before are held, and have no piece whose end is known. The reader has begun
+-- a text if it holds a byte of it.
 pub record HasFailed (r r' : ReaderState) (s s' : CabinetState) : Type 0 where
   pub stays : StaysOpen s s'
   pub later : s.faults ≤ s'.faults
@@ -120,7 +121,7 @@ pub record HasFailed (r r' : ReaderState) (s s' : CabinetState) : Type 0 where
   pub count : r'.count ≡ (if is_nonempty r'.held then one_more r.count else r.count)
   pub progress : r'.progress ≡ Refused ReadFault
 
--- what `next` does where it has given neither the end nor a refusal before, by its answer
+-- what `next` does if it has given neither the end nor a refusal before, by its answer
 abbrev pub ReadsOn : ReaderState → ReaderState → CabinetState → CabinetState
     → Result (Option Entry) TraceRefusal
     → Type 0
@@ -129,21 +130,21 @@ ReadsOn r r' s s' (Ok (Some e)) = HasNext r r' s s' e
 ReadsOn r r' s s' (Err Malformed) = HasMalformed r r' s s'
 ReadsOn r r' s s' (Err ReadFault) = HasFailed r r' s s'
 
--- An answer was repeated; the cabinet was not called.
+-- The reader repeats an answer, and does not call the cabinet.
 pub record Repeats (r r' : ReaderState) (s s' : CabinetState)
     (before now : Result (Option Entry) TraceRefusal) : Type 0 where
   pub answer : now ≡ before
   pub reader : r' ≡ r
   pub cabinet : s' ≡ s
 
--- what `next` does, by how far the reader is: it reads on, or repeats the end, or repeats its refusal
+-- what `next` does, by the progress of the reader: it reads on, or repeats the end, or repeats its refusal
 abbrev pub reads_from : Progress → ReaderState → ReaderState → CabinetState → CabinetState
     → Result (Option Entry) TraceRefusal → Type 0
 reads_from Reading r r' s s' result = ReadsOn r r' s s' result
 reads_from Ended r r' s s' result = Repeats r r' s s' (Ok None) result
 reads_from (Refused refusal) r r' s s' result = Repeats r r' s s' (Err refusal) result
 
--- What `next` does. None and refusals are repeated.
+-- What `next` does. It repeats None and refusals.
 abbrev pub ReadsNext : ReaderState → ReaderState → CabinetState → CabinetState
     → Result (Option Entry) TraceRefusal
     → Type 0

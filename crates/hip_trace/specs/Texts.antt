@@ -40,7 +40,7 @@ fields_of (Stop code) = signed_decimal code ∷ []
 fields_of (Trap kind) = trap_text kind ∷ []
 fields_of Cut = []
 
--- each field stands after a semicolon
+-- each field comes after a semicolon
 abbrev pub with_fields : List ℕ → List (List ℕ) → List ℕ
 with_fields text [] = text
 with_fields text (f ∷ fs) = with_fields (text ++ byte ";" ∷ f) fs
@@ -49,7 +49,7 @@ with_fields text (f ∷ fs) = with_fields (text ++ byte ";" ∷ f) fs
 unfoldable pub text_of : Entry → List ℕ
 text_of e = with_fields (word_of e) (fields_of e)
 
--- what is written: a line feed ends the text
+-- the line of an entry: its text and a line feed
 abbrev pub line_of : Entry → List ℕ
 line_of e = text_of e ++ codes "\n"
 

@@ -17,14 +17,14 @@ use Rattle.hip_runs.specs.Step.{run}
 use Rattle.hip_runs.specs.Validity.{IsValid}
 use Rattle.hip_trace.specs.declared.entry.Entry.{Entry}
 
--- a refusal of the replay, as one of the file
+-- a refusal of the replay, as a refusal of the file
 abbrev pub failure_of : ReplayRefusal → Failure TraceFileRefusal
 failure_of (refusals.Misfit entry kind) = failures.Refused (traces.Misfit entry kind)
 failure_of refusals.ReadFault = failures.ReadFault
 failure_of refusals.NoMemory = failures.NoMemory
 
 -- The file is the trace of the program's run on the input, and was read to its end. The findings, the ending and the
--- number of entries are those of that run. Nothing was missing and nothing failed.
+-- number of entries are those of that run. No file was missing and no read failed.
 pub record HasLoadedTrace (P : Program) (name : List ℕ) (old new : CabinetState) (replayed : Replayed) : Type 0 where
   pub met : HasMet false false old new
   pub traced : IfSome old.files (λ fs. IsTraceFile fs name P replayed.input)

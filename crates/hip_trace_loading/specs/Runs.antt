@@ -10,20 +10,20 @@ use Rattle.hip_answers.specs.TraceFiles.{LacksTrace}
 use Rattle.hip_trace_loading.specs.Loading.{HasLoadedTrace}
 use Rattle.hip_trace_loading.specs.declared.run.LoadedRun.{LoadedRun}
 
--- The one file has the program, and the other is the trace of the run.
+-- One file has the program, and the other is the trace of the run.
 pub record HasLoadedRun (program_name trace_name : List ℕ) (old new : CabinetState)
     (loaded : LoadedRun) : Type 0 where
   pub program : IsProgramOf old.files program_name loaded.checked
   pub trace : HasLoadedTrace loaded.checked trace_name old new loaded.replayed
 
--- what a command answers that has no program, or no trace of a run of it
+-- what a command answers without a program, or without a trace of a run of it
 abbrev pub LacksRun : CabinetState → CabinetState → List ℕ → List ℕ → Answer → Type 0
 LacksRun old new program_name trace_name answer =
     IsUnloaded old new program_name answer
     ⊎ (IsUnread old new program_name answer ⊎ LacksTrace old new program_name trace_name answer)
 
--- What loading a run answers. Notes are as they were, or the refusal is the whole answer of a command, whether or not
--- its text goes out while it is made.
+-- What loading a run answers. Notes are as they were, or the refusal is the whole answer of the command, whether or not
+-- it writes its text while it makes it.
 abbrev pub LoadsRun : List ℕ → List ℕ → CabinetState → CabinetState → SinkState → SinkState
     → Result LoadedRun Status → Type 0
 LoadsRun program_name trace_name old new notes notes_new (Ok loaded) =

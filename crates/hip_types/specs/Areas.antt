@@ -2,11 +2,11 @@
 use Rattle.std.specs.Prelude.{ℕ}
 use Rattle.hip_types.specs.declared.areas.TheConstants.{STACK_END, STACK_START, VOLATILE_START}
 
--- volatile globals lie from this address on
+-- the first address of the volatile globals
 abbrev pub volatile_start : ℕ
 volatile_start = VOLATILE_START
 
--- the stack's first address, and its end
+-- the first address of the stack
 abbrev pub stack_start : ℕ
 stack_start = STACK_START
 

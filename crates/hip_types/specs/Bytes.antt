@@ -1,7 +1,7 @@
 -- Numbers as bytes, the lowest first.
 use Rattle.std.specs.Prelude.{ℕ, zero, suc, ◌+◌, ◌*◌, ◌/◌, ◌%◌, List, [], ◌∷◌, replicate}
 
--- the number that bytes are, the lowest first; 0 if there is none
+-- the number of these bytes, the lowest first; 0 if there is none
 abbrev pub little_endian : List ℕ → ℕ
 little_endian [] = 0
 little_endian (b ∷ bs) = b + 256 * little_endian bs

@@ -16,26 +16,26 @@ use Rattle.hip_types.specs.Widths.{bits_of}
 abbrev pub modulus : Width → ℕ
 modulus w = 2 ^ bits_of w
 
--- the integer that a number leaves modulo 2 ^ N
+-- the integer of this width that a number is modulo 2 ^ N
 abbrev pub bits : Width → ℕ → Bits
 bits w n = record { width = w; value = n % modulus w; in_range = mod-lt n (pow_pos (bits_of w)) }
 
--- from how much on an integer has a sign
+-- the first integer of this width that has a sign
 abbrev pub sign_of : Width → ℕ
 sign_of w = 2 ^ (bits_of w - 1)
 
--- an integer read with a sign: 2 ^ N is taken off from 2 ^ (N - 1) on
+-- an integer read with a sign: 2 ^ N is subtracted from 2 ^ (N - 1) on
 abbrev pub signed : Width → ℕ → ℤ
 signed w n = if nat_lt n (sign_of w) then pos n else pos n -ℤ pos (modulus w)
 
--- the integer that a number with a sign leaves modulo 2 ^ N
+-- the integer of this width that a number with a sign is modulo 2 ^ N
 abbrev pub wrapped : Width → ℤ → ℕ
 wrapped w (pos n) = n % modulus w
 wrapped w (negsuc n) = modulus w - 1 - n % modulus w
 
 -- ---- laws
 
--- two integers are equal where their widths and values are
+-- two integers are equal if their widths and values are
 pub same_bits : (a b : Bits) → a.width ≡ b.width → a.value ≡ b.value → a ≡ b
 same_bits a b width value =
     let below = is_prop→PathP (λ i. value i < 2 ^ bits_of (width i)) (λ i. le_prop) a.in_range b.in_range in
@@ -79,6 +79,6 @@ wrapped-signed w n h =
         let below : modulus v - 1 - m < modulus v = omega (arith, modulus_pos v) in
         rw (mod-eq_of_lt below) (omega (arith, modulus_pos v))
 
--- two integers that are read alike with a sign are equal
+-- two integers that are the same when read with a sign are equal
 pub signed-same : (w : Width) (m n : ℕ) → m < modulus w → n < modulus w → signed w m ≡ signed w n → m ≡ n
 signed-same w m n h k e = sym (wrapped-signed w m h) ∙ ap (wrapped w) e ∙ wrapped-signed w n k

@@ -29,13 +29,13 @@ abbrev pub refusal_of : Refused → TypeRefusal
 refusal_of (refused.Found f) = record { fault = fault_of f.fault; place = f.place }
 refusal_of refused.NoMemory = record { fault = faults.NoMemory; place = places.Whole }
 
--- the refusal that the check of paths gives: the place of a use and a path to it on which nothing assigns its
--- register, or out of memory at the whole program
+-- the refusal that the check of paths gives: the place of a use and a path to it that does not assign its register, or
+-- out of memory at the whole program
 abbrev pub refusal_on_paths : NotAssigned → TypeRefusal
 refusal_on_paths (unassigned.Use place path) = record { fault = faults.Unassigned path; place = place }
 refusal_on_paths unassigned.NoMemory = record { fault = faults.NoMemory; place = places.Whole }
 
--- out of memory has no place of its own
+-- out of memory has no place of its own, but the whole program
 abbrev refuses : Program → TypeFault → Place → Type 0
 refuses P faults.NoMemory place = place ≡ places.Whole
 refuses P fault place = IsRefused P (record { fault = fault; place = place })
@@ -45,7 +45,7 @@ refuses P fault place = IsRefused P (record { fault = fault; place = place })
 abbrev pub Refuses : Program → TypeRefusal → Type 0
 Refuses P refusal = refuses P refusal.fault refusal.place
 
--- A sound program is itself; for another there is its first fault, unless memory was short.
+-- The check gives a sound program itself, and for any other its first fault, or out of memory.
 abbrev pub Checks : {T : Type 0} → Program → Result T TypeRefusal → (T → Type 0) → Type 0
 Checks P (Ok answer) is = IsSound P × is answer
 Checks P (Err refusal) is = Refuses P refusal
@@ -141,7 +141,7 @@ pub refuses-on_paths : (P : Program) (e : NotAssigned) → IsSpelled P → (rule
 refuses-on_paths P (unassigned.Use place path) s none u = refuses-unassigned P place path s none u
 refuses-on_paths P unassigned.NoMemory s none u = refl
 
--- a spelled program that breaks no rule and uses nothing unassigned is sound
+-- a spelled program that breaks no rule and assigns each register before its uses is sound
 pub sound-is : (P : Program) → IsSpelled P → (rules_check P).found ≡ None →
     ((f : ℕ) (fn : Function) → slice_get P.functions f ≡ Some fn → AllAssigned fn f) → IsSound P
 sound-is P spelled none assigned =

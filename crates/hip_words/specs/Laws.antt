@@ -1,5 +1,5 @@
--- What the definition of an order says of words that do not begin with `-`, of the inputs of runs, and of generated
--- programs.
+-- What the definition of an order implies for words that do not begin with `-`, for the inputs of runs, and for
+-- generated programs.
 use Rattle.std.specs.Prelude.{◌≡◌, ◌<◌, ◌≤◌, ℕ, ℤ, Bool, true, not, ◌==◌, List, [], ◌∷◌, Some, codes, length, option_map}
 use Rattle.std.specs.List.{list_all}
 use Rattle.clap.specs.Words.{Text}
@@ -32,14 +32,14 @@ RunsArePlain =
     → order (codes "run" ∷ program ∷ numbers)
     ≡ option_map (λ ns. Run program DEFAULT_LIMIT ns) (numbers_of numbers)
 
--- a run has at most 2^40 turns and 1,048,576 numbers
+-- an order to run allows at most 2^40 turns and 1,048,576 numbers
 abbrev pub RunsAreValid : Type 0
 RunsAreValid =
     (words : List Text) (program : Text) (limit : ℕ) (numbers : List ℤ)
     → order words ≡ Some (Run program limit numbers)
     → (limit ≤ MOST_TURNS) × (length numbers ≤ MOST_NUMBERS)
 
--- so does a run that is recorded, and the region may begin at its base
+-- an order to record allows no more, and the region may begin at its base
 abbrev pub RecordsAreValid : Type 0
 RecordsAreValid =
     (words : List Text) (program : Text) (base limit : ℕ) (numbers : List ℤ)

@@ -44,11 +44,11 @@ texts_in id rows = unwrap_or (all_of id rows) []
 abbrev pub decimal_in : Text → List Row → Option ℕ
 decimal_in id rows = option_and_then decimal_of (first_of id rows)
 
--- the number that an argument's word writes, if it is within bounds
+-- the number that an argument's word writes, if the number is within its bounds
 abbrev pub number_in : (ℕ → Bool) → Text → List Row → Option ℕ
 number_in test id rows = option_and_then (where_so test) (decimal_in id rows)
 
--- what each text is read as, if each can be read
+-- what each text reads as, if each can be read
 abbrev pub each : {A : Type 0} → (Text → Option A) → List Text → Option (List A)
 each read [] = Some []
 each read (t ∷ ts) = option_and_then (λ x. option_map (λ xs. x ∷ xs) (each read ts)) (read t)
@@ -131,7 +131,7 @@ files_in rows = option_and_then (λ program. option_map (λ trace. (program, tra
     (first_of (codes "trace") rows))
     (first_of (codes "program") rows)
 
--- the command of a verb, as clap knows it
+-- the command of a verb, in clap's terms
 abbrev pub command_of : Verb → App
 command_of verbs.Run = run_app
 command_of verbs.Record = record_app
@@ -143,7 +143,7 @@ command_of verbs.Many = many_app
 command_of verbs.Crash = crash_app
 command_of verbs.Thin = files_app (codes "thin")
 
--- the order of a verb, of what clap reads
+-- the order of a verb, by what clap reads
 abbrev pub order_in : Verb → List Row → Option Order
 order_in verbs.Run rows = run_in rows
 order_in verbs.Record rows = record_in rows
@@ -155,7 +155,7 @@ order_in verbs.Many rows = many_in rows
 order_in verbs.Crash rows = crash_in rows
 order_in verbs.Thin rows = option_map (λ p. Thin p.0 p.1) (files_in rows)
 
--- the order of a verb, of all words
+-- the order of a verb, by all words
 abbrev pub order_by : Verb → List Text → Option Order
 order_by verb words = option_and_then (order_in verb) (reads (command_of verb) words)
 

@@ -54,7 +54,7 @@ pub record Carried (Texts : Program → Input → Findings → Answer → Type 0
   found_is : IsFound program input found
   texts : Texts program input found a
 
--- how an answer comes about: a read fault, no program, no trace of a run of it, or a run
+-- what an answer is for: a read fault, no program, no trace of a run of it, or a run
 pub data View (Texts : Program → Input → Findings → Answer → Type 0) (files : List NamedFile) (p t : List ℕ)
     (a : Answer) : Type 0 where
   Faulted : a.status ≡ statuses.ReadFault → View Texts files p t a

@@ -51,7 +51,7 @@ numeral-differs : (i j : ℕ) → numeral i ≡ numeral j → i ≡ j
 numeral-differs i j e =
     sym (numeral-value (suc i) i (omega arith)) ∙ ap (number_from 0) e ∙ numeral-value (suc j) j (omega arith)
 
--- it is the text that `decimal` gives, as far as that goes
+-- it is the text that `decimal` gives, for numbers that `decimal` can write
 numeral_in-decimal : (fuel n : ℕ) → n < fuel → n < 10 ^ 64 → numeral_in fuel n ≡ decimal n
 numeral_in-decimal zero n h small = absurd (omega arith)
 numeral_in-decimal (suc fuel) n h small = by_size (nat_lt n 10) refl (λ below. numeral_in-decimal fuel (n / 10) below)
@@ -263,7 +263,7 @@ fresh_for-first taken (name ∷ names) (suc k) fresh e =
           (λ q. among_alike earlier taken first q) rest.2,
     )
 
--- none is taken
+-- none of the fresh names is taken
 pub fresh_for-free : (taken names : List (List ℕ)) (k : ℕ) (fresh : List ℕ)
     → slice_get (fresh_for taken names) k ≡ Some fresh → is_among taken fresh ≡ false
 fresh_for-free taken [] k fresh e = cc
@@ -276,7 +276,7 @@ or_second : (b c : Bool) → c ≡ true → (b || c) ≡ true
 or_second true c e = refl
 or_second false c e = e
 
--- none is there twice
+-- no fresh name is in the list twice
 all_apart : (first : List ℕ) (taken names : List (List ℕ)) → is_among taken first ≡ true
     → AllByRecursion (λ y. bytes_eq first y ≡ false) (fresh_for taken names)
 all_apart first taken [] e = tt

@@ -1,6 +1,5 @@
 -- Laws of the functions that calls can reach: the least list that has the callees of the calls and is closed under
--- calls. Each of them
--- is there once, and is the first function of its name.
+-- calls. Each of them is there once, and is the first function of its name.
 use Rattle.std.specs.Prelude.{◌≡◌, ◌≤◌, ◌||◌, ◌<◌, ℕ, zero, suc, ◌+◌, nat_eq, Bool, true, false, List, [], ◌∷◌, Option, Some, None, slice_get, option_to_list, length}
 use Rattle.std.specs.Cmp.{nat_eq_equiv}
 use Rattle.std.specs.List.{flat_map, list_any, IsDistinct}
@@ -97,7 +96,7 @@ called_at-named : (P : Program) (o : Option Instr) (q : ℕ) → Has (called_at 
 called_at-named P None q h = cc
 called_at-named P (Some i) q h = called_by-named P i q h
 
--- ---- the list that is gone through
+-- ---- the list, as it is extended
 
 extended-first : (P : Program) (seen : List ℕ) (o : Option ℕ) (q : ℕ) → Has seen q → Has (extended P seen o) q
 extended-first P seen None q h = h
@@ -140,7 +139,7 @@ reached-all P Q closed (suc steps) place seen all q h =
         (all f (any_at (nat_eq f) seen place f e (nat_eq_equiv.refl f))) new)
         (met-only nat_eq_equiv r seen (called_from P f) g)
 
--- the functions that stand before that place are gone through: what they call is in the list
+-- what the functions before that place call is in the list
 abbrev IsDone : Program → List ℕ → ℕ → Type 0
 IsDone P seen place = (k f q : ℕ) → k < place → slice_get seen k ≡ Some f → Has (called_from P f) q
     → Has seen q

@@ -25,7 +25,7 @@ and_swap true false c = refl
 and_swap false true c = refl
 and_swap false false c = refl
 
--- names that a table knows are those that are there
+-- a table knows all of these names exactly if all of them are there
 pub known_alike : (known names asked : List (List ℕ)) → Knows known names
     → list_all (is_among known) asked ≡ list_all (is_among names) asked
 known_alike known names [] knows = refl

@@ -21,8 +21,9 @@ abbrev pub is_there : Point → ℕ → Bool
 is_there (Before k) after = nat_le after k
 is_there AtEnd after = true
 
--- the block that each path to a use at the point passes, if the register was not assigned in the use's block before:
--- the one that assigns it. Where nothing assigns it there is no such block, and the number is that of none.
+-- The block that each path to a use at the point has to pass: the one that assigns the register, unless that is the
+-- use's own block and assigns it before the use. Where nothing assigns the register, the number is `count`, which no
+-- block has.
 abbrev pub to_pass : ℕ → ℕ → Point → Option Inner → Option ℕ
 to_pass count block point (Some Parameter) = None
 to_pass count block point (Some (Assigned b after)) = if b == block && is_there point after then None else Some b
@@ -51,7 +52,7 @@ AnswersUses fn (Ok _) uses = All (UseIsAssigned fn) uses
 AnswersUses fn (Err (unassigned.Use place path)) uses = IsFirstOf fn uses place path
 AnswersUses fn (Err unassigned.NoMemory) uses = Unit {0}
 
--- the same of all functions of a program
+-- the same for all functions of a program
 abbrev pub AnswersAssigned : {T : Type 0} → Result T NotAssigned → Program → Type 0
 AnswersAssigned (Ok _) P = (f : ℕ) (fn : Function) → slice_get P.functions f ≡ Some fn → AllAssigned fn f
 AnswersAssigned (Err (unassigned.Use place path)) P = IsFirstUnassigned P place path

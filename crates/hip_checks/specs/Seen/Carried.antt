@@ -8,7 +8,7 @@ use Rattle.hip_sound.specs.Places.{repeats_agree}
 use Rattle.hip_names.specs.Tables.{Entry, StandsFor}
 use Rattle.hip_names.specs.declared.table.NameTable.{NameTable}
 
--- an operand is the one that was carried already, if there is one
+-- the operand is the one that an earlier edge carries; true if there is none
 abbrev pub carries_again : Option (Bor Operand) → Operand → Bool
 carries_again None o = true
 carries_again (Some first) o = same_operand first.now o

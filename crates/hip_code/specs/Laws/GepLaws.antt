@@ -31,7 +31,7 @@ use Rattle.hip_code.specs.declared.op.Span.{Span}
 use Rattle.hip_code.specs.declared.op.Term.{Term}
 use Rattle.hip_code.specs.declared.op.Value.TheVariants as values
 
--- one more term
+-- what holds of a term and of all terms after it holds of all
 terms_more : (n : Numbers) (t : Term) (ts : List Term) → is_within n t.index → TermsWithin n ts
     → TermsWithin n (t ∷ ts)
 terms_more n t ts h r = record { at = go }
@@ -40,7 +40,7 @@ terms_more n t ts h r = record { at = go }
     go zero x e = let same : t ≡ x = cc in subst (λ (y : Term). is_within n y.index) same h
     go (suc k) x e = r.at k x e
 
--- what indices come to
+-- these indices lead into the type at an offset, and the terms add the rest
 pub record Comes (n : Numbers) (t : Ty) (indices : List ℕ) (offset : ℕ) (terms : List Term) : Type 0 where
   pub part : Part
   pub there : part_at indices t ≡ Some part
@@ -105,7 +105,7 @@ module _ (globals : List GlobalVar) (region : ℕ) (names : List (List ℕ)) (n 
             (operand_within globals region names n rs p.2.index a.value p.4.index h) c.within);
       }
 
-  -- the offset that these indices give in a type is a constant one and the sum of the terms, modulo 2^64, and what the
+  -- the offset that these indices give in a type is a constant one plus the sum of the terms, modulo 2^64, and what the
   -- terms name is there
   pub record Far (t : Ty) (args : List Arg) (offset : ℕ) (terms : List Term) : Type 0 where
     pub far : unwrap_or (gep_of t (indices_of args)) 0 ≡ (offset + sum_of n terms) % 2 ^ 64
@@ -161,7 +161,7 @@ module _ (P : Program) (I : Input) (f : ℕ) (tables : Tables) where
   abbrev names_here : List (List ℕ)
   names_here = names_at P f
 
-  -- with constant indices alone
+  -- a `getelementptr` with constant indices alone is resolved
   pub resolves_fixed : (name : List ℕ) (dest : ℕ) (base : Operand) (x : named.Operand) (ty : Ty) (args : List Arg)
       (inbounds : Bool) (offset whole : ℕ) →
       number_of names_here name ≡ Some dest → IsOperandIn P I.base f tables base x
@@ -183,7 +183,7 @@ module _ (P : Program) (I : Input) (f : ℕ) (tables : Tables) where
     names = λ slots base rs h k. record { is = tt };
   }
 
-  -- with one index that is no constant
+  -- so is one with one index that is no constant
   pub resolves_scaled : (name : List ℕ) (dest : ℕ) (base : Operand) (x : named.Operand) (ty : Ty) (args : List Arg)
       (inbounds : Bool) (offset whole : ℕ) (term : Term) →
       number_of names_here name ≡ Some dest → IsOperandIn P I.base f tables base x
@@ -207,7 +207,7 @@ module _ (P : Program) (I : Input) (f : ℕ) (tables : Tables) where
     names = λ slots base rs h k. record { is = tt };
   }
 
-  -- with any indices
+  -- and one with any indices
   pub resolves_terms : (name : List ℕ) (dest : ℕ) (base : Operand) (x : named.Operand) (ty : Ty) (args : List Arg)
       (inbounds : Bool) (offset whole : ℕ) (span : Span) →
       number_of names_here name ≡ Some dest → IsOperandIn P I.base f tables base x → HasSpan span tables.terms →

@@ -56,7 +56,7 @@ placed_more names m ms h r = record { at = go }
     go zero x e = let same : m ≡ x = cc in subst (λ (y : Move). IsSlot names y.dest) same h
     go (suc k) x e = r.at k x e
 
--- what moves need
+-- moves read numbers that are there, and write slots of registers that are there
 pub record MovesAre (n : Numbers) (base size : ℕ) (names : List (List ℕ)) (ms : List Move) : Type 0 where
   pub read : AreRead n ms
   pub written : AreWritten base size ms
@@ -101,7 +101,7 @@ from_edge globals region rs from (d ∷ es) x e = go (bytes_eq d.label from) e (
     go true q rest = let same : d.value ≡ x = cc in ap (value_of globals region rs) (sym same)
     go false q rest = rest q
 
--- the operand of an edge is one for control from its label
+-- an edge's operand for control from its label has a value
 known_edge : (rs : Registers) (from : List ℕ) (es : List Edge) (x : named.Operand)
     → ((k : ℕ) (e : Edge) → slice_get es k ≡ Some e → e.label ≡ from → IsKnown rs e.value)
     → edge_from es from ≡ Some x
@@ -118,7 +118,7 @@ known_edge rs from (d ∷ es) x all e =
 
 module _ (globals : List GlobalVar) (region : ℕ) (names : List (List ℕ)) (n : Numbers) (rs : Registers)
     (h : HoldsFrame names n.slots n.base rs) (from : List ℕ) where
-  -- what the moves of an edge need is there
+  -- the moves of an edge read and write what is there
   pub phis_are : (ms : List Move) (ps : List Phi) → are_moves globals region names n.tables.constants from ms ps
       → MovesAre n n.base (length n.slots) names ms
   phis_are [] [] a = none_are n n.base (length n.slots) names

@@ -90,7 +90,7 @@ compare_within preds.Sle n w a b h k = (k, h)
 
 -- ---- changes of type
 
--- a number with a sign that is cut to 64 bits leaves what it leaves in a width
+-- a number with a sign that is cut to 64 bits and then to a width is the number cut to that width
 wrapped_cut : (w : Width) (z : ℤ) → wrapped W64 z % modulus w ≡ wrapped w z % modulus w
 wrapped_cut W1 (pos n) = mod-mod-pow n 63 1 ∙ sym (mod-mod-pow n 0 1)
 wrapped_cut W8 (pos n) = mod-mod-pow n 56 8 ∙ sym (mod-mod-pow n 0 8)

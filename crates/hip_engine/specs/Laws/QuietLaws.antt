@@ -1,4 +1,4 @@
--- What steps without an event, and the next event, tell of what a run prints and of its end.
+-- What a run prints in steps without an event and in the step with the next event, and how it ends.
 use Rattle.std.proofs.Common.{◌≡◌, ℕ, zero, suc, ◌+◌, ◌<◌, cond, ◌++◌, Option, Some, None, is_some, append-nil, refl, sym, ap, ap₂, ◌∙◌, arith}
 use Rattle.hip_tree.specs.declared.program.Program.{Program}
 use Rattle.hip_runs.specs.Laws.OutputLaws.{IsTold, run_told, step_told}
@@ -17,7 +17,7 @@ module _ (P : Program) (I : Input) where
   pub quiet_goes_on : (n : ℕ) → event P I (run P I n) ≡ events.Quiet → (run P I (suc n)).world.ending ≡ None
   quiet_goes_on n q = (run_told P I n).ending ∙ ap ending_by q
 
-  -- and has printed what it had printed before
+  -- and has printed what it had printed before the step
   quiet_prints : (n : ℕ) → event P I (run P I n) ≡ events.Quiet
       → (run P I (suc n)).world.output ≡ (run P I n).world.output
   quiet_prints n q =
@@ -49,7 +49,7 @@ after_step_is m = go (state_of m).world.ending refl
     go (Some e) q = refl
     go None q = ap (on_ending m.program m.input (state_of m)) q
 
--- up to its next event a run prints what the event tells, and ends as it tells
+-- up to its next event a run prints what the event says, and ends as the event says
 pub comes_told : (old new : Seen) (e : Event) → ComesTo old new e → IsTold (state_of old).world (state_of new).world e
 comes_told old new e c =
     let at = c.before in
@@ -67,7 +67,7 @@ ending_then : (m : Seen) (x : Ending) → (state_of m).world.ending ≡ Some x �
 unfolding event
 ending_then m x q = ap (λ o. ending_by (event_on_ending m.program m.input (state_of m) o)) q
 
--- up to an event that is no end a run takes a step at least
+-- up to an event that is no end a run takes at least one step
 pub comes_further : (old new : Seen) (e : Event) → ComesTo old new e → ending_by e ≡ None → old.taken < new.taken
 comes_further old new e c going = go (state_of at).world.ending refl
   where

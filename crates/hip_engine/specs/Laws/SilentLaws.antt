@@ -1,4 +1,4 @@
--- What silent steps tell of what a run prints and of its end.
+-- Silent steps print nothing and do not end the run.
 use Rattle.std.proofs.Common.{◌≡◌, ℕ, zero, suc, ◌+◌, ◌<◌, true, [], ◌++◌, None, append-nil, refl, ap, ◌∙◌, arith}
 use Rattle.hip_tree.specs.declared.program.Program.{Program}
 use Rattle.hip_runs.specs.Laws.OutputLaws.{run_told}
@@ -36,7 +36,7 @@ module _ (P : Program) (I : Input) where
   pub silent_goes_on : (n : ℕ) → is_silent (event P I (run P I n)) ≡ true → (run P I (suc n)).world.ending ≡ None
   silent_goes_on n s = (run_told P I n).ending ∙ ends_nothing (event P I (run P I n)) s
 
-  -- and has printed what it had printed before
+  -- and has printed what it had printed before the step
   silent_prints : (n : ℕ) → is_silent (event P I (run P I n)) ≡ true
       → (run P I (suc n)).world.output ≡ (run P I n).world.output
   silent_prints n s =

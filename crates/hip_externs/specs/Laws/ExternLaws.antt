@@ -1,4 +1,4 @@
--- Each external function is the one that its name names.
+-- The name of each external function names that function.
 use Rattle.std.specs.Prelude.{◌≡◌, Some, refl}
 use Rattle.hip_externs.specs.Externs.{call_of, row_of}
 use Rattle.hip_externs.specs.declared.call.ExternCall.{ExternCall}

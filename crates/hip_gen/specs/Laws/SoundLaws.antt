@@ -173,7 +173,7 @@ element_is name length index known small = record {
 
 -- ---- instructions of the groups
 
--- what holds of the instructions of each group holds of all
+-- what holds of the instructions of each group holds of all instructions
 all_groups : (Q : Instr → Type 0) (seed size : ℕ)
     → ((group : ℕ) (k : Kind) → All Q (group_instrs size group k))
     → (n : ℕ) → All Q (instrs_before seed size n)
@@ -182,7 +182,7 @@ all_groups Q seed size h (suc n) =
     All-append Q (instrs_before seed size n) (group_instrs size n (kind seed n)) (all_groups Q seed size h n)
     (h n (kind seed n))
 
--- what holds of the three instructions that there are holds of those of each group
+-- what holds of the three instructions that groups are made of holds of those of each group
 each_group : (Q : Instr → Type 0) (size : ℕ) → size ≤ LARGEST_SIZE
     → ((c : Const) (value : ℕ) → IsElement c → Q (store c value))
     → ((c : Const) → IsElement c → Q (flush c))
@@ -243,7 +243,7 @@ module _ (size : ℕ) (small : size ≤ LARGEST_SIZE) (body : List Instr) where
   abbrev P : Program
   P = program_of size body
 
-  -- what the rules of places know in `main`
+  -- the scope of `main`
   abbrev s : Scope
   s = scope_of P (define_main body)
 

@@ -1,4 +1,4 @@
--- The generated program is what its canonical text reads as.
+-- The canonical text of the generated program reads as that program.
 use Rattle.std.proofs.Common.{◌≡◌, Bool, ℕ, zero, suc, ◌+◌, ◌%◌, ◌≤◌, true, false, ◌&&◌, List, [], ◌∷◌, codes, refl, ap₂, ◌∙◌, arith}
 use Rattle.std.specs.List.{list_all}
 use Rattle.std.proofs.lemmas.Bool.{lt-ltb}

@@ -216,7 +216,7 @@ five a b c d e = simp append_assoc
 last_joined : (groups r c : List ℕ) → (((groups ++ r) ++ []) ++ c) ++ [] ≡ groups ++ (r ++ c)
 last_joined groups r c = append-nil _ ∙ ap (λ t. t ++ c) (append-nil (groups ++ r)) ∙ append_assoc groups r c
 
--- the text around the digits of the size and the groups
+-- regroups the text around the digits of the size and the groups
 all_joined : (d groups : List ℕ) →
     ((codes "@data = global [" ++ ((d ++ codes " x i64]") ++ codes " zeroinitializer, section \".pm\"\n"))
     ++ codes "@temp = global [8 x i64] zeroinitializer\n")

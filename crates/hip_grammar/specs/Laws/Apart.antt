@@ -1,4 +1,4 @@
--- Tests that no token passes both.
+-- Pairs of tests that no token passes both of.
 use Rattle.std.proofs.Common.{◌≡◌, ℕ, true, false, Bool, cond, not, List, [], ◌∷◌, Option, Some, None, is_some, refl, ap}
 use Rattle.std.specs.List.{list_all}
 use Rattle.std.proofs.lemmas.Bool.{and_parts}
@@ -70,7 +70,7 @@ label_apart d h (Str t) e = absurd cc
 label_apart d h (Mark b) e = absurd cc
 label_apart d h (Odd b) e = absurd cc
 
--- words with a meaning are apart from what no word passes
+-- a table of words is apart from a test that no word passes
 pub words_apart : {A : Type 0} (f : List ℕ → Option A) (d : Tok → Bool)
     → ((t : List ℕ) → d (Word t) ≡ false)
     → Apart (is_word_of f) d

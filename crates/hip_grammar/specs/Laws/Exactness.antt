@@ -65,7 +65,7 @@ type_read (suc n) =
 
 -- ---- constants
 
--- a number or a word, which is more than begins a constant under an integer type
+-- a number or a word: all that begins a constant under an integer type, and more
 abbrev pub begins_int_const : Tok → Bool
 begins_int_const (Num t) = true
 begins_int_const (Word t) = true
@@ -246,7 +246,7 @@ fixed_operand_read : (s : Scalar) → IsRead (fixed_operand s) begins_const neve
 unfolding fixed_operand
 fixed_operand_read s = maps_read (scalar_const s) _ _ _ (scalar_const_read s)
 
--- a LOCAL, a number, any word or a GLOBAL, which is more than begins an operand
+-- a LOCAL, a number, any word or a GLOBAL: all that begins an operand, and more
 abbrev pub begins_operand : Tok → Bool
 begins_operand = joined is_local begins_const
 

@@ -176,7 +176,7 @@ text_exact =
 
 -- ---- whole texts
 
--- the whole text as it is read: where something is left, the first token of it is refused
+-- the whole text as it is read: if a token is left, it is refused
 abbrev pub ended : Program → List At → Outcome Fault Program
 ended program [] = Ok (program, [])
 ended program (t ∷ ts) = Err (None, t ∷ ts)
@@ -185,7 +185,7 @@ ended program (t ∷ ts) = Err (None, t ∷ ts)
 unfoldable pub whole_text : List At → Outcome Fault Program
 whole_text ts = on_ok (text.read ts) ended
 
--- a reason of the place goes before the usual fault
+-- the reason of the place if it has one, else the usual fault
 abbrev pub fault_at : Option Fault → List At → Fault
 fault_at (Some why) rest = why
 fault_at None rest = usual rest

@@ -1,4 +1,4 @@
--- What is assigned on a path, as the path goes on.
+-- What is assigned on a path after one more instruction or block.
 use Rattle.std.proofs.Common.{◌≡◌, ◌⊎◌, ⊎_elim, inl, inr, ℕ, zero, suc, List, [], ◌∷◌, ◌++◌, take, drop, Some, slice_get, option_map, refl, sym, ap, subst}
 use Rattle.std.specs.Prelude.{unwrap_or}
 use Rattle.std.specs.List.{flat_map}
@@ -76,7 +76,7 @@ module _ (fn : Function) where
       (among-right (flat_map (whole_block_names fn) earlier) (names_before fn point b) q
       (subst (λ ns. IsAmong ns q) (sym (before_is point b block at)) h))
 
-  -- after an instruction
+  -- the same after one more instruction
   pub behind : (earlier : List ℕ) (b k : ℕ) (block : Block) (i : Instr) (q : List ℕ)
       → slice_get fn.blocks b ≡ Some block → slice_get block.body k ≡ Some i →
       IsAmong (assigned_on fn earlier b (Before (suc k))) q → IsAmong (assigned_on fn earlier b (Before k)) q
@@ -113,7 +113,7 @@ module _ (fn : Function) where
       (λ o. inr o) (blocks_more cs b q r))
       (among-either (whole_block_names fn c) (flat_map (whole_block_names fn) (cs ++ b ∷ [])) q h)
 
-  -- in the block that control goes to: on the way to the end of the block before it, or by a phi
+  -- in the block that control goes to, a name is assigned on the way to the end of the block before it, or by a phi
   pub over_edge : (earlier : List ℕ) (b c : ℕ) (block to : Block) (q : List ℕ)
       → slice_get fn.blocks b ≡ Some block → slice_get fn.blocks c ≡ Some to →
       IsAmong (assigned_on fn (earlier ++ b ∷ []) c (Before 0)) q → IsAmong (assigned_on fn earlier b AtEnd) q

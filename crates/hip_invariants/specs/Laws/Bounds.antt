@@ -35,7 +35,7 @@ module _ (P : Program) (I : Input) where
 
   -- ---- how many steps are left
 
-  -- how many instructions the top frame has in front of its block's end
+  -- how many instructions of its block the top frame has left before the block's end
   abbrev code_left : List Frame → ℕ
   code_left [] = 0
   code_left (f ∷ fs) = length (code_at P f)

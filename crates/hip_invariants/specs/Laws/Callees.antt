@@ -1,4 +1,4 @@
--- The names of functions are none of external functions.
+-- No function has the name of an external function.
 use Rattle.std.proofs.Common.{◌≡◌, ℕ, List, Option, Some, None, slice_get, option_map, sym, ap, ◌∙◌, subst}
 use Rattle.std.proofs.lemmas.Option.{same_Some, slice_get-map}
 use Rattle.hip_types.specs.declared.number.Scalar.{Scalar}

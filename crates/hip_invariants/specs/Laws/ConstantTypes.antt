@@ -1,4 +1,4 @@
--- The value of a constant fits the scalar type that it has the shape of; addresses of globals are below 2^64.
+-- A constant that has the shape of a scalar type has a value that fits the type; addresses of globals are below 2^64.
 use Rattle.std.proofs.Common.{◌≡◌, ℕ, ◌+◌, ◌≤◌, ◌<◌, ◌^◌, Bool, true, false, List, map, Option, Some, None, option_map, refl, sym, ap, ◌∙◌, arith}
 use Rattle.std.specs.Prelude.{unwrap_or, if◌then◌else◌}
 use Rattle.std.proofs.Math.Nat.{mod-lt}

@@ -1,5 +1,5 @@
--- Each value that the next step reads fits the type that its place states, so that it is the same where it is cut to
--- its width.
+-- Each value that the next step reads fits the type that its place states, so cutting it to its width does not change
+-- it.
 use Rattle.std.proofs.Common.{◌≡◌, ℕ, ◌<◌, List, [], ◌∷◌, Option, Some, None, slice_get, refl, sym, ap, ap₂, ◌∙◌, subst}
 use Rattle.std.specs.Prelude.{All}
 use Rattle.std.proofs.Math.Nat.{mod-eq_of_lt}
@@ -40,7 +40,7 @@ use Rattle.hip_invariants.specs.Laws.FittingValues.{operand_fits, result_fits, t
 use Rattle.hip_invariants.specs.Laws.ReachedAlways.{all_reached}
 use Rattle.hip_invariants.specs.Types.{AreUncut, FitsType, FitsResult, fits_type, OperandFits, OperandsFit}
 
--- a value that fits its width is the same where it is cut to it
+-- cutting a value that fits its width does not change it
 cut_is_same : (w : Width) (v : ℕ) → v < modulus w → (bits w v).value ≡ v
 cut_is_same w v h = mod-eq_of_lt h
 

@@ -98,7 +98,7 @@ module _ (P : Program) (s : IsSound P) (I : Input) (valid : IsValid P I) (g : �
             (λ k q v f. each (suc k) q v f),
       )
 
-  -- ---- the ways in which a register gets a value
+  -- ---- how a register gets a value
 
   truth_fits : (b : Bool) → truth b < 2
   truth_fits true = omega arith

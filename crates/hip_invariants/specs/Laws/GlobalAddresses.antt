@@ -68,7 +68,7 @@ starts_behind persistent at (x ∷ gs) (suc k) g q =
     go true rest = omega (arith, rest (behind at x), next-le at (global_align x))
     go false rest = rest at
 
--- of two of a kind the later one begins at or after the end of the earlier one
+-- of two globals of a kind, the later one begins at or after the end of the earlier one
 pub one_behind_another : (persistent : Bool) (at : ℕ) (gs : List GlobalVar) (j k : ℕ) (g h : GlobalVar)
     → slice_get gs j ≡ Some g → slice_get gs k ≡ Some h → is_persistent gs j ≡ persistent → j < k →
     start_of persistent at gs j + (shape g.ty).size ≤ start_of persistent at gs k

@@ -1,4 +1,4 @@
--- The actions that an instruction may have: a statement about actions is shown case by case.
+-- The actions that an instruction may have: a claim about them is shown case by case.
 use Rattle.std.proofs.Common.{◌≡◌, ◌≢◌, ℕ, ◌+◌, ◌%◌, ◌<◌, ◌≤◌, Bool, true, false, cond, nat_le, nat_lt, nat_eq, List, [], ◌∷◌, Option, Some, None, slice_get, refl, sym, ap, ◌∙◌, leb-true, ltb-true}
 use Rattle.std.specs.Prelude.{Result, Ok, Err, ℤ}
 use Rattle.std.specs.Int.{next_multiple_of}
@@ -57,13 +57,13 @@ module _ (P : Program) (I : Input) (w : World) (below : ℕ) (rs : Registers) (C
     pub enter : (h : ℕ) (fn : Function) → call_of callee ≡ None → function_number P callee ≡ Some h →
         slice_get P.functions h ≡ Some fn → below < 16383 →
         Claim (Calls h (bound fn.params (values_of P.globals I.base rs args)) dest)
-    -- a callee that is not there
+    -- the callee does not exist
     pub missing : call_of callee ≡ None →
         ((h : ℕ) (fn : Function) → function_number P callee ≡ Some h
         → ¬ (slice_get P.functions h ≡ Some fn)) →
         Claim (Traps traps.Unreachable)
 
-  -- What an instruction may do, but for traps: the claim has to be shown of these actions.
+  -- What an instruction may do, except for traps: the claim has to be shown of these actions.
   abbrev pub instr_cases : Instr → Type 0
   instr_cases (Binary dest op flags width a b) =
       (r : Bits) → binary_of op (bits width (value a)) (bits width (value b)) ≡ Ok r
@@ -84,7 +84,7 @@ module _ (P : Program) (I : Input) (w : World) (below : ℕ) (rs : Registers) (C
       Claim (Assigns (Some dest) (element_address (value base) ty (index_values P.globals I.base rs indices)))
   instr_cases (Call dest ret callee args) = CallCases dest callee args
 
-  -- traps but that of what is not there
+  -- the claim holds of each trap, except the one for what is not there
   module _ (trap : (kind : TrapKind) → kind ≢ traps.Unreachable → Claim (Traps kind)) where
     cond_case : (b : Bool) (x y : Action) → Claim x → Claim y → Claim (cond b x y)
     cond_case true x y p q = p

@@ -1,4 +1,4 @@
--- What an instruction gives to registers, way by way: a fact has to be shown only where a register gets a value.
+-- What an instruction gives to registers, case by case: a fact has to be shown only where a register gets a value.
 use Rattle.std.proofs.Common.{◌≡◌, ℕ, ◌+◌, ◌≤◌, cond, nat_eq, List, length, Option, Some, None, slice_get}
 use Rattle.std.specs.Prelude.{Ok, ℤ}
 use Rattle.std.specs.Int.{next_multiple_of}
@@ -40,9 +40,8 @@ module _ (Fact : ℕ → List ℕ → ℕ → Type 0) (Returned : ℕ → ℕ �
   abbrev value : Registers → Operand → ℕ
   value rs o = value_of P.globals I.base rs o
 
-  -- What has to be shown of a call: the next input number goes into a register, or a function's parameters take values
-  -- and
-  -- its result is waited for.
+  -- What has to be shown of a call: the next input number goes into a register, or the parameters of a function take
+  -- values and the caller waits for its result.
   pub record CallFact (g : ℕ) (rs : Registers) (dest : Option (List ℕ)) (callee : List ℕ)
       (args : List Arg) : Type 0 where
     pub read : call_of callee ≡ Some calls.ReadI64 → (z : ℤ)
@@ -77,7 +76,7 @@ module _ (Fact : ℕ → List ℕ → ℕ → Type 0) (Returned : ℕ → ℕ �
     pub is : instr_fact g w rs i
 
   module _ (g : ℕ) where
-    -- what an action of the function gives to registers, or returns, has the fact
+    -- the fact holds of what an action of the function gives to registers, or returns
     abbrev GivesOn : Action → Type 0
     GivesOn x = GivesFacts Fact Returned g x
 
@@ -118,8 +117,7 @@ module _ (Fact : ℕ → List ℕ → ℕ → Type 0) (Returned : ℕ → ℕ �
     instr_gives w below rs i p =
         of_instr_action P I w below rs GivesOn (λ kind n. record { is = tt }) i (gives_by_case w below rs i p.is)
 
-  -- The fact is kept in each way in which a register gets a value, by an instruction or a phi, and of each value
-  -- returned.
+  -- Each case in which a register gets a value, by an instruction or a phi, and each value returned, keeps the fact.
   pub record KeepsFact : Type 0 where
     pub instr : (n : ℕ) (f : Frame) (fs : List Frame) (fn : Function) (block : Block) (i : Instr) →
         IsTop (run P I n) f fs → ValuesHold Fact Returned f.function f.registers →
@@ -134,7 +132,7 @@ module _ (Fact : ℕ → List ℕ → ℕ → Type 0) (Returned : ℕ → ℕ �
         IsBlockAt P f.function f.block fn block → block.end ≡ ends.Ret arg →
         Returned f.function (returned P.globals I.base f.registers arg)
 
-  -- A fact that each way keeps holds of each register of each frame at each step.
+  -- A fact that each case keeps holds of each register of each frame at each step.
   pub fact_holds : KeepsFact → (n : ℕ) → values_in_frames Fact Returned (run P I n).frames
   fact_holds each n =
       actions_keep_facts Fact Returned P I

@@ -1,6 +1,6 @@
--- Levels of pointers: an instance. An assignment gives each register and each function's result a level, or none; where
--- it is
--- closed under the rules, a value of level t is at most the stack's end and t times 64 MiB in every run.
+-- The bounds of pointer levels, as an instance of facts of registers. An assignment gives each register and each
+-- function's result a level, or none. If it is closed under the rules, a value of level t is at most the stack's end
+-- plus t times 64 MiB in every run.
 use Rattle.std.proofs.Common.{◌≡◌, ℕ, suc, ◌+◌, ◌*◌, ◌%◌, ◌^◌, ◌<◌, ◌≤◌, Bool, true, false, cond, nat_eq, nat_lt, List, [], ◌∷◌, map, Option, Some, None, slice_get, option_map, refl, sym, ap, ap₂, ◌∙◌, subst, arith, ltb-true}
 use Rattle.std.specs.Prelude.{unwrap_or}
 use Rattle.std.proofs.lemmas.Bool.{eqb-true}
@@ -44,7 +44,7 @@ use Rattle.hip_invariants.specs.Laws.Registers.Facts.{each_told, ValuesHold, eac
 use Rattle.hip_invariants.specs.Laws.GlobalAddresses.{start_before_end}
 use Rattle.hip_invariants.specs.PointerLevels.{within_level, is_at_most, behind_offset, number_level, global_level, level_step, gep_level_step, item_level_step, const_level, Levels, constant_index, known_index, both, known_path, gep_level, operand_level, goes_into, args_are_at_most, instr_is_closed, IsClosed, IsWithinLevel, RegistersAreWithin}
 
--- what is within a level is within a higher one
+-- what is within a level is within each higher one
 pub within_higher : (a b : Option ℕ) (v : ℕ) → is_at_most a b → within_level a v → within_level b v
 within_higher a None v h m = tt
 within_higher None (Some u) v h m = absurd h
@@ -83,7 +83,7 @@ pub chosen_within : (a : Option ℕ) (b : Bool) (x y : ℕ) → within_level a x
 chosen_within a true x y p q = p
 chosen_within a false x y p q = q
 
--- the level of a constant `getelementptr`: its base's after the offset of its indices
+-- the level of a constant `getelementptr`: that of its base, after the offset of its indices
 abbrev const_gep_level : List GlobalVar → ConstGep → Option ℕ
 const_gep_level globals = fold-ConstGep (Option ℕ) (Option ℕ) (Option ℕ)
     (level_step (global_level globals)) gep_level_step item_level_step
@@ -118,7 +118,7 @@ module _ (P : Program) (s : IsSound P) (base : ℕ) where
   abbrev IsWithinGep : ConstGep → Type 0
   IsWithinGep gep = within_level (const_gep_level P.globals gep) (gep_address (global_address P.globals base) gep)
 
-  -- nothing is said of an item of an array or a struct, on which no level depends
+  -- no condition on an item of an array or a struct, since no level depends on it
   abbrev IsWithinItem : TypedConst → Type 0
   IsWithinItem item = Unit {0}
 
@@ -168,7 +168,7 @@ module _ (globals : List GlobalVar) (base : ℕ) where
       → const_value globals base c ≡ const_value globals base (roll-Const y)
   valued c y q = ap (const_value globals base) (sym (roll-out-Const c) ∙ ap roll-Const q)
 
-  -- an index that is a constant is the value that it is known by
+  -- a constant index has the value that `constant_index` gives it
   constant_is : (ty : Scalar) (c : Const) (i : ℕ) → constant_index ty (out-Const c) ≡ Some i
       → index_value ty (const_value globals base c) ≡ i
   constant_is ty c i e = go (out-Const c) refl e
@@ -189,7 +189,7 @@ module _ (globals : List GlobalVar) (base : ℕ) where
       go (Const-F.Array items) q r = cc
       go (Const-F.Struct items) q r = cc
 
-  -- indices that are all constants are the values that they are known by
+  -- indices that are all constants have the values that `known_path` gives them
   pub path_is : (rs : Registers) (args : List Arg) (path : List ℕ) → known_path args ≡ Some path
       → index_values globals base rs args ≡ path
   path_is rs [] path e = same_Some [] path e
@@ -308,7 +308,7 @@ module _ (P : Program) (s : IsSound P) (I : Input) (L : Levels) (closed : IsClos
   result_within g rs h (Some a) each = within_higher (operand_level P L g a.value) (L.result g) _ (each a refl)
       (operand_within g rs h a.value)
 
-  -- a value of level t is at most the greatest of the level, in each frame at each step
+  -- a value of level t is at most the greatest value of that level, in each frame at each step
   pub levels_hold : (n : ℕ) → values_in_frames (IsWithinLevel L) (ResultIsWithin L) (run P I n).frames
   levels_hold =
       fact_holds (IsWithinLevel L) (ResultIsWithin L) P I
@@ -330,7 +330,7 @@ module _ (P : Program) (s : IsSound P) (I : Input) (L : Levels) (closed : IsClos
         };
       })
 
-  -- as the law says it
+  -- the same, as `RegistersAreWithin` says it
   pub registers_within : (n : ℕ) → RegistersAreWithin L (run P I n).frames
   registers_within n = each_told (IsWithinLevel L) (ResultIsWithin L) (λ g name. record { is = zero_within _ })
       (run P I n).frames (levels_hold n)

@@ -1,4 +1,4 @@
--- At most one object contains an address, and it is the one that an address points into.
+-- At most one object contains an address, and it is the object that the address points into.
 use Rattle.std.proofs.Common.{◌≡◌, ⊎_elim, ℕ, zero, suc, ◌+◌, ◌≤◌, ◌<◌, Bool, true, false, cond, nat_le, nat_lt, List, [], ◌∷◌, ◌++◌, Some, None, slice_get, option_map, refl, sym, ap, ◌∙◌, subst, arith, leb-true, ltb-true}
 use Rattle.std.specs.Prelude.{if◌then◌else◌}
 use Rattle.std.proofs.lemmas.Bool.{and_parts, cases_order}
@@ -21,7 +21,7 @@ use Rattle.hip_invariants.specs.StackShape.{lie_between, lie_in_order}
 use Rattle.hip_invariants.specs.Laws.GlobalAddresses.{ends_before_end, starts_behind, one_behind_another}
 use Rattle.hip_invariants.specs.Laws.StackShape.{higher, lower, stack_is_shaped}
 
--- the address is one of n bytes
+-- the address is that of one of n bytes
 record IsInside (at size a : ℕ) : Type 0 where
   from : at ≤ a
   to : a < at + size

@@ -1,6 +1,6 @@
 -- The machine never gets stuck: each frame has come along a path through its function, and each register that is
--- assigned on
--- it has a value; the next step reads no other; and it traps as unreachable only at an `unreachable`.
+-- assigned on that path has a value; the next step reads no other; and it traps as unreachable only at an
+-- `unreachable`.
 use Rattle.std.proofs.Common.{◌≡◌, ◌≢◌, ◌⊎◌, ⊎_elim, inl, inr, ℕ, suc, Bool, true, false, cond, nat_eq, List, [], ◌∷◌, ◌++◌, map, take, drop, Option, Some, None, slice_get, option_map, refl, sym, ap, ◌∙◌, subst}
 use Rattle.std.specs.Prelude.{unwrap_or}
 use Rattle.std.specs.List.{flat_map}
@@ -45,7 +45,7 @@ use Rattle.hip_invariants.specs.Reached.{assigned_names, has_or_awaits, IsReache
 use Rattle.hip_invariants.specs.Laws.Callees.{function_free}
 
 module _ (P : Program) where
-  -- what an action may do: it keeps the invariant, and traps as unreachable only where it may
+  -- what an action may do: it keeps the invariant, and traps as unreachable only where that is allowed
   pub record StepKeeps (stuck : Type 0) (f : Frame) (x : Action) : Type 0 where
     pub kept : keeps (top_is_reached P) (caller_is_reached P) f x
     pub trap : x ≡ Traps traps.Unreachable → stuck
@@ -81,7 +81,7 @@ module _ (P : Program) where
         (behind r.fn r.earlier b k r.block i q r.at e h);
   }
 
-  -- a result comes
+  -- after the result of a call
   returned_reached : (g b k : ℕ) (rs : Registers) (dest : Option (List ℕ)) (v : ℕ) → IsReached P dest g b k rs
       → IsReached P None g b k (assigned dest v rs)
   returned_reached g b k rs dest v r = record {
@@ -95,7 +95,7 @@ module _ (P : Program) where
   }
 
   module _ (s : IsSound P) where
-    -- a function is entered
+    -- at the start of a function that is entered
     pub entry_reached : (g : ℕ) (fn : Function) (rs : Registers) → slice_get P.functions g ≡ Some fn
         → ((q : List ℕ) → IsAmong (names_of (parameter_registers fn)) q → IsAmong (assigned_names rs) q)
         → IsReached P None g 0 0 rs
@@ -129,7 +129,7 @@ module _ (P : Program) where
 
     -- ---- an instruction
 
-    -- a register that an instruction assigns is this one
+    -- an instruction assigns this register, or none
     abbrev AssignsOnly : Instr → Option (List ℕ) → Type 0
     AssignsOnly i dest = (q : List ℕ) → IsAmong (names_of (assigned_by i)) q → dest ≡ Some q
 
@@ -289,7 +289,7 @@ module _ (P : Program) where
       end_labels_at : labels_named_at r.fn f.block ≡ end_labels r.block.end
       end_labels_at = ap (λ (o : Option Block). unwrap_or (option_map (λ (x : Block). end_labels x.end) o) []) r.at
 
-      -- the block with a label that the end names
+      -- control goes to the block with a label that the end names
       jump_there_keeps : (stuck : Type 0) (label : List ℕ) → drop f.place r.block.body ≡ []
           → IsAmong (end_labels r.block.end) label → (c : ℕ) → label_number r.fn label ≡ Some c
           → StepKeeps stuck f (jump_to P I f (Some c))

@@ -1,6 +1,5 @@
 -- The stack's shape: the blocks and the marks of frames lie in order below the mark; at most 16,384 frames stand; each
--- but the
--- bottom one has the call that made it.
+-- but the bottom one has the call that made it.
 use Rattle.std.proofs.Common.{◌≡◌, ℕ, zero, suc, ◌+◌, ◌≤◌, ◌<◌, Bool, true, false, cond, List, [], ◌∷◌, length, Option, Some, None, refl, sym, ap, ◌∙◌, subst, arith}
 use Rattle.hip_types.specs.Laws.LayoutLaws.{next-le}
 use Rattle.hip_tree.specs.declared.block.End.{End}
@@ -21,19 +20,19 @@ use Rattle.hip_runs.specs.Laws.StepLaws.{has_frame, standing-frame}
 use Rattle.hip_invariants.specs.Laws.InstrActions.{leaves_registers, instr_cases, of_instr_action}
 use Rattle.hip_invariants.specs.StackShape.{lie_between, lie_in_order, have_calls, HasShape, StackIsShaped}
 
--- the shape after a step
+-- a state has the shape
 record KeepsShape (s : State) : Type 0 where
   is : HasShape s.world.mark s.frames
 
 -- ---- actions
 
--- what an action may ask of the stack, with that number of frames below
+-- what an action may take of the stack, with that number of frames below
 abbrev allowed : ℕ → ℕ → Action → Type 0
 allowed mark below (Allocates dest a n) = (mark ≤ a) × (a + n ≤ stack_end)
 allowed mark below (Calls g registers dest) = below < 16383
 allowed mark below _ = Unit {0}
 
--- the action asks no more of the stack than it may, at this mark and with that number of frames below
+-- the action takes no more of the stack than it may, at this mark and with that number of frames below
 record Allowed (mark below : ℕ) (x : Action) : Type 0 where
   is : allowed mark below x
 

@@ -1,5 +1,5 @@
 -- Laws of crash images: what store, flush and fence do to them, that more flushing and fencing only takes images away,
--- and that images are exactly the contents of picks.
+-- and that the images are exactly the contents of picks.
 use Rattle.std.proofs.Common.{Option, None, ◌≡◌, ◌⊎◌, inl, inr, ℕ, zero, suc, ◌+◌, ◌*◌, ◌/◌, ◌<◌, ◌≤◌, Bool, true, false, cond, List, [], ◌∷◌, ◌++◌, length, take, Some, slice_get, slice_index, refl, sym, ap, ◌∙◌, subst, arith, length-append}
 use Rattle.std.proofs.lemmas.List.{take-append-le}
 use Rattle.hip_lines.specs.Line.{Line, IsOrdered, AreOrdered, with_part, flushed_line, fenced_line, has_bytes, change_from, stored, flushed, fenced}
@@ -14,7 +14,7 @@ pub record IsAhead {P : Type 0} (l l' : Line P) : Type 0 where
   pub ordered : IsOrdered l
   pub ordered_too : IsOrdered l'
 
--- as many lines in either list, each of the second ahead of the one at its place in the first
+-- both lists have as many lines, and each line of the second is ahead of the line at its place in the first
 abbrev pub AreAhead : {P : Type 0} → List (Line P) → List (Line P) → Type 0
 AreAhead [] [] = Unit {0}
 AreAhead (l ∷ ls) (l' ∷ ls') = IsAhead l l' × AreAhead ls ls'
@@ -198,7 +198,7 @@ module _ {P : Type 0} (covers : P → ℕ → Bool) (value : P → ℕ → ℕ) 
       → IsLineImage covers value first r j (flushed_line l) → IsLineImage covers value first r j l
   flushed_line-line_image first r j l h = (h.0, record { least = h.1.least; most = h.1.most; bytes = h.1.bytes })
 
-  -- a fence leaves those images that have all flushed parts
+  -- a fence keeps exactly those images that have all flushed parts
   pub line_image-fenced_line : (first r : List ℕ) (j : ℕ) (l : Line P) (q : ℕ) → l.flushed ≤ q
       → IsLineImageAt covers value first r j l q → IsLineImageAt covers value first r j (fenced_line l) q
   line_image-fenced_line first r j l q f h = record { least = f; most = h.most; bytes = h.bytes }

@@ -13,7 +13,7 @@ pub has_bytes-of_byte : (o n b : ℕ) → o ≤ b → b < o + n → (has_bytes (
     × (start_in (b / LINE_SIZE) o ≤ b) × (b < end_in (b / LINE_SIZE) o n)
 has_bytes-of_byte o n b h k = (grind (arith, nat_tests), omega arith, omega arith)
 
--- and a byte of a line's part lies in the range and in that line
+-- and a byte of a line's part of the range lies in the range and in that line
 pub byte-of_part : (o n j b : ℕ) → start_in j o ≤ b → b < end_in j o n → (o ≤ b) × (b < o + n)
     × (b / LINE_SIZE ≡ j)
 byte-of_part o n j b h k = (omega arith, omega arith, omega arith)
@@ -103,7 +103,7 @@ unfolding fresh_lines
 ordered-fresh_lines P zero = tt
 ordered-fresh_lines P (suc n) = (record { durable = omega arith; flushed = omega arith }, ordered-fresh_lines P n)
 
--- a line that is there is ordered
+-- a line of ordered lines is ordered
 pub ordered-at : {P : Type 0} (ls : List (Line P)) (j : ℕ) (l : Line P) → AreOrdered ls
     → slice_get ls j ≡ Some l
     → IsOrdered l

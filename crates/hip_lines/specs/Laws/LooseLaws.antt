@@ -56,7 +56,7 @@ module _ {P : Type 0} (covers : P → ℕ → Bool) where
   abbrev pub IsBare : List P → ℕ → Type 0
   IsBare ps b = (j : ℕ) (y : P) → slice_get ps j ≡ Some y → covers y b ≡ false
 
-  -- what a find says
+  -- a find is right: the last part over the byte, or none where no part covers it
   abbrev pub Finds : List P → ℕ → Option (ℕ × P) → Type 0
   Finds ps b None = IsBare ps b
   Finds ps b (Some (k, x)) = IsLastOver covers ps b k x
@@ -89,7 +89,7 @@ module _ {P : Type 0} (covers : P → ℕ → Bool) where
       join false c None h = bare c h
       join c e (Some (k, x)) h = tail k x h
 
-  -- the last part over a byte after one more part, and after the first parts are let go
+  -- the last part over a byte, after one more part
   pub last_over-append : (b : ℕ) (ps : List P) (p : P)
       → last_over covers b (ps ++ p ∷ []) ≡ cond (covers p b) (Some (length ps, p)) (last_over covers b ps)
   last_over-append b [] p = here (covers p b)
@@ -141,7 +141,7 @@ module _ {P : Type 0} (covers : P → ℕ → Bool) where
 
   -- ---- a store
 
-  -- where the new part covers the byte, the byte is loose by it
+  -- where the new part covers the byte, that part makes the byte loose
   pub loose-with_part_over : (x : P) (l : Line P) (b : ℕ) → IsOrdered l → covers x b ≡ true
       → IsLooseBy covers (with_part x l) b (length l.parts) x
   loose-with_part_over x l b h c =
@@ -209,7 +209,7 @@ module _ {P : Type 0} (covers : P → ℕ → Bool) where
       after : (j : ℕ) (z : P) → k < j → slice_get l.parts j ≡ Some z → covers z b ≡ false
       after j z lt e = h.last_over.last j z lt (get-append_left l.parts (x ∷ []) j (get-below l.parts j z e) ∙ e)
 
-  -- ---- a flush changes nothing of looseness, both ways
+  -- ---- a flush leaves the loose bytes as they are
 
   pub loose-flushed_line : (l : Line P) (b k : ℕ) (x : P) → IsLooseBy covers l b k x
       → IsLooseBy covers (flushed_line l) b k x
@@ -219,7 +219,7 @@ module _ {P : Type 0} (covers : P → ℕ → Bool) where
       → IsLooseBy covers l b k x
   flushed_line-loose l b k x h = record { last_over = h.last_over; not_durable = h.not_durable }
 
-  -- ---- a fence leaves those loose whose last part is not flushed
+  -- ---- a fence leaves exactly those bytes loose whose last part is not flushed
 
   pub loose-fenced_line : (l : Line P) (b k : ℕ) (x : P) → IsLooseBy covers l b k x → l.flushed ≤ k
       → IsLooseBy covers (fenced_line l) b k x
@@ -253,7 +253,7 @@ get-of_map f [] k y e = absurd (let h : ⊥ = cc in h)
 get-of_map f (x ∷ xs) zero y e = (x, refl, some_same (f x) y (Some (f x)) refl e)
 get-of_map f (x ∷ xs) (suc k) y e = get-of_map f xs k y e
 
--- a byte is loose by a part exactly where it is loose by what is seen of it
+-- a part makes a byte loose exactly where the part's image under the function does
 pub loose-map_line : {P Q : Type 0} (f : P → Q) (covers : Q → ℕ → Bool) (l : Line P) (b k : ℕ) (x : P)
     → IsLooseBy (λ p. covers (f p)) l b k x → IsLooseBy covers (map_line f l) b k (f x)
 loose-map_line {P} {Q} f covers l b k x h =

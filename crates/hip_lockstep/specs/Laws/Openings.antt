@@ -83,7 +83,7 @@ stops_here P bytes es rest kind spells head s = record {
       (refl, subst (λ p. StopsAt true p kind) (sym (after_told es rest)) s));
 }
 
--- the pieces of a front are all of the header, which has fewer than two
+-- the pieces of a front are the whole header, which has fewer than two entries
 all_of_header : (P : Program) (es : List Entry) (xs last : List (Option Entry))
     → ((ys zs : List (Option Entry)) → told es ≡ ys ++ zs → header P ys ≡ Stops (length ys))
     → told es ≡ xs ++ last → header P xs ≡ Stops (length xs)
@@ -133,7 +133,7 @@ module _ (P : Program) (start : CabinetState) (es : List Entry) (r : ReaderState
   }
   start_missing r' s' refusals.NoMemory h = absurd h
 
--- the entry after is not valid
+-- the second entry is not valid
 pub start_differs : (P : Program) (start : CabinetState) (es : List Entry) (e : Entry) (r : ReaderState)
     (s : CabinetState) → HasReadEntries start r s (es ++ e ∷ [])
     → ((rest : List (Option Entry)) → header P (told es ++ Some e ∷ rest) ≡ Stops (length es))
@@ -318,7 +318,7 @@ first_given P start r s limit base h = record {
   header = λ more. both_valid P (Some h.first) limit (Some h.second) base more h.starts h.registers;
 }
 
--- all entries of the header were read, so that its input is known
+-- all entries of the header were read, so its input is known
 pub header_read : (P : Program) (start : CabinetState) (r : ReaderState) (s : CabinetState) (given : Input)
     (lockstep : Lockstep) → HasAllGiven P start r s given lockstep
     → HasHeader P start r s (record { input = filled P given; lockstep = lockstep })
@@ -346,7 +346,7 @@ header_read P start r s given lockstep h =
 
 -- ---- how much was given
 
--- numbers and bytes are more than before, and no more than a valid input has
+-- K has more numbers and bytes than J, and no more than a valid input has
 pub record GivesMore (P : Program) (J K : Input) : Type 0 where
   pub numbers : length J.numbers ≤ length K.numbers
   pub image : length J.image ≤ length K.image
@@ -422,7 +422,7 @@ entry_gives P J K Cut fits few within q = absurd (let z : ⊥ = cc in z)
 
 -- ---- the loop over INPUT and IMAGE entries
 
--- since a reader, a cabinet and what was given
+-- what was read and given since the first reader, cabinet and input
 pub record IsGiving (P : Program) (r0 : ReaderState) (s0 : CabinetState) (given0 : Input) (r : ReaderState)
     (s : CabinetState) (given : Input) (count : ℕ) : Type 0 where
   pub progress : r.progress ≡ Reading
@@ -495,7 +495,7 @@ first_given_at P start r s limit base numbers image h n i =
     (subst (λ bs. HasGiven P start r s (record { base = base; image = bs; numbers = []; limit = limit }) 2) (sym i)
     (first_given P start r s limit base h))
 
--- the bytes go no further than the region
+-- the given bytes go no further than the region
 pub image_within : {P : Program} {start : CabinetState} {r : ReaderState} {s : CabinetState} {given : Input}
     {lockstep : Lockstep} → HasAllGiven P start r s given lockstep → length given.image ≤ region_size P
 image_within {P} {start} {r} {s} {given} {lockstep} h =

@@ -1,4 +1,4 @@
--- The entries that were read beside those of a run's steps.
+-- The entries that were read, compared with those of a run's steps.
 use Rattle.std.proofs.Common.{◌≡◌, ℕ, zero, suc, ◌+◌, ◌^◌, ◌<◌, ◌≤◌, true, false, List, [], ◌∷◌, ◌++◌, length, slice_get, Option, Some, None, IfSome, is_some, Err, refl, sym, ap, ◌∙◌, subst, arith, append-nil, append_assoc}
 use Rattle.std.specs.Prelude.{if◌then◌else◌, option_map}
 use Rattle.hip_io.specs.Cabinets.{CabinetState}

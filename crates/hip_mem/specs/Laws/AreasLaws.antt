@@ -27,7 +27,7 @@ pub is_in-bounds : (start : ℕ) (xs : List ℕ) (a : ℕ) → is_in start xs a 
     × (a < start + length xs)
 is_in-bounds start xs a h = grind (arith, nat_tests)
 
--- an area with another content of the same length
+-- the same addresses are in an area after its content was replaced by one of the same length
 pub is_in-length : (start : ℕ) (xs ys : List ℕ) (a : ℕ) → length ys ≡ length xs
     → is_in start ys a ≡ is_in start xs a
 is_in-length start xs ys a e = ap (λ n. nat_le start a && nat_lt a (start + n)) e
@@ -98,7 +98,7 @@ pub byte_at-with_write : (w : Write) (m : Memory) (a : ℕ)
     → byte_at (with_write w m) a ≡ byte_written w a (byte_at m a)
 byte_at-with_write w m a = byte_from-append m.writes w a (initial_byte m a)
 
--- ---- what holds a memory holds it after a write, a push and a pop
+-- ---- areas that hold a memory hold it after a write, a push and a pop
 
 pub holds-new : (base : ℕ) (volatile region : List ℕ) → volatile_start + length volatile ≤ stack_start
     → stack_end ≤ base → Holds (record { base = base; volatile = volatile; stack = []; region = region })
@@ -172,7 +172,7 @@ pub covered_or_not : (w : Write) (a : ℕ)
     ⊎ ((write_covers w a ≡ false) × ((a < w.addr) ⊎ (w.addr + length w.bytes ≤ a)))
 covered_or_not w a = grind (arith, nat_tests)
 
--- a write that does not cover the byte
+-- a write that does not cover the byte leaves it as it is
 pub not_written : (w : Write) (a old : ℕ) → (a < w.addr) ⊎ (w.addr + length w.bytes ≤ a)
     → byte_written w a old ≡ old
 not_written w a old h = go (covered_or_not w a)
@@ -187,7 +187,7 @@ not_written w a old h = go (covered_or_not w a)
         both (inr l) = omega (arith, l, x.2)
     go (inr x) = ap (λ b. cond b (slice_index w.bytes (a - w.addr)) old) x.0
 
--- zeros, where they were written
+-- a write of zeros gives zeros
 pub zeros_written : (addr n a old : ℕ) → addr ≤ a → a < addr + n
     → byte_written (record { addr = addr; bytes = zeros n }) a old ≡ 0
 zeros_written addr n a old h k = go (covered_or_not (record { addr = addr; bytes = zeros n }) a)
@@ -378,7 +378,7 @@ are_valid-after_write w r a zero = refl
 are_valid-after_write w r a (suc n) =
     ap₂ (λ b c. b && c) (is_valid-after_write w r a) (are_valid-after_write w r (suc a) n)
 
--- the valid bytes of what holds a memory are the memory's
+-- if the areas hold a memory, their valid bytes are the memory's
 pub bytes_in-bytes_at : (r : Areas) (m : Memory) (n a : ℕ) → Holds r m → are_valid r a n ≡ true
     → bytes_in r a n ≡ bytes_at m a n
 bytes_in-bytes_at r m zero a h e = refl
@@ -386,7 +386,7 @@ bytes_in-bytes_at r m (suc n) a h e =
     let b = both_true (is_valid r a) (are_valid r (suc a) n) e in
     ap₂ (λ x xs. x ∷ xs) (h.bytes a b.0) (bytes_in-bytes_at r m n (suc a) h b.1)
 
--- what was written is read
+-- a read gives what was written
 bytes_in-written : (w : Write) (r : Areas) (n k : ℕ) → are_valid r (w.addr + k) n ≡ true
     → k + n ≡ length w.bytes
     → bytes_in (after_write w r) (w.addr + k) n ≡ drop k w.bytes
@@ -430,7 +430,7 @@ bytes_in-after_write w r e =
     ap (λ a. bytes_in (after_write w r) a (length w.bytes)) (sym z)
     ∙ bytes_in-written w r (length w.bytes) 0 (ap (λ a. are_valid r a (length w.bytes)) z ∙ e) (omega arith)
 
--- ---- in a `Ram`, whose areas do not touch, valid bytes in a row lie in one area
+-- ---- in a `Ram`, whose areas do not touch, consecutive valid bytes lie in one area
 
 -- the n bytes from a on lie in an area
 abbrev pub Fits : ℕ → List ℕ → ℕ → ℕ → Type 0

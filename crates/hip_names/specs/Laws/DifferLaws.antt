@@ -1,4 +1,4 @@
--- Lists of names that differ, put together and taken apart.
+-- Lists of names that differ: how they are appended and split.
 use Rattle.std.proofs.Common.{◌≡◌, inl, inr, ⊎_elim, ℕ, suc, false, List, [], ◌∷◌, ◌++◌, map, Some, slice_get, refl, sym, subst}
 use Rattle.std.specs.List.{AllByRecursion, IsDistinct}
 use Rattle.std.specs.Str.{bytes_eq}

@@ -1,5 +1,5 @@
--- Laws of the numbers of names: a name has a number exactly if it is among the names, and its first occurrence
--- stands there.
+-- Laws of the numbers of names: a name has a number exactly if it is among the names, and the number is the place of
+-- its first occurrence.
 use Rattle.std.specs.Prelude.{ℕ, zero, suc, ◌+◌, ◌<◌, ◌≡◌, not, nat_lt, Bool, true, false, cond, List, [], ◌∷◌, ◌++◌, length, Option, Some, None, slice_get, option_map}
 use Rattle.std.specs.Str.{bytes_eq}
 use Rattle.std.proofs.Common.{◌≤◌, ◌⊎◌, refl, sym, ap, ◌∙◌, subst, inl, inr, ⊎_elim, arith, zero-add, suc-add, eq-or-lt_of_le}
@@ -27,11 +27,11 @@ at_first : (b : Bool) (name x : List ℕ) (xs : List (List ℕ)) → bytes_eq na
     → number_of (x ∷ xs) name ≡ cond b (Some 0) (option_map suc (number_of xs name))
 at_first b name x xs e = number_of-cons x xs name ∙ ap (λ t. cond t (Some 0) (option_map suc (number_of xs name))) e
 
--- x, the first of the names, is the one in question, and k is its number, 0
+-- the name is x, the first of the names, and k is its number, 0
 abbrev pub IsHere : (x name : List ℕ) → ℕ → Type 0
 IsHere x name k = (k ≡ 0) × (x ≡ name) × (bytes_eq name x ≡ true)
 
--- x, the first of the names, is another one, and k is one more than the number of the name among the rest
+-- the name is not x, the first of the names, and k is one more than its number among the rest
 abbrev pub IsLater : (x : List ℕ) (xs : List (List ℕ)) (name : List ℕ) → ℕ → Type 0
 IsLater x xs name k = (j : ℕ) × (bytes_eq name x ≡ false) × (number_of xs name ≡ Some j) × (k ≡ suc j)
 

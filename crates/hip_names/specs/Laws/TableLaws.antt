@@ -62,7 +62,7 @@ module _ {V : Type 0} where
       ap (λ o. if bytes_eq x.name name then Some x.value else o) (of-push es e name)
       ∙ later_if (bytes_eq x.name name) x.value (value_of es name) (at_name (bytes_eq e.name name) e.value)
 
-  -- a new name is added
+  -- after a new name is added, the table finds it
   pub entry_added : (ns : List (List ℕ)) (vs : List V) (es : List (Entry V)) (n : List ℕ) (v : V)
       → StandsFor ns vs es
       → StandsFor (ns ++ n ∷ []) (vs ++ v ∷ []) (es ++ record { name = n; value = v } ∷ [])

@@ -1,4 +1,4 @@
--- What the tests of spelled numbers decide; what is written is read back.
+-- What the tests of numbers in a text decide; what is written is read back.
 use Rattle.std.specs.Prelude.{ℕ, ◌^◌, ◌<◌, ◌≡◌, true, false, List, [], ◌∷◌, ℤ, pos, negsuc, neg_ℤ, decimal, drop, nat_lt, FitsSigned, refl, suc}
 use Rattle.std.specs.Char.{digit_value}
 use Rattle.std.specs.Cmp.Derive.{both_true}

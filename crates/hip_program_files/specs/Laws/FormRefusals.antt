@@ -20,7 +20,7 @@ use Rattle.hip_sound.specs.declared.fault.TypeRefusal.{TypeRefusal}
 
 -- ---- the first use without an assignment
 
--- the first item of a list that Q does not hold of is one
+-- a list has one first item that Q does not hold of
 one_first : {A : Type 0} (Q : A → Type 0) (v w : List A) (x y : A) (a b : List A) → v ++ x ∷ a ≡ w ++ y ∷ b
     → All Q v
     → All Q w → (Q x → ⊥) → (Q y → ⊥) → x ≡ y
@@ -38,7 +38,7 @@ within : {A : Type 0} (Q : A → Type 0) (v : List A) (x : A) (a : List A) → A
 within Q [] x a all = All-head Q x a all
 within Q (z ∷ v) x a all = within Q v x a (All-tail Q z (v ++ x ∷ a) all)
 
--- the functions before the first use without an assignment have none
+-- no function before the first use without an assignment has such a use
 not_before : (P : Program) (p q : Place) (a b : List ℕ) → (u : IsFirstUnassigned P p a)
     → (v : IsFirstUnassigned P q b)
     → u.function < v.function → ⊥
@@ -98,7 +98,7 @@ pub record LacksAssignment (P : Program) (fault : TypeFault) (place : Place) : T
   pub fault_is : fault ≡ faults.Unassigned path
   pub first : IsFirstUnassigned P place path
 
--- how a program comes to its first fault: by its spelling, by a check, or by a path
+-- how a program breaks a rule: by its spelling, by a check, or by a path
 abbrev BreaksARule : Program → TypeFault → Place → Type 0
 BreaksARule P fault place = Unspelled P fault place ⊎ (Breaks P fault place ⊎ LacksAssignment P fault place)
 

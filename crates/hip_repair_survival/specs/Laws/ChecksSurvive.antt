@@ -1,4 +1,4 @@
--- Where a run has nothing to report, each byte that it checks survives a crash at its check.
+-- If a run has nothing to report, each byte that it checks survives a crash at its check.
 use Rattle.std.proofs.Common.{◌≡◌, ℕ, suc, Bool, List, [], ◌∷◌, ◌++◌, sym, ap, ◌∙◌}
 use Rattle.hip_tree.specs.declared.program.Program.{Program}
 use Rattle.hip_tree.specs.declared.site.Site.{Site}

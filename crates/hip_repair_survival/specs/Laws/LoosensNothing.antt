@@ -1,5 +1,5 @@
--- After a repair at least as much is flushed and durable, so no byte is loose that was not, and each byte that
--- survived a crash still survives one.
+-- After a repair at least as much is flushed and durable. So no byte becomes loose, and each byte that survived a crash
+-- still survives one.
 use Rattle.std.proofs.Common.{◌≡◌, ◌⊎◌, inl, inr, ℕ, zero, suc, ◌+◌, ◌≤◌, Bool, true, false, cond, List, [], ◌∷◌, map, Some, slice_get, refl, sym, ap, ◌∙◌, subst}
 use Rattle.hip_tree.specs.declared.program.Program.{Program}
 use Rattle.hip_tree.specs.declared.site.Site.{Site}
@@ -62,7 +62,7 @@ as_durable P plan skip s I v n =
     let f = follows P plan skip I (sound_callable P (sound-passes P s)) v nothing_held (nothing_kept P plan skip I) n in
     pair_durable P plan skip I f.size (run P I (matched P plan skip I n)) (run (repaired P plan skip) I n) f.pair
 
--- the number of the corresponding step begins with 0, and stays or grows by 1
+-- the number of the corresponding step begins with 0, and stays or grows by 1 at each step
 pub matched_onward : (P : Program) (plan : Plan) (skip : Site → Bool) (I : Input) (n : ℕ)
     → (matched P plan skip I (suc n) ≡ matched P plan skip I n)
     ⊎ (matched P plan skip I (suc n) ≡ suc (matched P plan skip I n))

@@ -1,5 +1,6 @@
--- Two runs that go side by side, where the cache lines have the same parts at corresponding states: each part is of
--- corresponding stores, no byte is loose in the second run alone, and each report of the second has one of the first.
+-- Two runs side by side, whose cache lines have the same parts at corresponding states: parts at the same place are of
+-- corresponding stores, no byte is loose in the second run alone, and for each report of the second run the first has
+-- one of the same store.
 use Rattle.std.proofs.Common.{◌≡◌, ◌⊎◌, inl, inr, ℕ, suc, ◌/◌, ◌<◌, ◌≤◌, nat_lt, List, map, Option, Some, None, slice_get, refl, sym, ap, ◌∙◌, subst, arith}
 use Rattle.hip_tree.specs.declared.program.Program.{Program}
 use Rattle.hip_lines.specs.Line.{Line, map_line}
@@ -56,7 +57,8 @@ same_place ls ls' same m k t h = go (slice_get ls m) refl h
           subst (λ o. HasPlace o k x.0.step) (sym r.1) (record { part = x.0; there = x.1; step_is = refl }),
         )
 
--- the byte is loose in the second line by the part at the same place, where no more parts of it are durable
+-- a byte that is loose in one line is loose in the other by the part at the same place, if no more of the other's parts
+-- are durable
 same_loose : (l l' : Line StorePart) → contents l' ≡ contents l → l'.durable ≤ l.durable → (b k : ℕ) (x : StorePart)
     → IsLooseBy covers l b k x → (x' : StorePart) × IsLooseBy covers l' b k x'
 same_loose l l' same less b k x h =
@@ -83,7 +85,7 @@ module _ (P Q : Program) (I : Input) (steps_of : ℕ → ℕ)
       → (u : ℕ) × HasPlace (slice_get (run Q I n).lines m) k u
   back n m k t h = same_place (run P I (steps_of n)).lines (run Q I n).lines (sym (same n)) m k t h
 
-  -- what stands at one place of both runs' lines was stored in corresponding steps
+  -- the parts at the same place of both runs' lines were stored in corresponding steps
   pub same_step : (n m k t u : ℕ) → HasPlace (slice_get (run Q I n).lines m) k t
       → HasPlace (slice_get (run P I (steps_of n)).lines m) k u → u ≡ steps_of t
   same_step n m k t u a b = by (onward t) (order (steps_of t) u)
@@ -128,7 +130,7 @@ module _ (P Q : Program) (I : Input) (steps_of : ℕ → ℕ)
       let x = same_loose h.0 r.0 r.2 r.3 b h.2.0 h.2.1 h.2.2 in
       (r.0, r.1, (h.2.0, x.0, x.1))
 
-  -- a report of Q's run has one of P's, of the same store
+  -- for each report of Q's run P's run has one of the same store
   pub report_there : (n : ℕ) (range : Range) (r' : Report) → In r' (check_reports (run Q I n) (Some range))
       → HasReportOf P Q I steps_of n range r'
   report_there n range r' i =

@@ -30,7 +30,7 @@ abbrev pub IsCalled : Program → List ℕ → Type 0
 IsCalled P callee = ((e : ExternCall) × (call_of callee ≡ Some e))
     ⊎ ((g : ℕ) × (function_number P callee ≡ Some g))
 
--- What the theorems use of soundness: `main` is there, and each call is one of an external or a defined function.
+-- What the theorems use of soundness: `main` is there, and each call is one of an external or of a defined function.
 pub record IsCallable (P : Program) : Type 0 where
   pub main_at : ℕ
   pub main : function_number P (codes "main") ≡ Some main_at
@@ -150,7 +150,7 @@ callee_there P callee externs h = in_externs (extern_of P.externs callee) refl h
         let there = extern_at P.externs callee s e in
         inl (of_table there.1 callee there.3 (holds-at declared P.externs there.0 there.1 externs.1.0 there.2))
 
--- what holds of an instruction by the rules of places
+-- each instruction meets the rules of places
 pub instr_checked : (P : Program) → (places_check P).Holds
     → (f b k : ℕ) (i : Instr) (fn : Function) (block : Block)
     → slice_get P.functions f ≡ Some fn → slice_get fn.blocks b ≡ Some block

@@ -1,4 +1,4 @@
--- What plans have, and that they suit.
+-- What the lists of plans have, and that plans suit.
 use Rattle.hip_runs.specs.Laws.Members.{both_true, any_in, in_any}
 use Rattle.std.proofs.Common.{◌≡◌, ◌⊎◌, inl, inr, ℕ, zero, suc, Bool, true, false, ◌||◌, nat_eq, List, Option, Some, None, slice_get, refl, sym, ap, ◌∙◌, subst}
 use Rattle.hip_types.specs.Laws.DistinctLaws.{or_first, or_second, either}
@@ -108,7 +108,7 @@ is_there P s test none e = go (instr_of P s) refl e
     go None q h = absurd (let z : false ≡ true = sym none ∙ h in let w : ⊥ = cc in w)
     go (Some i) q h = in_has (sites_of P) s (site_in P s i q)
 
--- a plan that suits the program names its sites alone
+-- a plan that suits the program names only sites of the program
 pub suiting_within : (P : Program) (plan : Plan) → IsSuiting P plan → IsWithin P plan
 suiting_within P plan suits = record {
   flush_after = flush;

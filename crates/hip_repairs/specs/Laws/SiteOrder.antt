@@ -51,7 +51,7 @@ filter-append test (x ∷ xs) ys = by_test (test x) (filter-append test xs ys)
     by_test true e = ap (λ zs. x ∷ zs) e
     by_test false e = e
 
--- one more site in front, if it passes
+-- one more site at the front, if it passes
 pub front_chosen : (b : Bool) (s : Site) (rest : List Site) → cond b (s ∷ rest) rest ≡ cond b (s ∷ []) [] ++ rest
 front_chosen true s rest = refl
 front_chosen false s rest = refl

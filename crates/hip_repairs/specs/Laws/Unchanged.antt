@@ -1,4 +1,4 @@
--- Where there is nothing to repair, nothing is changed.
+-- If there is nothing to repair, a repair changes nothing.
 use Rattle.std.proofs.Common.{◌≡◌, ℕ, zero, suc, Bool, true, false, cond, not, ◌&&◌, ◌||◌, List, [], ◌∷◌, ◌++◌, map, length, slice_get, refl, ap, ap₂, ◌∙◌}
 use Rattle.std.specs.List.{list_any, filter}
 use Rattle.hip_tree.specs.Sites.{sites_of}
@@ -73,7 +73,7 @@ abbrev program_with : Program → List Extern → List Function → Program
 program_with P es fs = record { globals = P.globals; externs = es; functions = fs }
 
 module _ (skip : Site → Bool) where
-  -- what the plan without repairs wants, where these stores are skipped
+  -- where the plan without repairs inserts, with these stores to skip
   abbrev w : Wanted
   w = wanted_by no_repairs skip
 

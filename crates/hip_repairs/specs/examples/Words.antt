@@ -1,4 +1,4 @@
--- Words that the worked examples are written in.
+-- The words in which the worked examples are written.
 use Rattle.std.specs.Prelude.{◌≡◌, ℕ, ◌*◌, Bool, true, false, List, [], ◌∷◌, Some, None, replicate, codes}
 use Rattle.hip_types.specs.Numbers.{bits}
 use Rattle.hip_types.specs.declared.number.Scalar.TheVariants.{Int, Ptr}
@@ -26,7 +26,7 @@ use Rattle.hip_runs.specs.Step.{run, has_ended}
 use Rattle.hip_repairs.specs.Choice.{plan_for}
 use Rattle.hip_repairs.specs.Repaired.{repaired}
 
--- `@NAME`, `%NAME`, and a number of 64 bits
+-- `@NAME`
 abbrev pub at : List ℕ → Operand
 at name = Fixed (consts.Address name)
 
@@ -62,7 +62,7 @@ persistent_i64 name =
 abbrev pub store_i64 : Operand → Operand → Instr
 store_i64 value addr = instrs.Store (Int W64) value addr None
 
--- `%NAME = alloca i64`, and `%NAME = load i64, ptr ADDR`
+-- `%NAME = alloca i64`
 abbrev pub alloca_i64 : List ℕ → Instr
 alloca_i64 name = instrs.Alloca name (types.Int W64) None
 
@@ -74,7 +74,7 @@ load_i64 name addr = instrs.Load name (Int W64) addr None
 abbrev pub call_void : List ℕ → List Arg → Instr
 call_void name args = instrs.Call None None name args
 
--- `call void @llvm.x86.clwb(ptr ADDR)`, and its declaration
+-- `call void @llvm.x86.clwb(ptr ADDR)`
 abbrev pub clwb : Operand → Instr
 clwb addr = call_void (codes "llvm.x86.clwb") (ptr_arg addr ∷ [])
 
@@ -82,7 +82,7 @@ clwb addr = call_void (codes "llvm.x86.clwb") (ptr_arg addr ∷ [])
 abbrev pub declare_clwb : Extern
 declare_clwb = record { ret = None; name = codes "llvm.x86.clwb"; params = Ptr ∷ [] }
 
--- `call void @llvm.x86.sse.sfence()`, and its declaration
+-- `call void @llvm.x86.sse.sfence()`
 abbrev pub sfence : Instr
 sfence = call_void (codes "llvm.x86.sse.sfence") []
 
@@ -107,7 +107,7 @@ main_of body =
           ∷ [];
     }
 
--- `ptr %NAME` and `i64 %NAME` as parameters
+-- `ptr %NAME` as a parameter
 abbrev pub ptr_param : List ℕ → Param
 ptr_param name = record { ty = Ptr; name = name }
 
@@ -131,14 +131,14 @@ site function index = record { function = function; block = 0; index = index }
 abbrev pub zeroed : ℕ → Input
 zeroed lines = record { base = 4294967296; image = replicate (64 * lines) 0; numbers = []; limit = 1000000000 }
 
--- The run of a program takes n steps to its end, finds these reports, and the program is repaired to that one,
--- whatever stores the clones do not flush.
+-- The run of a program takes n steps to its end and finds these reports, and the repair of the program for them is the
+-- other program, whatever stores its clones do not flush.
 pub record IsWorked (P : Program) (I : Input) (steps : ℕ) (found : List Report) (Q : Program) : Type 0 where
   pub ended : has_ended (run P I steps) ≡ true
   pub reports : reports P I steps ≡ found
   pub repaired : (skip : Site → Bool) → repaired P (plan_for P (findings P I steps)) skip ≡ Q
 
--- The same of a program with calls to hoist, where each store in a clone is flushed.
+-- The same for a program with calls to hoist, whose clones flush each store.
 pub record IsHoisted (P : Program) (I : Input) (steps : ℕ) (found : List Report) (Q : Program) : Type 0 where
   pub ended : has_ended (run P I steps) ≡ true
   pub reports : reports P I steps ≡ found

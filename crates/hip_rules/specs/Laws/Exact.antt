@@ -1,10 +1,11 @@
--- A reader that is exact for a rule, part by part.
+-- Readers that are exact for a rule, part by part.
 use Rattle.std.proofs.Common.{◌≡◌, ◌≤◌, ◌<◌, Bool, true, false, cond, List, [], ◌∷◌, length, Option, Some, None, Ok, Err, ◌⊎◌, inl, inr, refl, sym, ap, subst, ◌∙◌, arith, ◌++◌, ◌||◌, append_assoc, length-append}
 use Rattle.hip_tokens.specs.Tokens.{Tok, At}
 use Rattle.hip_rules.specs.Rule.{Rule, Later, Verdict, Yes, Because, No, done, one, both, ◌or◌}
 use Rattle.hip_rules.specs.Reader.{Outcome, Reader, on_ok, judged, done_at, one_at, both_at, next, either_at}
 
--- The reader has read the value up to rest. Another value is there only where a token follows that the test c passes.
+-- The reader has read the value up to `rest`. The rule derives another value, or this one up to another place, only
+-- where the next token passes the test c.
 pub record Accepts {F A : Type 0} (l : Rule F A) (c : Tok → Bool) (ts : List At) (a : A)
     (rest : List At) : Type 0 where
   pub derives : l.Derives ts a rest
@@ -12,7 +13,8 @@ pub record Accepts {F A : Type 0} (l : Rule F A) (c : Tok → Bool) (ts : List A
   pub last : (m : List At) → l.Front ts m → length rest ≤ length m
   pub unrefused : (why : F) (m : List At) → l.Refuses why ts m → ⊥
 
--- The tokens up to rest are a front, and no front goes further.
+-- The tokens up to `rest` are a front, and no front goes further. The rule derives a value only where the next token
+-- passes the test c.
 pub record Rejects {F A : Type 0} (l : Rule F A) (c : Tok → Bool) (ts : List At) (why : Option F)
     (rest : List At) : Type 0 where
   pub front : l.Front ts rest
@@ -51,12 +53,12 @@ later_compare a b (t ∷ u) (s ∷ v) e = later_compare a b u v (cc)
 pub later_order : (ts a b : List At) → Later ts a → Later ts b → Later a b ⊎ Later b a
 later_order ts a b p q = later_compare a b p.0 q.0 (sym p.1 ∙ q.1)
 
--- each place up to the end of a front is the end of a front
+-- each place before the end of a front is the end of a front too
 abbrev pub ClosedFronts : {F A : Type 0} → Rule F A → Type 0
 ClosedFronts l = (ts m at : List At) → l.Front ts m → Later ts at → Later at m → l.Front ts at
 
--- The reader's outcome is right wherever it begins. No tokens at all are a front of the rule, and what derives a
--- value is one; a front ends where it begins or later, and each place up to its end is the end of one.
+-- The outcome of the reader is right from each place on. No tokens are a front of the rule, and so are the tokens that
+-- derive a value. A front ends at its start or later, and each place before its end is the end of a front too.
 pub record IsExact {F A : Type 0} (l : Rule F A) (r : Reader F A) (c : Tok → Bool) : Type 0 where
   pub empty : (ts : List At) → l.Front ts ts
   pub whole : (ts : List At) (a : A) (rest : List At) → l.Derives ts a rest → l.Front ts rest
@@ -65,17 +67,17 @@ pub record IsExact {F A : Type 0} (l : Rule F A) (r : Reader F A) (c : Tok → B
   pub closed : ClosedFronts l
   pub reads : (ts : List At) → Exactly l c ts (r ts)
 
--- nothing of the rule is here
+-- the rule derives nothing here, and no token begins it
 pub record IsAbsent {F A : Type 0} (l : Rule F A) (ts : List At) : Type 0 where
   pub derives : (a : A) (m : List At) → l.Derives ts a m → ⊥
   pub front : (m : List At) → l.Front ts m → m ≡ ts
   pub refused : (why : F) (m : List At) → l.Refuses why ts m → ⊥
 
--- the test of a rule whose values never go on: no token passes
+-- the test that no token passes, for a rule whose values never go on
 abbrev pub never : Tok → Bool
 never t = false
 
--- what passes one test or the other
+-- a token passes one test or the other
 abbrev pub joined : (Tok → Bool) → (Tok → Bool) → Tok → Bool
 joined c d t = c t || d t
 
@@ -255,7 +257,7 @@ done_exact a = record {
 
 -- ---- a part and the part after it
 
--- what holds at one value and place holds at the same ones
+-- what holds of a value and a place holds of equal ones
 moved : {A : Type 0} (P : A → List At → Type 0) (a b : A) (m n : List At) → (a ≡ b) × (m ≡ n) → P a m
     → P b n
 moved P a b m n e h = subst (λ v. P b v) e.1 (subst (λ u. P u m) e.0 h)
@@ -597,7 +599,7 @@ other_absent p t ts e = record {
   refused = λ why m h. let k = verdicts p t h.1 ts h.2 No (Because why) e h.3 h.4 in cc;
 }
 
--- the test says that the token is not this one
+-- a token for which the test is false is not this one
 pub token_absent : {F A : Type 0} (p : Tok → Verdict F A) (k : Tok → Bool) (b : Bool)
     → ((t : Tok) → k t ≡ b → p t ≡ No)
     → (ts : List At) → next k ts ≡ b → IsAbsent (one p) ts

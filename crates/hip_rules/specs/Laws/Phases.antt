@@ -1,5 +1,5 @@
--- Parts of one kind and then parts of another, which begin alike: the head is read once, and the next token then tells
--- the kind.
+-- Parts of one kind and then parts of another that begin with the same head: the head is read once, and the next token
+-- decides the kind.
 use Rattle.std.proofs.Common.{◌≡◌, ℕ, zero, suc, ◌≤◌, ◌<◌, Bool, true, false, cond, List, [], ◌∷◌, ◌++◌, length, Option, Some, None, Ok, Err, refl, sym, ap, subst, ◌∙◌, arith, append_assoc}
 use Rattle.std.proofs.lemmas.List.{append-nil}
 use Rattle.hip_tokens.specs.Tokens.{Tok, At}
@@ -131,7 +131,7 @@ module _ (F X P B : Type 0) (h : Rule F X) (rh : Reader F X) (f : X → Rule F P
       same_exactly (factored_phases ps) (phases ps) d ts _ (phases_are ps)
       (opening n ps ts (next kh ts) refl (λ p rest k. phases_read n (ps ++ (p ∷ [])) rest k) le)
 
-  -- ---- the leading parts first, and then what their end asks for
+  -- ---- the leading parts first, and then what follows the last head
 
   abbrev finish : List P → List P × Option X → Reader F B
   finish ps q = by_head q.1 (rR (ps ++ q.0)) (rO (ps ++ q.0))

@@ -1,4 +1,4 @@
--- Rules that mean the same: laws by which a rule may be written in another way.
+-- Rules that mean the same: laws by which a rule may be rewritten.
 use Rattle.std.proofs.Common.{Bool, List, [], ◌∷◌, Ok, Err, inl, inr, refl, subst}
 use Rattle.hip_tokens.specs.Tokens.{Tok, At}
 use Rattle.hip_rules.specs.Rule.{Rule, both, many, AllDerive, ◌or◌}
@@ -41,7 +41,7 @@ same_exact l m r c s p = record {
   reads = λ ts. same_exactly l m c ts (r ts) s (p.reads ts);
 }
 
--- a front that two cases share is read once
+-- a front that two cases share may be read once
 pub factored : {F A B : Type 0} (l : Rule F A) (f g : A → Rule F B)
     → IsSame (both l (λ x. f x or g x)) ((both l f) or (both l g))
 unfolding both ◌or◌
@@ -338,8 +338,8 @@ module _ (F A B : Type 0) (l : Rule F A) (k : List A → Rule F B) where
         ];
   }
 
--- Where a repeated part has two cases, of which one begins by a head, what is repeated and then closed is the first
--- part by its head, the first part of the other case, or the close.
+-- If one of the two cases of a repeated part begins with a head, then the repeated parts and their close are the same
+-- as: the first part by its head, the first part of the other case, or the close.
 pub head_or_other : {F X A B : Type 0} (h : Rule F X) (f : X → Rule F A) (e : Rule F A) (k : List A → Rule F B)
     → IsSame (both h (λ x. both (f x)
     (λ i. both (many (both h f or e)) (λ is. k (i ∷ is)))) or (both e (λ i. both (many (both h f or e))

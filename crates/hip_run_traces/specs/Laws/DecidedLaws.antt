@@ -114,12 +114,12 @@ piece_same (Some x) e = by (entry_same x e)
 
 -- ---- pieces and entries
 
--- All pieces spell the first entries, and all entries where the file is whole.
+-- All pieces spell the first entries, and all entries if the file is whole.
 record Agree (whole : Bool) (ps : List (Option Entry)) (es : List Entry) : Type 0 where
   spell : ps ≡ told (take (length ps) es)
   all : whole ≡ true → ps ≡ told es
 
--- pieces and entries differ first at some number, in some way, or they agree
+-- either pieces and entries first differ at some number, in some way, or they agree
 abbrev Compared : Bool → List (Option Entry) → List Entry → Type 0
 Compared whole ps es = ((c : ℕ) × (k : MisfitKind) × FirstDiffers whole ps es c k) ⊎ Agree whole ps es
 

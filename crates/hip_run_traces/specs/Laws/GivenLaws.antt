@@ -1,5 +1,5 @@
--- The entries of a header are those before the first step of the run on the input that it gives, and that input is
--- valid.
+-- The entries of a header are those before the first step of the run on the input that the header gives, and that input
+-- is valid.
 use Rattle.std.proofs.Common.{◌≡◌, ℕ, ℤ, suc, ◌+◌, ◌-◌, ◌*◌, ◌/◌, ◌%◌, ◌^◌, ◌≤◌, ◌<◌, Bool, true, false, ◌&&◌, List, [], ◌∷◌, ◌++◌, map, length, Option, Some, None, nat_le, nat_lt, refl, sym, ap, ◌∙◌, subst, arith, append_assoc, length-append, FitsSigned, w64}
 use Rattle.std.specs.Prelude.{if◌then◌else◌, ◌==◌, All}
 use Rattle.std.proofs.lemmas.Bool.{eqb-true, and_parts}
@@ -29,7 +29,7 @@ use Rattle.hip_trace.specs.declared.entry.Entry.TheVariants.{Start, Register, In
 
 -- ---- what is spelled fits
 
--- the values of the entry that a piece spells fit the fields of its text; nothing is asked where it spells none
+-- the values of the entry that a piece spells fit the fields of its text; no condition if it spells none
 abbrev pub FitsIfThere : Option Entry → Type 0
 FitsIfThere None = Unit {0}
 FitsIfThere (Some e) = ValuesFit e
@@ -52,7 +52,7 @@ fit_pieces whole bytes = fit_texts (pieces whole bytes)
 
 -- ---- what a header has given so far
 
--- the entries after START and REGISTER that give so much
+-- the entries after START and REGISTER that give this
 abbrev so_far : Input → List Entry
 so_far J = map (λ z. Number z) J.numbers ++ image_entries (length J.image / 64) J.base J.image
 

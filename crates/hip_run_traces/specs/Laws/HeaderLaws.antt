@@ -25,7 +25,7 @@ use Rattle.hip_trace.specs.declared.entry.Entry.TheVariants.{Start, Register, In
 
 -- ---- the entries of steps belong to no header
 
--- no input goes on with the first of the entries, so that a header ends before it; true where there are none
+-- no header goes on with the first of these entries; true if there is none
 abbrev StopsIt : Program → List Entry → Type 0
 StopsIt P [] = Unit {0}
 StopsIt P (e ∷ es) = (J : Input) → with_entry P J (Some e) ≡ None

@@ -1,4 +1,4 @@
--- Cache lines of zeros have no IMAGE entry, and the entries of lines one after another are those of each.
+-- Cache lines of zeros have no IMAGE entry, and the entries of several lines are those of each line in order.
 use Rattle.std.proofs.Common.{◌≡◌, ℕ, zero, suc, ◌+◌, ◌*◌, Bool, false, List, [], ◌∷◌, ◌++◌, length, take, drop, refl, sym, ap, ◌∙◌, subst, arith, append_assoc}
 use Rattle.std.specs.Prelude.{if◌then◌else◌}
 use Rattle.std.proofs.lemmas.List.{length-drop, length-take-le, take-append-drop}
@@ -39,7 +39,7 @@ zeros-add (suc a) b =
 
 -- ---- entries of lines
 
--- the IMAGE of one cache line at an address, as a list; empty where the line has no byte other than 0
+-- the IMAGE entry of one cache line at an address, as a list; empty if the line has no byte other than 0
 abbrev pub line_entries : ℕ → List ℕ → List Entry
 line_entries addr line = if some_byte line then Image addr line ∷ [] else []
 

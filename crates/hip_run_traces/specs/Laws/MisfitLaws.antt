@@ -1,4 +1,4 @@
--- A trace has one misfit at most, which the first bytes decide, and none if it is the run's.
+-- A trace has at most one misfit, which its first bytes decide, and none if it is the run's.
 use Rattle.std.proofs.Common.{◌≡◌, ◌⊎◌, inl, inr, ℕ, zero, suc, ◌+◌, ◌≤◌, ◌<◌, Bool, true, false, List, [], ◌∷◌, ◌++◌, length, take, slice_get, Option, Some, None, refl, sym, ap, ◌∙◌, subst, arith, append_assoc, length-append}
 use Rattle.std.specs.Prelude.{option_map}
 use Rattle.std.proofs.lemmas.List.{append-nil}
@@ -45,7 +45,7 @@ get_told [] k = refl
 get_told (e ∷ es) zero = refl
 get_told (e ∷ es) (suc k) = get_told es k
 
--- where the first entries are spelled, each of them is
+-- if the pieces spell the first entries, they spell each of them
 spelled_at : (ps : List (Option Entry)) (es : List Entry) (n k : ℕ) → k < n → take n ps ≡ told (take n es)
     → slice_get ps k ≡ option_map (λ e. Some e) (slice_get es k)
 spelled_at ps es zero k lt h = absurd (omega (arith, lt))
@@ -70,7 +70,7 @@ one_kind whole None (Some e) k k' h g = h.1 ∙ sym g.1
 one_kind whole (Some p) None k k' h g = h ∙ sym g
 one_kind whole (Some p) (Some e) k k' h g = h.1 ∙ sym g.1
 
--- no difference comes before the entries that are spelled
+-- no difference comes before the end of the spelled entries
 not_before : (whole : Bool) (ps : List (Option Entry)) (es : List Entry) (c n : ℕ) (kind : MisfitKind)
     → FirstDiffers whole ps es c kind → take n ps ≡ told (take n es) → c < n → ⊥
 not_before whole ps es c n kind d h lt =
@@ -330,7 +330,7 @@ step-differs P I n whole ps es c kind t lt d =
           (sym (ap (λ (xs : List Entry). slice_get xs c) f.1 ∙ get_appended (trace P I n) f.0 c lt)) d.here;
     }
 
--- after entries that the pieces spell, the first difference is the next one
+-- after entries that the pieces spell, the first difference is that of the rest
 pub differs-behind : (whole : Bool) (front : List Entry) (ps : List (Option Entry)) (more : List Entry)
     (kind : MisfitKind) → DiffersAt whole (slice_get ps 0) (slice_get more 0) kind
     → FirstDiffers whole (told front ++ ps) (front ++ more) (length front) kind
@@ -394,7 +394,7 @@ told_append : (es fs : List Entry) → told (es ++ fs) ≡ told es ++ told fs
 told_append [] fs = refl
 told_append (e ∷ es) fs = ap (λ (ps : List (Option Entry)). Some e ∷ ps) (told_append es fs)
 
--- where pieces are the first of those that spell the entries, they spell the first entries
+-- if some pieces are the first of those that spell the entries, they spell the first entries
 first_told : (xs more : List (Option Entry)) (front es : List Entry) → told front ≡ xs ++ more
     → (rest : List Entry)
     → es ≡ front ++ rest → xs ≡ told (take (length xs) es)

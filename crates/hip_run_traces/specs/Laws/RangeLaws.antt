@@ -54,8 +54,8 @@ record AreStored (bytes : List ℕ) : Type 0 where
   sized : is_store_size (length bytes) ≡ true
   below : little_endian bytes < 2 ^ (8 * length bytes)
 
--- a store is of a value of 1, 2, 4 or 8 bytes, and the range of an assert lies in the region; nothing is asked of any
--- other action
+-- a store is of a value of 1, 2, 4 or 8 bytes, and the range of an assert lies in the region; no condition on any other
+-- action
 abbrev ranged : Input → Action → Type 0
 ranged I (Stores a bytes) = AreStored bytes
 ranged I (Asserts a n) = in_region I a n ≡ true

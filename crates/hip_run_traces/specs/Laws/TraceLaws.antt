@@ -1,4 +1,5 @@
--- The trace of a run has as many entries as the run counts, a longer run's begins with a shorter one's, and it is one.
+-- The trace of a run has as many entries as the run counts; after more steps it begins with the trace after fewer; and
+-- the run has one whole trace.
 use Rattle.std.proofs.Common.{◌≡◌, ◌⊎◌, inl, inr, ℕ, ℤ, zero, suc, ◌+◌, ◌/◌, Bool, true, false, cond, List, [], ◌∷◌, ◌++◌, map, length, take, drop, refl, sym, ap, ◌∙◌, subst, arith, append_assoc, length-append}
 use Rattle.std.specs.Prelude.{if◌then◌else◌}
 use Rattle.std.proofs.lemmas.List.{append-nil, length-map}
@@ -99,7 +100,7 @@ module _ (P : Program) (I : Input) where
 
   -- ---- the whole
 
-  -- after the end nothing more comes
+  -- a run that has ended stays ended
   rests : (n d : ℕ) → has_ended (run P I n) ≡ true → (has_ended (run P I (n + d)) ≡ true)
       × (trace P I (n + d) ≡ trace P I n)
   rests n zero h =
@@ -118,7 +119,7 @@ module _ (P : Program) (I : Input) where
   pub whole-trace : (es : List Entry) × IsTrace P I es
   whole-trace = let end = runs_end P I in (trace P I end.0, record { steps = end.0; ended = end.1; are = refl })
 
-  -- the traces at two numbers of steps at which the run has ended
+  -- the traces after two numbers of steps are equal if the run has ended after both
   ended_alike : (m n : ℕ) → has_ended (run P I m) ≡ true → has_ended (run P I n) ≡ true
       → trace P I m ≡ trace P I n
   ended_alike m n h k = go (order m n)

@@ -28,7 +28,7 @@ use Rattle.hip_runs.specs.declared.event.Object.TheVariants as objects
 
 -- ---- pointer operands
 
--- the operand of an argument of type `ptr`, as a list of one; none of an integer argument
+-- the operand of an argument of type `ptr`, as a list of one; empty for an integer argument
 abbrev pub pointer_arg : Arg → List Operand
 pointer_arg a = pointed_by a.ty a.value
   where
@@ -36,7 +36,7 @@ pointer_arg a = pointed_by a.ty a.value
     pointed_by Ptr value = value ∷ []
     pointed_by (Int w) value = []
 
--- The pointer operand of a store is its address, those of a call of a defined function are its arguments of type `ptr`.
+-- The pointer operand of a store is its address; those of a call of a defined function are its arguments of type `ptr`.
 abbrev pub pointer_operands : Program → Instr → List Operand
 pointer_operands P (Store ty value addr align) = addr ∷ []
 pointer_operands P (Call dest ret callee args) =
@@ -45,7 +45,8 @@ pointer_operands P _ = []
 
 -- ---- marks without repeats, in the order of first meeting
 
--- whether both are the global of one number, or both of one `alloca`, whose blocks all count as one object
+-- whether both are the global of the same number, or both are blocks of the same `alloca`, which all count as one
+-- object
 abbrev pub same_object : Object → Object → Bool
 same_object (objects.Global a) (objects.Global b) = nat_eq a b
 same_object (objects.Slot a) (objects.Slot b) = same_site a b
@@ -57,39 +58,40 @@ same_mark a b = same_site a.site b.site && (nat_eq a.operand b.operand && same_o
 
 -- ---- the marks of a step
 
--- the mark of pointer operand k of a site, where it pointed into an object; none where it pointed into none
+-- the mark of pointer operand k of a site, if it pointed into an object, as a list
 abbrev pub mark_of : Site → ℕ → Option Object → List Mark
 mark_of site k None = []
 mark_of site k (Some object) = record { site = site; operand = k; object = object } ∷ []
 
--- the marks of these pointer operands of the instruction at a frame's place, the first of which has number k, where
--- the frames `fs` stand
+-- the marks of these pointer operands of the instruction at a frame's place, the first of which has number k, while the
+-- frames `fs` stand
 abbrev pub operand_marks : Program → Input → List Frame → Frame → ℕ → List Operand → List Mark
 operand_marks P I fs f k [] = []
 operand_marks P I fs f k (o ∷ os) =
     mark_of (site_of f) k (object_at P I.base fs (value_of P.globals I.base f.registers o))
     ++ operand_marks P I fs f (suc k) os
 
--- the marks of the first of these instructions, which stands at the frame's place; none at the end of a block
+-- the marks of the first of these instructions, which is the one at the frame's place; none at the end of a block
 abbrev pub code_marks : Program → Input → List Frame → Frame → List Instr → List Mark
 code_marks P I fs f [] = []
 code_marks P I fs f (i ∷ rest) = operand_marks P I fs f 0 (pointer_operands P i)
 
--- the marks of the instruction at the top frame's place, whatever comes of it; none where no frame stands
+-- the marks of the instruction at the top frame's place, whether it is taken or not; none if no frame stands
 abbrev pub frame_marks : Program → Input → List Frame → List Mark
 frame_marks P I [] = []
 frame_marks P I (f ∷ fs) = code_marks P I (f ∷ fs) f (code_at P f)
 
--- where a step's event ends the run, its instruction was not taken
+-- the list, unless the event ends the run: then the step did not take its instruction
 abbrev pub unless_ended : {A : Type 0} → Event → List A → List A
 unless_ended (events.End e) xs = []
 unless_ended _ xs = xs
 
--- the marks of a state's next step; none where the run has ended, or ends with that step
+-- the marks of a state's next step; none if the run has ended, or ends with that step
 abbrev pub step_marks : Program → Input → State → List Mark
 step_marks P I s = cond (has_ended s) [] (unless_ended (event P I s) (frame_marks P I s.frames))
 
--- the persistent global that a store's address lies in; a store's event is of the region, where no other global lies
+-- the persistent global that a store's address lies in, since the event of a store is of the region, where no other
+-- global lies
 abbrev pub event_hits : Program → Input → Event → List ℕ
 event_hits P I (events.Store a value size) = option_to_list (global_at P I.base a)
 event_hits P I _ = []
@@ -110,7 +112,7 @@ hit P I (suc n) = met nat_eq (hit P I n) (event_hits P I (event P I (run P I n))
 abbrev pub findings : Program → Input → ℕ → Findings
 findings P I n = record { reports = reports P I n; marks = record { pointed = pointed P I n; hit = hit P I n } }
 
--- What a whole run found: what its first steps found when it had ended.
+-- What a whole run found: what its steps had found when it ended.
 pub record IsFound (P : Program) (I : Input) (found : Findings) : Type 0 where
   pub steps : ℕ
   pub ended : has_ended (run P I steps) ≡ true

@@ -17,7 +17,7 @@ global_from globals base a n (g ∷ gs) =
     cond (range_contains (address_in globals base n) (shape g.ty).size a) (Some n)
     (global_from globals base a (suc n) gs)
 
--- the number of the first global that contains address a, where the region begins at a base; none where none does
+-- the number of the first global that contains address a, if the region begins at a base; none if none does
 abbrev pub global_at : Program → ℕ → ℕ → Option ℕ
 global_at P base a = global_from P.globals base a 0 P.globals
 
@@ -31,11 +31,11 @@ abbrev pub or_else : Option Object → Option Object → Option Object
 or_else None later = later
 or_else (Some o) later = Some o
 
--- the first block on the stack that contains address a, from the top frame's blocks down; none where none does
+-- the first block on the stack that contains address a, from the top frame's blocks down; none if none does
 abbrev pub slot_at : List Frame → ℕ → Option Object
 slot_at [] a = None
 slot_at (f ∷ fs) a = or_else (slot_in f.slots a) (slot_at fs a)
 
--- the object that an address points into, where these frames stand
+-- the object that an address points into, while these frames stand
 abbrev pub object_at : Program → ℕ → List Frame → ℕ → Option Object
 object_at P base frames a = or_else (option_map objects.Global (global_at P base a)) (slot_at frames a)

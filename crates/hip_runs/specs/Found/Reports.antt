@@ -18,13 +18,13 @@ use Rattle.hip_runs.specs.declared.event.Event.TheVariants as events
 
 -- ---- loose parts
 
--- whether a range of n bytes from o has one of the `count` bytes from b on, and none of the later parts covers it
+-- whether a range of n bytes from o has one of the `count` bytes from b on that no later part covers
 abbrev pub shows : ℕ → ℕ → ℕ → ℕ → List StorePart → Bool
 shows o n zero b later = false
 shows o n (suc count) b later =
     (nat_le o b && (nat_lt b (o + n) && not (list_any (λ q. covers q b) later))) || shows o n count (suc b) later
 
--- whether a part is the last one over a byte of a range, where these parts follow it in its line
+-- whether a part is the last one over a byte of a range; these parts follow it in its line
 abbrev pub is_last : ℕ → ℕ → StorePart → List StorePart → Bool
 is_last o n p later = shows o n (length p.bytes) p.offset later
 
@@ -33,8 +33,8 @@ pub record LoosePart : Type 0 where
   pub part : StorePart
   pub flushed : Bool
 
--- The loose parts of a step's store in a line, in a range: those that are the last one over a byte of the range, and
--- follow all durable ones. The list has the line's parts from place k on; `durable` and `flushed` count the line's parts.
+-- The loose parts of a step's store in a line, in a range: the parts that are not durable and are the last ones over a
+-- byte of the range. The list has the line's parts from place k on; `durable` and `flushed` count the line's parts.
 abbrev pub loose_from : ℕ → ℕ → ℕ → ℕ → ℕ → ℕ → List StorePart → List LoosePart
 loose_from o n made durable flushed k [] = []
 loose_from o n made durable flushed k (p ∷ later) =
@@ -63,13 +63,13 @@ abbrev pub latest_flush : List LoosePart → Option Flush
 latest_flush [] = None
 latest_flush (p ∷ ps) = later_flush p.part.first_flush (latest_flush ps)
 
--- A store lacks a fence where all its loose parts are flushed, a flush where a fence came after it, and else both.
+-- A store lacks a fence if all its loose parts are flushed, a flush if a fence came after it, and else both.
 abbrev pub kind_of : Bool → Bool → Kind
 kind_of true fenced = MissingFence
 kind_of false true = MissingFlush
 kind_of false false = MissingBoth
 
--- whether each of these loose parts is flushed; so it is where there is none
+-- whether each of these loose parts is flushed; true if there is none
 abbrev pub all_flushed : List LoosePart → Bool
 all_flushed ps = list_all (λ p. p.flushed) ps
 
@@ -87,8 +87,7 @@ abbrev pub closed_count : List Level → List Level → ℕ
 closed_count standing [] = 0
 closed_count standing (l ∷ ls) = cond (is_open standing l) (closed_count standing ls) (suc (closed_count standing ls))
 
--- the report of a store from its loose parts, of which p is one, at the check whose entry has that number, where
--- these calls stand
+-- the report of a store from its loose parts, of which p is one, at the check with this entry, while these calls stand
 abbrev pub report_by : List Level → ℕ → StorePart → List LoosePart → Report
 report_by standing check p ps =
     record {
@@ -112,8 +111,8 @@ pub record Range : Type 0 where
   pub offset : ℕ
   pub size : ℕ
 
--- What a step with this event checks in a region of that base and that size: `pm_assert` its range, and the return of
--- the bottom frame the whole region. A trap or a cut checks nothing.
+-- What a step with this event checks in a region with that base and size: a `pm_assert` checks its range, and the
+-- return of the bottom frame the whole region. A trap or a cut checks nothing.
 abbrev pub checked_range : ℕ → ℕ → Event → Option Range
 checked_range base region (events.Assert a n) = Some (record { offset = a - base; size = n })
 checked_range base region (events.End (Stop code)) = Some (record { offset = 0; size = region })
@@ -123,11 +122,11 @@ checked_range base region _ = None
 abbrev pub checked_by : Input → Event → Option Range
 checked_by I e = checked_range I.base (length I.image) e
 
--- the range that the next step checks, where the run has not ended
+-- the range that the next step checks, if the run has not ended
 abbrev pub next_check : Program → Input → State → Option Range
 next_check P I s = cond (has_ended s) None (checked_by I (event P I s))
 
--- the reports of a step's store at a check of a range: one where it has loose parts in the range
+-- the reports of a step's store at a check of a range: one if it has loose parts in the range
 abbrev pub reports_for : State → Range → ℕ → List Report
 reports_for s range made =
     report_of (levels_of s.frames) (suc s.counts.entries) (loose_parts range.offset range.size s.lines made)

@@ -1,5 +1,5 @@
--- The score of a site: how likely its pointers are to point into persistent memory. (This project's own; nothing of
--- it is claimed of the Hippocrates tool.)
+-- The score of a site: how likely its pointers are to point into persistent memory. (This project's own; no claim is
+-- made about the Hippocrates tool's score.)
 use Rattle.std.specs.Prelude.{ℕ, suc, Bool, true, false, cond, ◌&&◌, nat_eq, List, [], ◌∷◌, Option, Some, None, ℤ, pos, negsuc, ◌+ℤ◌, int_lt}
 use Rattle.std.specs.List.{list_any}
 use Rattle.hip_tree.specs.Sites.{instr_of, same_site}
@@ -24,7 +24,7 @@ abbrev pub worth_of : Bool → ℤ
 worth_of true = pos 1
 worth_of false = negsuc 0
 
--- the number of marked objects less the number of the others, of the objects that an operand pointed into
+-- of the objects that an operand pointed into, the number of marked ones less the number of the others
 abbrev pub worth_in : List ℕ → Site → ℕ → List Mark → ℤ → ℤ
 worth_in hit site operand [] sum = sum
 worth_in hit site operand (m ∷ ms) sum =
@@ -35,17 +35,17 @@ worth_in hit site operand (m ∷ ms) sum =
 abbrev pub worth : Marks → Site → ℕ → ℤ
 worth marks site operand = worth_in marks.hit site operand marks.pointed (pos 0)
 
--- the greater of a number and one that there may be
+-- the greater of a number and another one, if there is another
 abbrev pub greater : ℤ → Option ℤ → Option ℤ
 greater a None = Some a
 greater a (Some b) = Some (cond (int_lt a b) b a)
 
--- the greatest worth of these operands of a site, the first of which has number k; none where there is no operand
+-- the greatest worth of these operands of a site, the first of which has number k; none if there is no operand
 abbrev pub greatest_worth : Marks → Site → ℕ → List Operand → Option ℤ
 greatest_worth marks site k [] = None
 greatest_worth marks site k (o ∷ os) = greater (worth marks site k) (greatest_worth marks site (suc k) os)
 
--- the pointer operands of an instruction; none where there is no instruction
+-- the pointer operands of an instruction; none if there is no instruction
 abbrev pub operands_at : Program → Option Instr → List Operand
 operands_at P None = []
 operands_at P (Some i) = pointer_operands P i
@@ -66,12 +66,12 @@ pub record Worth : Type 0 where
 abbrev pub is_worth_of : Worth → Site → ℕ → Bool
 is_worth_of w site operand = same_site w.site site && nat_eq w.operand operand
 
--- the worth that a table gives an operand of a site; 0 where it has none
+-- the worth that a table gives an operand of a site; 0 if it has none
 abbrev pub worth_at : List Worth → Site → ℕ → ℤ
 worth_at [] site operand = pos 0
 worth_at (w ∷ ws) site operand = cond (is_worth_of w site operand) w.worth (worth_at ws site operand)
 
--- the table after one mark more
+-- the table after one more mark
 abbrev pub with_mark : List ℕ → List Worth → Mark → List Worth
 with_mark hit [] m =
     record { site = m.site; operand = m.operand; worth = pos 0 +ℤ worth_of (is_marked hit m.object) } ∷ []
@@ -80,7 +80,7 @@ with_mark hit (w ∷ ws) m =
     (record { site = w.site; operand = w.operand; worth = w.worth +ℤ worth_of (is_marked hit m.object) } ∷ ws)
     (w ∷ with_mark hit ws m)
 
--- the table after these marks more, taken in order, where the globals of these numbers were stored into
+-- the table after these marks, in order, where the globals of these numbers were stored into
 abbrev pub worths_from : List ℕ → List Worth → List Mark → List Worth
 worths_from hit ws [] = ws
 worths_from hit ws (m ∷ ms) = worths_from hit (with_mark hit ws m) ms

@@ -1,5 +1,5 @@
--- What the loose bytes of a range tell of loose parts and of reports: a loose byte's tag is the step of the store
--- that it is of.
+-- The loose bytes of a range, from which loose parts and reports follow: the tag of a loose byte is the step of its
+-- store.
 use Rattle.std.specs.Prelude.{◌≡◌, ℕ, Some, slice_get, nat_lt, ◌+◌, ◌<◌, ◌≤◌, Bool, not, ◌||◌, nat_eq, List, [], ◌∷◌}
 use Rattle.std.specs.List.{list_all, list_any}
 use Rattle.hip_grammar.specs.Spelling.{not_empty}
@@ -13,12 +13,12 @@ use Rattle.hip_runs.specs.StoredParts.Shown.{shown}
 use Rattle.hip_runs.specs.State.{StorePart, State}
 use Rattle.hip_lines.specs.Parts as bytes
 
--- the loose bytes of a range of a state's lines, as the code's lines yield them
+-- the loose bytes of a range of a state's lines, as the code's lines give them
 abbrev pub loose_bytes : State → ℕ → ℕ → List LooseByte
 loose_bytes s o n = bytes.loose_from (shown s.lines) o n
 
--- A part of a step's store is loose, in the n bytes from o, where some byte of them is loose by it: it is the last
--- part over the byte, and is not durable. It is flushed where it stands before the flushed number of its line.
+-- A part of a step's store is loose, in the n bytes from o, if some byte of them is loose by it: it is the last part
+-- over the byte, and is not durable. It is flushed if its place is before the flushed number of its line.
 pub record IsLoosePart (o n made : ℕ) (ls : List (Line StorePart)) (p : LoosePart) : Type 0 where
   pub line : ℕ
   pub of : Line StorePart
@@ -39,16 +39,16 @@ has_tag made bs = list_any (λ b. nat_eq b.tag made) bs
 abbrev pub tag_flushed : ℕ → List LooseByte → Bool
 tag_flushed made bs = list_all (λ b. not (nat_eq b.tag made) || b.flushed) bs
 
--- The loose parts of a store, and the loose bytes that have its tag: each of either has one of the other that is
--- flushed alike.
+-- Each loose part of a store has a loose byte with the store's tag that is flushed alike, and each such byte has such a
+-- part.
 pub record AreAlike (ps : List LoosePart) (bs : List LooseByte) (made : ℕ) : Type 0 where
   pub byte_of : (p : LoosePart) → In p ps → (b : LooseByte) × In b bs × (b.tag ≡ made)
       × (b.flushed ≡ p.flushed)
   pub part_of : (b : LooseByte) → In b bs → b.tag ≡ made → (p : LoosePart) × In p ps
       × (p.flushed ≡ b.flushed)
 
--- A store has loose parts exactly where some loose byte has its tag, and all are flushed exactly where all those
--- bytes are.
+-- A store has loose parts exactly if some loose byte has its tag, and all parts are flushed exactly if all those bytes
+-- are.
 pub record AreToldBy (ps : List LoosePart) (bs : List LooseByte) (made : ℕ) : Type 0 where
   pub alike : AreAlike ps bs made
   pub some : not_empty ps ≡ has_tag made bs

@@ -1,4 +1,4 @@
--- What each report of a run is.
+-- What holds of each report of a run.
 use Rattle.std.specs.Prelude.{◌≡◌, ℕ, suc, ◌<◌, Bool, true, false, is_some, length, Some, slice_get}
 use Rattle.hip_tree.specs.Sites.{instr_of}
 use Rattle.hip_tree.specs.declared.program.Program.{Program}
@@ -14,9 +14,9 @@ lacks_fence_alone MissingFence = true
 lacks_fence_alone MissingFlush = false
 lacks_fence_alone MissingBoth = false
 
--- A report names a flush exactly where a fence alone is missing, and fewer calls have returned than its path is long.
--- The path begins at a store and goes on with calls of functions of the program; the flush is a call that flushes and
--- takes no fence.
+-- A report names a flush exactly if only a fence is missing, and fewer calls have returned than its path is long. The
+-- path begins at a store and goes on with calls of functions of the program; the flush is a call that flushes and takes
+-- no fence.
 pub record IsWellFormed (P : Program) (r : Report) : Type 0 where
   pub flush_site : is_some r.flush_site ≡ lacks_fence_alone r.kind
   pub closed : r.closed < length r.path

@@ -1,4 +1,4 @@
--- What a step does to the frames, and so how the calls of a part stand to those that stand later.
+-- What a step does to the frames; and from that, which of a part's calls still stand later.
 use Rattle.std.proofs.Common.{◌≡◌, inl, inr, ℕ, zero, suc, ◌≤◌, Bool, true, false, cond, List, [], ◌∷◌, Option, Some, None, is_some, refl, sym, ap, subst, arith}
 use Rattle.hip_tree.specs.Sites.{instr_of}
 use Rattle.hip_tree.specs.declared.program.Program.{Program}
@@ -22,7 +22,7 @@ same_call : (f : Frame) → IsSameCall f f
 same_call f = record { function = refl; mark = refl; dest = refl; level = refl }
 
 module _ (P : Program) (s : State) where
-  -- the top frames of a state that is not opened
+  -- a return moves the frames
   leave_moves : (v : ℕ) (w : World) (f : Frame) (fs : List Frame) (ls : List (Line StorePart)) (after : Counts)
       → s.frames ≡ f ∷ fs → after.steps ≡ suc s.counts.steps → Moves P s (leave v w f fs ls after)
   unfolding leave
@@ -71,7 +71,7 @@ module _ (P : Program) (s : State) where
       go true = stays f f fs q refl (same_call f) c
       go false = perform_moves I _ f fs s.lines after q c d.action h
 
--- a frame stands in each state of a run, so that a step moves it or rests
+-- each step moves the frames or rests, since a frame stands in each state of a run
 pub step_moves : (P : Program) (I : Input) (s : State) → Moves P s (step P I s)
 unfolding step on_ending on_frames
 step_moves P I s = go s.world.ending
@@ -107,7 +107,7 @@ steps_few P I zero = omega arith
 steps_few P I (suc n) =
     omega (arith, steps_few P I n, (steps_next P (run P I n) (step P I (run P I n)) (step_moves P I (run P I n))).1)
 
--- ---- calls
+-- ---- calls are of defined functions
 
 later : (ls : List Level) (m n : ℕ) → m ≤ n → AreDescending ls m → AreDescending ls n
 later [] m n le h = tt
@@ -154,7 +154,7 @@ module _ (P : Program) where
   among (l ∷ ls) h v (inl e) = subst (λ (x : Level). is_defined_call P (instr_of P x.call) ≡ true) (sym e) h.0
   among (l ∷ ls) h v (inr i) = among ls h.1 v i
 
-  -- the calls that stand are calls of functions of the program
+  -- the standing calls are calls of functions of the program
   pub calls_defined : (I : Input) (n : ℕ) (v : Level) → In v (levels_of (run P I n).frames)
       → is_defined_call P (instr_of P v.call) ≡ true
   calls_defined I n v i = among (levels_of (run P I n).frames) (run_defined I n) v i

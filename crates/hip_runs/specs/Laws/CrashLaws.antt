@@ -19,7 +19,7 @@ use Rattle.hip_runs.specs.Step.{event, run}
 use Rattle.hip_runs.specs.Laws.StepLaws.{Cases, step-cases, length-lines, ordered-flushed_by}
 use Rattle.hip_runs.specs.Validity.{IsValid}
 
--- ---- every image is a choice of first parts, and every choice gives an image
+-- ---- every image is the content of a pick, and every pick gives an image
 
 whole_lines : (P : Program) (I : Input) → IsValid P I → length I.image ≡ 64 * (length I.image / 64)
 whole_lines P I v = go (end_of true 0 P.globals) v.image
@@ -46,9 +46,9 @@ image-choice P I n content v h =
       sym (image-image_of covers byte_of I.image content ls h (same_size P I n v)),
     )
 
--- ---- which steps take images away, and which add some
+-- ---- which steps remove images, and which add some
 
--- A change of parts that keeps the bytes of each.
+-- A change of parts that keeps the bytes of each part.
 abbrev IsSame : (StorePart → StorePart) → Type 0
 IsSame f =
     (x : StorePart) (b first : ℕ)
@@ -71,11 +71,11 @@ front_same f h q xs b first =
     ap (λ ys. byte_after covers byte_of ys b first) (take_map f q xs) ∙ byte_same f h (take q xs) b first
 
 module _ (first content : List ℕ) (j : ℕ) where
-  -- in cache line j the content is one that a crash may leave of this line
+  -- in cache line j, a crash may leave the content of this line
   abbrev At : Line StorePart → Type 0
   At l = IsLineImage covers byte_of first content j l
 
-  -- an image of the line of changed parts is one of the line, if the line has no more durable parts
+  -- if the changed line has at least as many durable parts, an image of it is one of the line
   unmet : (f : StorePart → StorePart) → IsSame f → (l l' : Line StorePart) → l'.parts ≡ map f l.parts
       → l.durable ≤ l'.durable → At l' → At l
   unmet f s l l' e d h = (
@@ -119,12 +119,12 @@ some_before g None y e = absurd (let z : ⊥ = cc in z)
 some_before g (Some x) y e = (x, refl, cc)
 
 module _ (I : Input) (ls : List (Line StorePart)) where
-  -- each image of the other lines is one of these
+  -- each image of the other lines is an image of these
   abbrev OnlyOf : List (Line StorePart) → Type 0
   OnlyOf ls' =
       (content : List ℕ) → IsImage covers byte_of I.image ls' content → IsImage covers byte_of I.image ls content
 
-  -- each image of these lines is one of the other lines
+  -- each image of these lines is an image of the other lines
   abbrev AllOf : List (Line StorePart) → Type 0
   AllOf ls' =
       (content : List ℕ) → IsImage covers byte_of I.image ls content → IsImage covers byte_of I.image ls' content
@@ -213,7 +213,7 @@ kept I s = record {
   fence = λ q. absurd (let z : ⊥ = cc in z);
 }
 
--- only a fence takes crash images away
+-- only a fence removes crash images
 pub only_fences_remove : (P : Program) (I : Input) (n : ℕ) (content : List ℕ)
     → fences (event P I (run P I n)) ≡ false
     → IsCrashImage I (run P I n) content → IsCrashImage I (run P I (suc n)) content

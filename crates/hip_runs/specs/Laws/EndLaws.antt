@@ -55,8 +55,8 @@ drop_next (y ∷ xs) (suc k) x ys e = drop_next xs k x ys e
 
 -- ---- what a step does
 
--- The run has ended, or a turn more was taken, which the limit allowed, or the top frame has one instruction less to
--- do.
+-- The run has ended; or one more turn was taken, which the limit allowed; or the top frame has one instruction less
+-- left.
 pub data Goes (P : Program) (I : Input) (turns left : ℕ) (s : State) : Type 0 where
   ended : has_ended s ≡ true → Goes P I turns left s
   turned : (f : Frame) (fs : List Frame) → s.frames ≡ f ∷ fs → s.world.turns ≡ suc turns → turns < I.limit
@@ -90,7 +90,7 @@ turn_goes P I turns left w f fs ls c d (Calls g rs to) e lt = turned _ _ refl e 
 turn_goes P I turns left w f fs ls c d (Jumps b rs) e lt = turned _ _ refl e lt
 turn_goes P I turns left w f fs ls c d (Returns v) e lt = leave_goes P I turns left v w f fs ls d e lt
 
--- what is no turn flushes or fences, or traps
+-- an action that is no turn flushes, fences or traps
 abbrev is_still : Action → Type 0
 is_still (Traps kind) = Unit {0}
 is_still (Flushes a n) = Unit {0}
@@ -98,7 +98,7 @@ is_still (Persists a n) = Unit {0}
 is_still Fences = Unit {0}
 is_still _ = ⊥
 
--- the action flushes, fences or traps, as that of an instruction does that is no turn
+-- the action flushes, fences or traps, as that of each instruction does that is no turn
 record IsStill (x : Action) : Type 0 where
   is : is_still x
 

@@ -1,4 +1,4 @@
--- What the action and the event of a step tell of the instruction that they are of.
+-- How the action and the event of a step fit the instruction of the step.
 use Rattle.std.proofs.Common.{◌≡◌, ℕ, ◌+◌, Bool, true, false, cond, ◌%◌, nat_eq, nat_le, nat_lt, ℤ, List, [], ◌∷◌, length, Option, Some, None, slice_get, Result, Ok, Err, refl, sym, ap, ◌∙◌, subst}
 use Rattle.hip_tree.specs.Sites.{instr_of}
 use Rattle.hip_tree.specs.declared.block.End.{End}
@@ -42,8 +42,9 @@ use Rattle.hip_runs.specs.declared.event.Event.TheVariants as events
 
 -- ---- actions of instructions
 
--- A store is of a `store`, and each of its bytes is below 256; a flush is of a call that flushes and takes no fence,
--- a persist of a call that does both; a call is of a call of that function. Nothing is said of other actions.
+-- A store is that of a `store`, and each of its bytes is below 256. A flush is that of a call that flushes and takes no
+-- fence, a persist that of a call that does both. A call is that of a call of the same function. All other actions fit
+-- any instruction.
 abbrev fits : Program → Action → Option Instr → Type 0
 fits P (Stores a bytes) o = (is_store o ≡ true) × (bytes_of (length bytes) (little_endian bytes) ≡ bytes)
 fits P (Flushes a n) o = is_flush_call o ≡ true
@@ -51,11 +52,11 @@ fits P (Persists a n) o = is_persist_call o ≡ true
 fits P (Calls g rs to) o = called_number P o ≡ Some g
 fits P _ o = Unit {0}
 
--- what an action may be, from the instruction that it is of
+-- the action fits the instruction
 pub record Fits (P : Program) (x : Action) (o : Option Instr) : Type 0 where
   pub is : fits P x o
 
--- the bytes of a value are those of the value that they stand for
+-- writing the number of a value's bytes gives the same bytes
 written : (n v : ℕ) → bytes_of (length (bytes_of n v)) (little_endian (bytes_of n v)) ≡ bytes_of n v
 written n v = bytes_of-little_endian (bytes_of n v) (λ i. bytes_of-below n v i)
 
@@ -174,15 +175,15 @@ fits_end P I f (Some ends.Unreachable) o = record { is = tt {0} }
 
 -- ---- events
 
--- A store is of a `store`, a flush of a call that flushes and takes no fence, a persist of a call that does both.
--- Nothing is said of other events.
+-- A store is that of a `store`, a flush that of a call that flushes and takes no fence, a persist that of a call that
+-- does both. All other events fit any instruction.
 abbrev told : Event → Option Instr → Type 0
 told (events.Store a v n) o = is_store o ≡ true
 told (events.Flush l n) o = is_flush_call o ≡ true
 told (events.Persist l n) o = is_persist_call o ≡ true
 told _ o = Unit {0}
 
--- what an event may be, from the instruction that it is of
+-- the event fits the instruction
 pub record Told (e : Event) (o : Option Instr) : Type 0 where
   pub is : told e o
 
@@ -220,7 +221,7 @@ at_told P I w fs d o h =
     told_cond (is_cut I w d) (events.End Cut) (event_of I fs d.action) o (record { is = tt {0} })
     (event_told P I fs d.action o h)
 
--- what the top frame does next fits the instruction at which it stands
+-- what the top frame does next fits the instruction at its place
 pub deed_fits : (P : Program) (I : Input) (w : World) (f : Frame) (fs : List Frame)
     → Fits P (deed_at P I w f fs).action (instr_of P (site_of f))
 deed_fits P I w f fs = by_code (code_at P f) refl
@@ -234,7 +235,7 @@ deed_fits P I w f fs = by_code (code_at P f) refl
         subst (Fits P (instr_action P I w (length fs) f.registers i)) (sym at)
         (fits_instr P I w (length fs) f.registers i)
 
--- and so does the event that is seen of it
+-- and so does the event of that step
 pub site_told : (P : Program) (I : Input) (s : State) (t : Site) → top_site s.frames ≡ Some t
     → Told (event P I s) (instr_of P t)
 unfolding event

@@ -16,7 +16,7 @@ index_drop (suc n) [] i = refl
 index_drop (suc n) (x ∷ xs) i =
     index_drop n xs i ∙ (let e : suc (n + i) ≡ suc n + i = omega arith in ap (slice_index (x ∷ xs)) e)
 
--- the test that a byte lies in a range, by what it says
+-- what the test that a byte lies in a range decides
 covered : (first size b : ℕ) → nat_le first b && nat_lt b (first + size) ≡ true → (first ≤ b)
     × (b < first + size)
 covered first size b h = (grind (arith, nat_tests), grind (arith, nat_tests))

@@ -1,4 +1,4 @@
--- Every run keeps its history.
+-- Each state of a run keeps the history of its parts.
 use Rattle.std.proofs.Common.{◌≡◌, ◌⊎◌, inl, inr, ℕ, zero, suc, ◌+◌, ◌-◌, ◌<◌, ◌≤◌, Bool, true, false, cond, ◌||◌, nat_eq, List, [], ◌∷◌, ◌++◌, map, length, Option, Some, None, slice_get, refl, sym, ap, ◌∙◌, subst, arith, append_assoc}
 use Rattle.std.specs.Prelude.{option_and_then}
 use Rattle.std.proofs.lemmas.Bool.Decides.{nat_tests}
@@ -27,11 +27,11 @@ use Rattle.hip_runs.specs.State.{Level, Flush, StorePart, Frame, World, Counts, 
 use Rattle.hip_runs.specs.Step.{stop, with_turn, start, is_cut, leave, perform, carry_out, deed_at, on_frames, on_ending, step, event_at, counted, run}
 use Rattle.hip_tree.specs.declared.block.End.TheVariants as ends
 
--- an instruction stands at the site
+-- there is an instruction at the site
 abbrev Stands : Program → Site → Type 0
 Stands P s = (i : Instr) × (instr_of P s ≡ Some i)
 
--- What a run keeps, of the calls that stand, its lines, and how many steps were taken.
+-- What a run keeps, by the standing calls, the cache lines, and the number of steps that were taken.
 record IsKept (P : Program) (up : List Level) (ls : List (Line StorePart)) (n : ℕ) : Type 0 where
   made : (x : StorePart) → PartOf ls x → x.step < n
   flush_made : (x : StorePart) (f : Flush) → PartOf ls x → x.first_flush ≡ Some f → f.step < n
@@ -55,13 +55,13 @@ descending_later : (up : List Level) (n : ℕ) → AreDescending up n → AreDes
 descending_later [] n h = tt
 descending_later (l ∷ ls) n h = (omega (arith, h.0), h.1)
 
--- all calls that stand were made before step n
+-- the standing calls were made before step n
 pub born_before : (up : List Level) (n : ℕ) → AreDescending up n → (v : Level) → In v up → v.birth < n
 born_before [] n h v i = absurd i
 born_before (l ∷ ls) n h v (inl e) = subst (λ (x : Level). x.birth < n) (sym e) h.0
 born_before (l ∷ ls) n h v (inr i) = omega (arith, h.0, born_before ls l.birth h.1 v i)
 
--- a call that is not among those made before step b, and was made at step b or later, does not stand
+-- a call that was made at step b or later does not stand if all standing calls were made before step b
 closed_there : (up : List Level) (b : ℕ) → AreDescending up b → (v : Level) → b ≤ v.birth
     → is_open up v ≡ false
 closed_there [] b h v le = refl
@@ -138,7 +138,7 @@ module _ (P : Program) where
       go true e = absurd (let z : ⊥ = cc in z)
       go false e = e
 
-  -- where the frame of call l returns, l goes over to the calls that have returned
+  -- if the frame of call l returns, l becomes one of the calls that have returned
   split_return : (up levels : List Level) (l : Level) → AreDescending up l.birth → IsParted (l ∷ up) levels
       → IsParted up levels
   split_return up levels l down s = go s.above s.outermost
@@ -287,7 +287,7 @@ module _ (P : Program) where
       go false h = (x, refl, inl (let q : l ≡ x = cc in q))
   get_flushed flush o n j (x ∷ ls) (suc m) l e = get_flushed flush o n (suc j) ls m l e
 
-  -- a part that a flush may have met has the same store
+  -- a part that a flush may have changed is of the same store
   record IsSameStore (y x : StorePart) : Type 0 where
     step : y.step ≡ x.step
     site : y.site ≡ x.site
@@ -438,7 +438,7 @@ module _ (P : Program) where
   get_front (z ∷ xs) y x zero e lt = e
   get_front (z ∷ xs) y x (suc k) e lt = get_front xs y x k e (omega arith)
 
-  -- the part is one of before, or a new one
+  -- a store keeps this; each part after it is an old part or a new one
   store_here : (up : List Level) (ls : List (Line StorePart)) (counts : Counts) (s : Site) (o : ℕ) (bytes : List ℕ)
       → Stands P s → IsKept P up ls counts.steps →
       IsKept P up (stored (part_of_store counts s up o bytes) o (length bytes) ls) (suc counts.steps)
@@ -504,7 +504,7 @@ module _ (P : Program) where
       never x f j e h = let q : None ≡ Some f = sym (ap (λ (y : StorePart). y.first_flush) e) ∙ h in
           let z : ⊥ = cc in z
 
-      -- an old part and a new one are of different steps, and two new ones are of one store
+      -- an old part and a new one are of different steps, and two new parts are of the same store
       both : {A : Type 0} (x y : StorePart) → PartOf ls x
           ⊎ ((j : ℕ) × (x ≡ part_of_store counts s up o bytes j))
           → PartOf ls y ⊎ ((j : ℕ) × (y ≡ part_of_store counts s up o bytes j)) → x.step ≡ y.step
@@ -547,7 +547,7 @@ module _ (P : Program) where
 
   -- ---- a step
 
-  -- the state keeps what is kept of lines, under its calls and with the steps that it counts
+  -- the state keeps what a run keeps, by its own calls, lines and count of steps
   abbrev StateKept : State → Type 0
   StateKept s = IsKept P (levels_of s.frames) s.lines s.counts.steps
 
@@ -736,10 +736,10 @@ module _ (P : Program) where
         split = k.split;
       }
 
-  -- in each line at most as many parts are durable as are flushed, and at most as many are flushed as it has
+  -- in each line at most as many parts are durable as are flushed, and at most as many are flushed as there are
   pub lines_ordered : (I : Input) (n : ℕ) → AreOrdered (run P I n).lines
   lines_ordered I n = (run_kept I n).ordered
 
-  -- the calls that stand were made one after another
+  -- the standing calls were made one after another
   pub calls_descend : (I : Input) (n : ℕ) → AreDescending (levels_of (run P I n).frames) (run P I n).counts.steps
   calls_descend I n = (run_kept I n).stack

@@ -41,8 +41,7 @@ take_parts (suc d) (suc q) (x ∷ xs) le =
     ap (λ ys. x ∷ ys) (take_parts d q xs (omega (arith, le)))
     ∙ ap (λ k. x ∷ (take d xs ++ take k (drop d xs))) (let e : q - d ≡ suc q - suc d = omega arith in e)
 
--- The first parts of a line, applied to a byte, give what its durable parts give with the rest of the first parts
--- applied to it.
+-- The byte after the first q parts of a line, from the byte after its durable parts.
 pub behind_durable : (l : Line StorePart) (q b first : ℕ) → l.durable ≤ q →
     byte_after covers byte_of (take q l.parts) b first
     ≡ byte_after covers byte_of (take (q - l.durable) (drop l.durable l.parts)) b

@@ -1,5 +1,5 @@
--- What every run keeps of each of its lines: its parts lie in it, their steps ascend, those that are not flushed have
--- no first flush, and those that are fenced are the ones before the last fence.
+-- What every run keeps of each of its lines: its parts lie in it, their steps ascend, and the parts that are not
+-- flushed have no first flush. And a part is fenced exactly if a fence came after its store.
 use Rattle.std.proofs.Common.{◌≡◌, ◌⊎◌, inl, inr, ℕ, zero, suc, ◌+◌, ◌-◌, ◌/◌, ◌<◌, ◌≤◌, Bool, true, false, cond, List, [], ◌∷◌, ◌++◌, length, map, take, drop, Option, Some, None, option_map, slice_get, refl, sym, ap, ◌∙◌, subst, arith, length-append, length-drop}
 use Rattle.std.proofs.lemmas.List.{length-map, length-take-le}
 use Rattle.hip_tree.specs.declared.program.Program.{Program}
@@ -93,7 +93,7 @@ well_fence n m l h = record {
       ∙ h.unflushed k r.0 r.1 le;
 }
 
--- a place of a list to which one more item was added
+-- the place is one of the list, or that of one more item at its end
 data Place {A : Type 0} (xs : List A) (y : A) (k : ℕ) (x : A) : Type 0 where
   before : k < length xs → slice_get xs k ≡ Some x → Place xs y k x
   last : k ≡ length xs → x ≡ y → Place xs y k x
@@ -164,7 +164,7 @@ well_store n m y l o inside at_line step none h = record {
 
 -- ---- all lines
 
--- what is kept of a line of a state after n steps holds of each of these lines, the first of which has number 0
+-- each of these lines is that of a state after n steps, the first of them line 0
 abbrev pub AreWell : ℕ → List (Line StorePart) → Type 0
 AreWell n ls = (m : ℕ) (l : Line StorePart) → slice_get ls m ≡ Some l → IsWell n m l
 

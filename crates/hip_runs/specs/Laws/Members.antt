@@ -1,4 +1,4 @@
--- Tests and what they tell; and members of lists: by a test, of a flat map, and by their places.
+-- Tests and what they decide; and members of lists: by a test, of a flat map, and by their places.
 use Rattle.std.proofs.Common.{◌≡◌, ◌⊎◌, inl, inr, ℕ, zero, suc, Bool, true, false, ◌||◌, List, [], ◌∷◌, Some, slice_get, refl, subst, arith, nat_eq, sym, ◌<◌, ◌≤◌, drop}
 use Rattle.std.specs.List.{flat_map, list_any, list_all}
 use Rattle.hip_runs.specs.StoredParts.Parts.{In}
@@ -7,7 +7,7 @@ use Rattle.hip_types.specs.Laws.DistinctLaws.{or_second}
 use Rattle.std.proofs.lemmas.Bool.Decides.{nat_tests}
 use Rattle.std.specs.Prelude.{nat_le, nat_lt, ◌&&◌}
 
--- ---- tests and what they tell
+-- ---- tests and what they decide
 
 pub both_true : (a b : Bool) → a && b ≡ true → (a ≡ true) × (b ≡ true)
 both_true true b h = (refl, h)
@@ -101,7 +101,7 @@ module _ {A : Type 0} (test : A → Bool) where
   all_in [] h = refl
   all_in (y ∷ xs) h = true_both (h y (inl refl)) (all_in xs (λ x i. h x (inr i)))
 
--- the first item of what follows the first n items stands at place n
+-- the first item after the first k items is at place k
 pub get_drop : {A : Type 0} (xs : List A) (k : ℕ) (x : A) (ys : List A) → drop k xs ≡ x ∷ ys
     → slice_get xs k ≡ Some x
 get_drop [] zero x ys e = cc

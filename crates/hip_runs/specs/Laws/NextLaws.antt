@@ -1,4 +1,4 @@
--- What a step does to the cache lines and to the count of entries, from its event and what stood before it.
+-- What a step does to the cache lines and to the count of entries, by its event and the state before it.
 use Rattle.std.proofs.Common.{◌≡◌, ◌⊎◌, inl, inr, ℕ, zero, suc, ◌+◌, ◌-◌, ◌*◌, ◌/◌, ◌<◌, ◌≤◌, Bool, true, false, cond, ◌&&◌, nat_lt, List, [], ◌∷◌, length, Option, Some, None, refl, sym, ap, ap₂, ◌∙◌, subst, arith}
 use Rattle.std.proofs.lemmas.Bool.Decides.{nat_tests}
 use Rattle.std.specs.Prelude.{is_some}
@@ -93,7 +93,7 @@ next_cases I s = record {
   fence = refl;
 }
 
--- the next lines follow from the event, the site and the calls of the top frame, and the counts
+-- the lines after a step, by its event, the site and the calls of the top frame, and the counts
 pub next_lines : (P : Program) (I : Input) (n : ℕ)
     → (run P I (suc n)).lines ≡ lines_after I (event P I (run P I n)) (run P I n).counts
     (top_site (run P I n).frames)
@@ -126,7 +126,7 @@ perform_counts I w f fs ls before after (Calls g rs to) = refl
 perform_counts I w f fs ls before after (Jumps b rs) = refl
 perform_counts I w f fs ls before after (Returns v) = leave_counts v w f fs ls after
 
--- a deed leaves the counts that it is given
+-- the counts after a deed are those that it is given for the state after it
 pub carry_counts : (I : Input) (w : World) (f : Frame) (fs : List Frame) (ls : List (Line StorePart))
     (before after : Counts) (d : Deed) → (carry_out I w f fs ls before after d).counts ≡ after
 unfolding carry_out
@@ -138,7 +138,7 @@ carry_counts I w f fs ls before after d = go (is_cut I w d)
     go true = refl
     go false = perform_counts I _ f fs ls before after d.action
 
--- a step counts itself and its entry, or the run rests
+-- a step counts itself and its entry, unless the run has ended
 step_counts : (P : Program) (I : Input) (s : State)
     → ((step P I s).counts ≡ s.counts) ⊎ ((step P I s).counts ≡ counted (event P I s) s.counts)
 unfolding step event on_ending on_frames
@@ -210,7 +210,8 @@ module _ (P : Program) (I : Input) (entry : ℕ) where
   abbrev entries : ℕ → ℕ
   entries n = (run P I n).counts.entries
 
-  -- below a number of steps either some state is the first with that number of entries, or all have fewer
+  -- for each number of steps, a state before it is the first with that number of entries, or all states before it have
+  -- fewer
   search_below : (n : ℕ) → ((k : ℕ) × (k < n) × IsAtEntry P I entry k)
       ⊎ ((k : ℕ) → k < n → entries k < entry)
   search_below zero = inr (λ k lt. absurd (omega (arith, lt)))

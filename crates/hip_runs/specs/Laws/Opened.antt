@@ -1,4 +1,4 @@
--- All that a closed run computes by.
+-- All definitions that a closed run computes by.
 use Rattle.hip_types.specs.Bytes.{zeros}
 use Rattle.hip_lines.specs.Line.{fresh_lines}
 use Rattle.hip_runs.specs.Actions.{accessed, allocated, entered, flushing, instr_action, jump, end_action}
@@ -6,7 +6,7 @@ use Rattle.hip_runs.specs.Step.{leave, perform, carry_out, on_frames, on_ending,
 use Rattle.hip_runs.specs.Found.Reports.{reports}
 use Rattle.hip_runs.specs.Found.Marks.{pointed, hit}
 
--- a proof that unfolds this name unfolds all of those at once, so that a run of a given program is worked out
+-- a proof that unfolds this name unfolds all of those at once, so that it computes the run of a given program
 unfoldable pub run_opened : Unit {0}
 unfolding
     zeros fresh_lines accessed allocated entered flushing instr_action jump end_action leave perform carry_out on_frames

@@ -1,4 +1,4 @@
--- A part of a store is durable exactly where its cache line was flushed after it and a fence came after the flush.
+-- A part of a store is durable exactly if its cache line was flushed after it and a fence came after the flush.
 use Rattle.std.proofs.Common.{◌≡◌, ◌⊎◌, inl, inr, ℕ, zero, suc, ◌-◌, ◌<◌, ◌≤◌, Bool, true, false, cond, List, [], ◌∷◌, ◌++◌, length, map, Option, Some, None, option_map, slice_get, refl, sym, ap, ◌∙◌, subst, arith}
 use Rattle.hip_tree.specs.declared.program.Program.{Program}
 use Rattle.hip_lines.specs.Line.{Line, IsOrdered, with_part, has_bytes, fresh_lines}
@@ -80,8 +80,9 @@ module _ (P : Program) (I : Input) (n j from : ℕ) where
         fenced = q;
       }
 
--- At place k of line j, with these numbers of flushed and durable parts, stands a part of a store of step `from`, before
--- step n.
+-- What holds before step n of a part at place k of line j, whose store was step `from`: it is flushed exactly if the
+-- line was flushed since, and durable exactly if a fence came after such a flush. The line has these numbers of flushed
+-- and durable parts.
 record IsSeen (P : Program) (I : Input) (n j from k flushed_ones durable_ones : ℕ) : Type 0 where
   made : from < n
   flushed : k < flushed_ones → FlushedSince P I j from n
@@ -162,7 +163,7 @@ get_below [] k x e = absurd (let z : ⊥ = cc in z)
 get_below (y ∷ xs) zero x e = omega arith
 get_below (y ∷ xs) (suc k) x e = omega (arith, get_below xs k x e)
 
--- an item of a list with one more is the last, or stood there before
+-- an item of a list after one more was added is the added one, or an item of the list before
 get_more : {A : Type 0} (xs : List A) (y x : A) (k : ℕ) → slice_get (xs ++ y ∷ []) k ≡ Some x
     → (slice_get xs k ≡ Some x) ⊎ ((k ≡ length xs) × (x ≡ y))
 get_more [] y x zero e = inr (refl, let q : x ≡ y = cc in q)
@@ -176,12 +177,12 @@ get_more (z ∷ xs) y x (suc k) e = go (get_more xs y x k e)
     go (inr h) = inr (ap suc h.0, h.1)
 
 module _ (P : Program) (I : Input) (n j : ℕ) where
-  -- what is flushed and durable in the line before step m follows the steps since the stores of its parts
+  -- before step m, each part of the line is flushed and durable as the steps since its store say
   abbrev InSeen : ℕ → Line StorePart → Type 0
   InSeen m l = (k : ℕ) (x : StorePart) → slice_get l.parts k ≡ Some x
       → IsSeen P I m j x.step k l.flushed l.durable
 
-  -- the same of a line that there may be
+  -- the same for a line, if it is there
   abbrev AllSeen : ℕ → Option (Line StorePart) → Type 0
   AllSeen m None = Unit {0}
   AllSeen m (Some l) = InSeen m l
@@ -273,11 +274,11 @@ module _ (P : Program) (I : Input) (n j : ℕ) where
 -- ---- a step
 
 module _ (P : Program) (I : Input) (n : ℕ) where
-  -- the same of each of these lines
+  -- the same for each of these lines
   abbrev AreSeen : ℕ → List (Line StorePart) → Type 0
   AreSeen m ls = (j : ℕ) → AllSeen P I n j m (slice_get ls j)
 
-  -- if this is the event of step n, the same of each of these lines after it
+  -- if step n has this event, the same for each of these lines after it
   abbrev Next : Event → List (Line StorePart) → Type 0
   Next e ls = event P I (run P I n) ≡ e → AreSeen (suc n) ls
 

@@ -1,4 +1,4 @@
--- The event of a step tells what the run prints in it, and whether it ends.
+-- The event of a step gives what the run prints in it, and whether it ends.
 use Rattle.std.proofs.Common.{◌≡◌, ℕ, suc, Bool, true, false, cond, List, [], ◌∷◌, ◌++◌, length, Option, Some, None, append-nil, refl, sym, ap, ◌∙◌}
 use Rattle.std.specs.Fmt.{signed_decimal}
 use Rattle.std.specs.Prelude.{codes}
@@ -15,17 +15,17 @@ use Rattle.hip_runs.specs.Step.{event, event_at, event_of, event_on_ending, even
 use Rattle.hip_runs.specs.StoredParts.Persistence.{flushes_lines}
 use Rattle.hip_runs.specs.declared.event.Event.TheVariants as events
 
--- what is printed in a step comes after what was printed before it, and the event tells how the run has ended
+-- what a step prints comes after what was printed before it, and the event gives the ending of the run
 pub record IsTold (before after : World) (e : Event) : Type 0 where
   pub output : after.output ≡ before.output ++ printed_by e
   pub ending : after.ending ≡ ending_by e
 
--- the output is as it was, and the run goes on
+-- the output is the same, and the run goes on
 record IsKept (before after : World) : Type 0 where
   output : after.output ≡ before.output
   going : after.ending ≡ None
 
--- then the event prints nothing and is no end
+-- an event that prints nothing and is no end says just that
 nothing : {before after : World} → IsKept before after → (e : Event) → printed_by e ≡ []
     → ending_by e ≡ None
     → IsTold before after e

@@ -1,4 +1,4 @@
--- The history that a part of a store carries is what the steps since its store tell.
+-- The history of each part of a store is that of the steps since its store.
 use Rattle.std.proofs.Common.{◌≡◌, ◌⊎◌, inl, inr, ℕ, zero, suc, ◌+◌, ◌-◌, ◌*◌, ◌/◌, ◌<◌, Bool, true, false, cond, ◌&&◌, nat_lt, nat_le, List, [], ◌∷◌, length, map, Option, Some, None, option_map, slice_get, refl, sym, ap, ap₂, ◌∙◌, subst, arith}
 use Rattle.std.proofs.lemmas.Bool.Decides.{nat_tests}
 use Rattle.std.specs.Cmp.{both_ways}
@@ -80,9 +80,9 @@ module _ (P : Program) (I : Input) (n : ℕ) where
     }
     flush_now flush lt at site q (Some first) h = first_more first h
 
--- ---- what a part tells
+-- ---- what a part has of the steps since its store
 
--- A part in line j, of a store before step n, tells whether a fence came since, and the first flush of its line.
+-- A part in line j, of a store before step n, has whether a fence came since, and the first flush of its line.
 record IsTold (P : Program) (I : Input) (n j : ℕ) (x : StorePart) : Type 0 where
   line : x.offset / 64 ≡ j
   made : x.step < n
@@ -261,7 +261,7 @@ plain_flushes base j (events.End e) p = refl
 -- ---- a step
 
 module _ (P : Program) (I : Input) (n : ℕ) where
-  -- the history of each part of these lines is what the steps before step m tell
+  -- before step m, the history of each part of these lines is that of the steps since its store
   abbrev AreTold : ℕ → List (Line StorePart) → Type 0
   AreTold m ls = (j : ℕ) (x : StorePart) → InLine (slice_get ls j) x → IsTold P I m j x
 
@@ -269,7 +269,7 @@ module _ (P : Program) (I : Input) (n : ℕ) where
       → IsHere P I n (flush_at (run P I n).counts (site_of f))
   here f fs t = record { step = counted-steps P I n t.going; site = ap top_site t.frames }
 
-  -- if this is the event of step n, the history of each part of these lines is what the steps up to it tell
+  -- if step n has this event, the same holds after it
   abbrev Next : Event → List (Line StorePart) → Type 0
   Next e ls = event P I (run P I n) ≡ e → AreTold (suc n) ls
 
@@ -350,7 +350,7 @@ part_told P I n x i =
     let r = line_of_part (run P I n).lines x i in let t =
     run_told P I n r.0 x r.1 in subst (λ j. IsTold P I n j x) (sym t.line) t
 
--- a part tells that a fence met it, if one did, and only then
+-- a part is fenced exactly if a fence came since its store
 pub fence_told : (P : Program) (I : Input) (n : ℕ) (x : StorePart) → PartOf (run P I n).lines x
     → x.fenced ≡ true
     → FencedSince P I x.step n
@@ -360,12 +360,12 @@ pub told_by_fence : (P : Program) (I : Input) (n : ℕ) (x : StorePart) → Part
     → FencedSince P I x.step n → x.fenced ≡ true
 told_by_fence P I n x i s = (part_told P I n x i).by_fence s
 
--- a part tells the first flush of its line since its store
+-- a part has the first flush of its line since its store
 pub flush_told : (P : Program) (I : Input) (n : ℕ) (x : StorePart) → PartOf (run P I n).lines x
     → IsFirstFlush P I (x.offset / 64) x.step n x.first_flush
 flush_told P I n x i = (part_told P I n x i).flush
 
--- there is one first flush
+-- there is only one first flush
 apart : (m n : ℕ) → (m < n) ⊎ ((m ≡ n) ⊎ (n < m))
 apart m n = grind arith
 

@@ -1,4 +1,4 @@
--- What stands at the sites that a state names.
+-- The instructions at the sites that a state names.
 use Rattle.std.proofs.Common.{◌≡◌, ◌⊎◌, inl, inr, ℕ, ◌<◌, ◌≤◌, Bool, true, false, ◌||◌, ◌/◌, Option, Some, slice_get, refl, sym, ap, ◌∙◌, subst, arith}
 use Rattle.hip_tree.specs.Sites.{instr_of}
 use Rattle.hip_tree.specs.declared.instr.Instr.{Instr}

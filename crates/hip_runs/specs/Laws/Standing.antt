@@ -1,3 +1,3 @@
--- Laws of what a machine's memory and cache lines stand for.
+-- Laws of what a machine's memory and cache lines represent.
 pub mod ShownLaws
 pub mod ValidLaws

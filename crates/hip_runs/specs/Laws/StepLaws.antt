@@ -1,4 +1,4 @@
--- What one step of a run does to the cache lines, and what event it has then.
+-- What one step of a run does to the cache lines, and which event it has.
 use Rattle.std.proofs.Common.{◌≡◌, ℕ, zero, suc, ◌-◌, ◌/◌, Bool, true, false, cond, List, [], ◌∷◌, length, Option, Some, None, refl, sym, ap, ◌∙◌}
 use Rattle.std.proofs.lemmas.List.{length-map, length-replicate}
 use Rattle.hip_tree.specs.Sites.{instr_of}
@@ -31,7 +31,7 @@ pub record IsTop (s : State) (f : Frame) (fs : List Frame) : Type 0 where
   pub going : s.world.ending ≡ None
   pub frames : s.frames ≡ f ∷ fs
 
--- A statement on an event and on the lines after it, at each kind of step.
+-- The statement Q on an event and the lines after it holds for each kind of step.
 pub record Cases (I : Input) (s : State) (Q : Event → List (Line StorePart) → Type 0) : Type 0 where
   pub plain : (e : Event) → is_plain e ≡ true → Q e s.lines
   pub store : (f : Frame) (fs : List Frame) → IsTop s f fs → (a : ℕ) (bytes : List ℕ)
@@ -104,7 +104,7 @@ module _ (P : Program) (I : Input) (s : State) (Q : Event → List (Line StorePa
       go true = c.plain _ refl
       go false = perform_case _ f fs t after d.action h
 
-  -- so it holds of the step
+  -- then it holds for the next step
   pub step-cases : Q (event P I s) (step P I s).lines
   unfolding step event on_ending on_frames
   step-cases = go s.world.ending refl
@@ -136,7 +136,7 @@ same_length I s = record {
   fence = length-map s.lines _;
 }
 
--- the lines of a run are as many as the initial region has whole
+-- a run has as many lines as the initial region has whole ones
 pub length-lines : (P : Program) (I : Input) (n : ℕ) → length (run P I n).lines ≡ length I.image / 64
 unfolding run fresh_lines
 length-lines P I zero = length-replicate _ _

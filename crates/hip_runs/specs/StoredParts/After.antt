@@ -1,4 +1,4 @@
--- The cache lines after a step, from its event and what stood before it.
+-- The cache lines after a step, by its event and the state before it.
 use Rattle.std.specs.Prelude.{ℕ, ◌-◌, List, Option, Some}
 use Rattle.hip_tree.specs.declared.site.Site.{Site}
 use Rattle.hip_lines.specs.Line.{Line, change_range, stored}
@@ -9,16 +9,16 @@ use Rattle.hip_runs.specs.StoredParts.Persistence.{part_of_store, flush_line, fe
 use Rattle.hip_runs.specs.State.{Level, Flush, StorePart, Counts}
 use Rattle.hip_runs.specs.declared.event.Event.TheVariants as events
 
--- the flush of a step, from what was counted before it and its site
+-- the flush of a step, by the counts before it and its site
 abbrev pub flush_at : Counts → Site → Flush
 flush_at counts site = record { step = counts.steps; site = site }
 
--- the lines after a flush of n bytes from an address on: each that has one of them is flushed
+-- the lines after a flush of n bytes from an address on: each that has one of these bytes is flushed
 abbrev pub flushed_by : Input → Flush → ℕ → ℕ → List (Line StorePart) → List (Line StorePart)
 flushed_by I flush a n ls = change_range (λ _ l. flush_line flush l) (a - I.base) n ls
 
--- The lines after a step with an event, where the top frame stood at a site, under these calls, and so much was
--- counted.
+-- The lines after a step with this event. Before the step the top frame stood at the site, under these calls, and the
+-- counts were these.
 abbrev pub lines_after :
     Input → Event → Counts → Option Site → List Level → List (Line StorePart) → List (Line StorePart)
 lines_after I (events.Store a v n) counts (Some site) levels ls =

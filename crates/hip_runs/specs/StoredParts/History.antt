@@ -13,8 +13,8 @@ abbrev pub AreDescending : List Level → ℕ → Type 0
 AreDescending [] n = Unit {0}
 AreDescending (l ∷ ls) n = (l.birth < n) × AreDescending ls l.birth
 
--- The calls of a store are those that have returned, which are the innermost ones, and then the outermost ones of
--- those that stand.
+-- The calls of a store are split into those that have returned, which are the innermost ones, and the outermost ones of
+-- the standing calls.
 pub record IsParted (standing levels : List Level) : Type 0 where
   pub closed : List Level
   pub open_ones : List Level
@@ -23,14 +23,14 @@ pub record IsParted (standing levels : List Level) : Type 0 where
   pub outermost : standing ≡ above ++ open_ones
   pub returned : (v : Level) → In v closed → is_open standing v ≡ false
 
--- What each state of a run keeps of the parts in its cache lines: when they were made and first flushed, what those
--- of one store share, that their sites are there, and which of their calls stand.
+-- What each state of a run keeps of the parts in its cache lines: when they were made and first flushed, what those of
+-- one store share, that there are instructions at their sites, and which of their calls stand.
 pub record HasHistory (P : Program) (s : State) : Type 0 where
   -- a part was made by an earlier step, and so was its first flush
   pub made : (x : StorePart) → PartOf s.lines x → x.step < s.counts.steps
   pub flush_made : (x : StorePart) (f : Flush) → PartOf s.lines x → x.first_flush ≡ Some f
       → f.step < s.counts.steps
-  -- the parts of one store have one site, the same calls, one entry and one history of fences
+  -- the parts of one store have the same site, the same calls, the same entry and the same history of fences
   pub site : (x y : StorePart) → PartOf s.lines x → PartOf s.lines y → x.step ≡ y.step → x.site ≡ y.site
   pub levels : (x y : StorePart) → PartOf s.lines x → PartOf s.lines y → x.step ≡ y.step
       → x.levels ≡ y.levels
@@ -40,7 +40,7 @@ pub record HasHistory (P : Program) (s : State) : Type 0 where
   -- a part that is flushed has a first flush
   pub flushed : (m k : ℕ) (l : Line StorePart) (x : StorePart) → slice_get s.lines m ≡ Some l →
       slice_get l.parts k ≡ Some x → k < l.flushed → (f : Flush) × (x.first_flush ≡ Some f)
-  -- stores, flushes and calls stand in the program
+  -- there are instructions at the sites of stores, flushes and calls
   pub site_there : (x : StorePart) → PartOf s.lines x → (i : Instr) × (instr_of P x.site ≡ Some i)
   pub flush_there : (x : StorePart) (f : Flush) → PartOf s.lines x → x.first_flush ≡ Some f →
       (i : Instr) × (instr_of P f.site ≡ Some i)

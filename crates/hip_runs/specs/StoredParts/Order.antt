@@ -1,4 +1,4 @@
--- In which order the parts of cache lines, their flushes and fences, and the calls that they were made under come.
+-- The order of the parts of cache lines, of their flushes and fences, and of the calls that they were made under.
 use Rattle.std.specs.Prelude.{◌≡◌, ℕ, zero, suc, ◌/◌, ◌<◌, Bool, true, false, cond, nat_lt, Option, Some, None, slice_get}
 use Rattle.hip_tree.specs.declared.program.Program.{Program}
 use Rattle.hip_lines.specs.Line.{Line}
@@ -11,8 +11,8 @@ use Rattle.hip_runs.specs.State.{Flush, StorePart, State, levels_of}
 use Rattle.hip_runs.specs.Step.{event, run, step}
 use Rattle.hip_types.specs.declared.areas.TheConstants.{LINE_SIZE}
 
--- The parts of a line are in the order of their stores' steps, a part is flushed exactly where it has a first flush,
--- and what it covers lies in its line.
+-- The parts of a line are in the order of their stores' steps, a part is flushed exactly if it has a first flush, and
+-- what it covers lies in its line.
 pub record HasOrder (s : State) : Type 0 where
   pub ascend : (m : ℕ) (l : Line StorePart) (j k : ℕ) (x y : StorePart) →
       slice_get s.lines m ≡ Some l → slice_get l.parts j ≡ Some x → slice_get l.parts k ≡ Some y →
@@ -26,7 +26,7 @@ pub record HasOrder (s : State) : Type 0 where
       slice_get s.lines m ≡ Some l → slice_get l.parts k ≡ Some x → (b : ℕ) → covers x b ≡ true
       → b / LINE_SIZE ≡ m
 
--- The calls that stand were made one after another, and so were those of each part, before its store.
+-- The standing calls were made one after another, and so were those of each part, before its store.
 pub record HasCalls (s : State) : Type 0 where
   pub born : AreDescending (levels_of s.frames) s.counts.steps
   pub births : (x : StorePart) → PartOf s.lines x → AreDescending x.levels x.step
@@ -36,7 +36,7 @@ unfoldable pub last_fence : Program → Input → ℕ → Option ℕ
 last_fence P I zero = None
 last_fence P I (suc n) = cond (fences (event P I (run P I n))) (Some n) (last_fence P I n)
 
--- whether a step is before one that there may be
+-- whether a step is before another one, if there is another
 abbrev pub is_before : ℕ → Option ℕ → Bool
 is_before step None = false
 is_before step (Some m) = nat_lt step m

@@ -21,23 +21,24 @@ part_of_store counts site levels o bytes j =
       fenced = false;
     }
 
--- a store of bytes at an address appends its part to each line that has a byte of it, where it lies in the region
+-- the region's lines after a store of bytes at an address: if it lies in the region, it appends its part to each line
+-- that has a byte of it
 abbrev pub stored_lines : Input → Counts → Site → List Level → ℕ → List ℕ → List (Line StorePart) →
     List (Line StorePart)
 stored_lines I counts site levels a bytes ls =
     cond (in_region I a (length bytes))
     (stored (part_of_store counts site levels (a - I.base) bytes) (a - I.base) (length bytes) ls) ls
 
--- the first flush of a part that a flush meets: the one before if there is one, else this one
+-- the first flush of a part after a flush: the earlier one if there is one, else this one
 abbrev pub earlier : Option Flush → Flush → Option Flush
 earlier None flush = Some flush
 earlier (Some first) flush = Some first
 
--- a part that a flush of its line meets
+-- the part after a flush of its line
 abbrev pub noted_flush : Flush → StorePart → StorePart
 noted_flush flush p = record p { first_flush = earlier p.first_flush flush }
 
--- a part that a fence meets
+-- the part after a fence
 abbrev pub noted_fence : StorePart → StorePart
 noted_fence p = record p { fenced = true }
 
@@ -55,8 +56,8 @@ fence_line l = fenced_line (map_line noted_fence l)
 abbrev pub flushes_lines : Input → ℕ → ℕ → Bool
 flushes_lines I a n = nat_lt 0 n && in_region I a n
 
--- the region's lines after a flush of the n bytes from address a: each that has one of them is flushed; none is where
--- they are not all in the region
+-- the region's lines after a flush of the n bytes from address a: each that has one of these bytes is flushed; none is
+-- if the bytes do not all lie in the region
 abbrev pub flushed_lines : Input → Flush → ℕ → ℕ → List (Line StorePart) → List (Line StorePart)
 flushed_lines I flush a n ls =
     cond (flushes_lines I a n) (change_range (λ _ l. flush_line flush l) (a - I.base) n ls) ls

@@ -5,7 +5,7 @@ use Rattle.hip_lines.specs.Pending.{Pending, pending_of}
 use Rattle.hip_lines.specs.declared.part.Part.{Part}
 use Rattle.hip_runs.specs.State.{StorePart}
 
--- a part of a store, a line, and all lines
+-- a part of a store, as the code has it
 abbrev pub shown_part : StorePart → Part
 shown_part p = record { offset = p.offset; size = length p.bytes; tag = p.step }
 
@@ -13,6 +13,6 @@ shown_part p = record { offset = p.offset; size = length p.bytes; tag = p.step }
 abbrev pub shown_line : Line StorePart → Pending Part
 shown_line l = pending_of (map_line shown_part l)
 
--- the same of each line of the region, in order
+-- the same for each line of the region, in order
 abbrev pub shown : List (Line StorePart) → List (Pending Part)
 shown ls = map shown_line ls

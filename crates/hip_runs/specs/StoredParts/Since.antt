@@ -46,7 +46,7 @@ abbrev pub top_site : List Frame → Option Site
 top_site [] = None
 top_site (f ∷ fs) = Some (site_of f)
 
--- the flush is the first of line j between step `from` and step n, and its site is the one at which the run stood then
+-- the flush is the first one of line j between step `from` and step n, and the run stood at its site then
 pub record IsFirst (P : Program) (I : Input) (j from n : ℕ) (flush : Flush) : Type 0 where
   pub after : from < flush.step
   pub before : flush.step < n
@@ -54,7 +54,7 @@ pub record IsFirst (P : Program) (I : Input) (j from n : ℕ) (flush : Flush) : 
   pub first : NotFlushedSince P I j from flush.step
   pub site : top_site (run P I flush.step).frames ≡ Some flush.site
 
--- the first flush of line j between step `from` and step n, or that there is none
+-- the first flush of line j between step `from` and step n, if there is one
 abbrev pub IsFirstFlush : Program → Input → ℕ → ℕ → ℕ → Option Flush → Type 0
 IsFirstFlush P I j from n None = NotFlushedSince P I j from n
 IsFirstFlush P I j from n (Some flush) = IsFirst P I j from n flush
@@ -63,8 +63,8 @@ IsFirstFlush P I j from n (Some flush) = IsFirst P I j from n flush
 abbrev pub FlushedSince : Program → Input → ℕ → ℕ → ℕ → Type 0
 FlushedSince P I j from n = (m : ℕ) × (from < m) × (m < n) × (flushes I.base j (event P I (run P I m)) ≡ true)
 
--- A step after step `from` flushes cache line j, and before step n a fence comes with it or after it. (Intel's
--- manual: a line is durable where it was flushed and a fence came after the flush.)
+-- A step after step `from` flushes cache line j, and before step n a fence comes with it or after it. (Intel's manual:
+-- a line is durable if it was flushed and a fence came after the flush.)
 pub record IsFlushedThenFenced (P : Program) (I : Input) (j from n : ℕ) : Type 0 where
   pub flush : ℕ
   pub fence : ℕ
@@ -94,8 +94,8 @@ IsDurableIn (Some l) k x = (slice_get l.parts k ≡ Some x) × (k < l.durable)
 abbrev pub IsDurableAt : State → ℕ → ℕ → StorePart → Type 0
 IsDurableAt s m k x = IsDurableIn (slice_get s.lines m) k x
 
--- The part is one of the store of its step: it has the store's bytes that lie in its cache line, which are those of
--- the stored value, and names the site and the calls at which the run stood then, and the store's entry in the trace.
+-- The part is one of the store of its step: it has the store's bytes that lie in its cache line, which are those of the
+-- stored value, and it has the site and the calls at which the run stood then, and the store's entry in the trace.
 pub record IsOfStore (P : Program) (I : Input) (x : StorePart) : Type 0 where
   pub addr : ℕ
   pub bytes : List ℕ

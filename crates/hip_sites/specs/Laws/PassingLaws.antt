@@ -79,7 +79,7 @@ module _ (P : Program) (passes : ℕ → Option Instr → Bool) where
 
 -- ---- membership
 
--- the list of the sites that pass a test has exactly those, where no site without an instruction passes
+-- the filtered list of sites has exactly those that pass the test, if no site without an instruction passes it
 pub listed : (P : Program) (test : Site → Bool) → ((s : Site) → instr_of P s ≡ None → test s ≡ false)
     → (s : Site) → has_site (filter test (sites_of P)) s ≡ test s
 listed P test none s =
@@ -119,7 +119,7 @@ functions_next tests functions k x lt e =
     ap (λ n. passing_in_blocks (tests k) k 0 x.blocks ++ passing_in_functions tests n (drop n functions)) one
     ∙ sym (ap (passing_in_functions tests k) (drop_next functions k x lt e))
 
--- what was found, with what one more item adds
+-- what was found so far, with what one more item adds
 pub found_next : (sites new here rest all whole : List Site) → new ≡ sites ++ here → here ++ rest ≡ all
     → sites ++ all ≡ whole → new ++ rest ≡ whole
 found_next sites new here rest all whole e f g =

@@ -22,7 +22,7 @@ use Rattle.hip_sound.specs.Laws.Decided.{all-at, all-made}
 use Rattle.hip_names.specs.Laws.NameLaws.{bytes_eq-sym}
 use Rattle.hip_sound.specs.Sound.{EdgeIsAssigned, UsesAreAssigned}
 
--- ---- what holds of all items of lists that are put together
+-- ---- what holds of all items of lists that are appended
 
 pub all-front : {X : Type 0} (Q : X → Type 0) (xs ys : List X) → All Q (xs ++ ys) → All Q xs
 all-front Q [] ys h = All-nil Q
@@ -79,7 +79,7 @@ joined-all Q n make (y ∷ ys) h =
 
 -- ---- numbers of blocks by their label
 
--- a number that is one more than another is there only with that other
+-- a number that is the successor of another comes only from that other
 pub number_before : (o : Option ℕ) (c : ℕ) → option_map suc o ≡ Some c → (d : ℕ) × (o ≡ Some d)
     × (c ≡ suc d)
 number_before None c e = cc

@@ -1,4 +1,4 @@
--- Names of functions and names of external functions: no name is both.
+-- No name is both that of a function and that of an external function.
 use Rattle.std.proofs.Common.{◌≡◌, ℕ, false, List, Option, Some, None, is_some, option_map, refl, sym, ap, ◌∙◌, slice_get, subst}
 use Rattle.std.proofs.lemmas.Option.{same_Some, slice_get-map}
 use Rattle.hip_externs.specs.Externs.{call_of}

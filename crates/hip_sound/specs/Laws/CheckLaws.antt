@@ -1,4 +1,4 @@
--- Each rule is exact: its check finds nothing exactly when its requirement holds.
+-- Each rule is exact: its check finds nothing exactly if its requirement holds.
 use Rattle.std.specs.Prelude.{ℕ, zero, suc, ◌+◌, ◌<◌, ◌≡◌, not, Bool, true, false, List, [], ◌∷◌, ◌++◌, length, get_or, All, Option, Some, None}
 use Rattle.std.specs.List.{list_all}
 use Rattle.std.proofs.Common.{refl, subst, arith}

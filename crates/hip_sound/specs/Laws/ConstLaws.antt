@@ -1,4 +1,4 @@
--- The test of constants passes exactly where they are equal.
+-- The test of two constants passes exactly if they are equal.
 use Rattle.std.specs.Prelude.{ℕ, ◌≡◌, ◌&&◌, Bool, true, false, List, [], ◌∷◌, map}
 use Rattle.std.proofs.Common.{refl, sym, ap, subst, ◌∙◌}
 use Rattle.std.proofs.lemmas.Bool.{eqb-true, eq-eqb, and_parts}
@@ -48,17 +48,17 @@ same_truth-refl : (a : Bool) → same_truth a a ≡ true
 same_truth-refl true = refl
 same_truth-refl false = refl
 
--- ---- constants that pass are equal
+-- ---- constants that pass the test are equal
 
--- each constant that passes the test of being this one is equal to it
+-- each constant that passes the test for this one is equal to it
 abbrev IsEqual : Const → Type 0
 IsEqual a = (b : Const) → same_const a b ≡ true → a ≡ b
 
--- each constant `getelementptr` that passes the test of being this one is equal to it
+-- each constant `getelementptr` that passes the test for this one is equal to it
 abbrev IsEqualGep : ConstGep → Type 0
 IsEqualGep a = (b : ConstGep) → same_gep a b ≡ true → a ≡ b
 
--- each member of an aggregate constant that passes the test of being this one is equal to it
+-- each member of an aggregate constant that passes the test for this one is equal to it
 abbrev IsEqualItem : TypedConst → Type 0
 IsEqualItem a = (b : TypedConst) → same_item a b ≡ true → a ≡ b
 
@@ -74,7 +74,7 @@ KnownGep = (g : ConstGep) × IsEqualGep g
 abbrev KnownItem : Type 0
 KnownItem = (i : TypedConst) × IsEqualItem i
 
--- one level of a constant, each part inside without the proof that what passes its test is equal to it
+-- one level of a constant, whose parts are given without their proofs
 abbrev consts : Const-F Known KnownGep KnownItem → Const-F Const ConstGep TypedConst
 consts y = map-Const Known KnownGep KnownItem Const ConstGep TypedConst (λ e. e.0) (λ e. e.0) (λ e. e.0) y
 
@@ -85,14 +85,14 @@ tests_of z =
     map-Const Const ConstGep TypedConst (Const → Bool) (ConstGep → Bool) (TypedConst → Bool)
     same_const same_gep same_item z
 
--- a constant `getelementptr`, with the base's test in the place of the base
+-- a constant `getelementptr`, with the test of its base in place of the base
 abbrev gep_tests : ConstGep-F Const ConstGep TypedConst
     → ConstGep-F (Const → Bool) (ConstGep → Bool) (TypedConst → Bool)
 gep_tests z =
     map-ConstGep Const ConstGep TypedConst (Const → Bool) (ConstGep → Bool) (TypedConst → Bool)
     same_const same_gep same_item z
 
--- a member of an aggregate constant, with the value's test in the place of the value
+-- a member of an aggregate constant, with the test of its value in place of the value
 abbrev item_tests : TypedConst-F Const ConstGep TypedConst
     → TypedConst-F (Const → Bool) (ConstGep → Bool) (TypedConst → Bool)
 item_tests z =
@@ -193,17 +193,17 @@ same_const-equal = ind-Const IsEqual IsEqualGep IsEqualItem
     (TypedConst → Bool) same_step same_gep_step same_item_step x) in
     item_is (roll-TypedConst x) b (subst IsEqual (ap (λ g. g.value) is) y.value.1) (sym unfolded ∙ h))
 
--- ---- each constant passes with itself
+-- ---- each constant passes the test for itself
 
--- the constant passes the test of being itself
+-- the constant passes the test for itself
 abbrev IsReflexive : Const → Type 0
 IsReflexive a = same_const a a ≡ true
 
--- the constant `getelementptr` passes the test of being itself
+-- the constant `getelementptr` passes the test for itself
 abbrev IsReflexiveGep : ConstGep → Type 0
 IsReflexiveGep a = same_gep a a ≡ true
 
--- the member of an aggregate constant passes the test of being itself
+-- the member of an aggregate constant passes the test for itself
 abbrev IsReflexiveItem : TypedConst → Type 0
 IsReflexiveItem a = same_item a a ≡ true
 
@@ -219,7 +219,7 @@ PassingGep = (g : ConstGep) × IsReflexiveGep g
 abbrev PassingItem : Type 0
 PassingItem = (i : TypedConst) × IsReflexiveItem i
 
--- one level of a constant, each part inside without the proof that it passes its own test
+-- one level of a constant, whose parts are given without their proofs
 abbrev bare : Const-F Passing PassingGep PassingItem → Const-F Const ConstGep TypedConst
 bare y = map-Const Passing PassingGep PassingItem Const ConstGep TypedConst (λ e. e.0) (λ e. e.0) (λ e. e.0) y
 

@@ -1,4 +1,4 @@
--- Names that differ: what the checks require and what soundness says.
+-- Names that differ: what the checks require is what soundness says.
 use Rattle.std.specs.Prelude.{ℕ, ◌+◌, ◌≡◌, List, [], ◌∷◌, ◌++◌, map, Some}
 use Rattle.std.specs.List.{flat_map}
 use Rattle.std.proofs.Common.{append_assoc, refl, sym, ap, subst, ◌∙◌, inl, inr, ⊎_elim}
@@ -26,7 +26,7 @@ use Rattle.hip_sound.specs.Sound.{top_names, names_in_block, names_in_function}
 abbrev place_names : List Named → List (List ℕ)
 place_names ns = map (λ n. n.name) ns
 
--- the names differ, and none of them is one of some earlier names
+-- the names differ from one another and from some earlier names
 record Apart (earlier names : List (List ℕ)) : Type 0 where
   pub differ : AllDiffer names
   pub apart : (name : List ℕ) → IsAmong earlier name → ¬ IsAmong names name
@@ -97,7 +97,7 @@ names-whole P h = differ-whole (rules.declarations P) (top_names P) (top_alike P
 
 -- ---- the names in a function
 
--- what is made of a declaration has its name
+-- each declaration becomes an item that has its name
 pub record Tells {A : Type 0} (d : Declares A) (name : A → List ℕ) : Type 0 where
   pub parameter : (p : Param) → name (d.parameter p) ≡ p.name
   pub label : (b : ℕ) (label : List ℕ) → name (d.label b label) ≡ label
@@ -152,7 +152,7 @@ module _ {A : Type 0} (d : Declares A) (name : A → List ℕ) (t : Tells d name
       ∙ ap (λ ns. ns ++ map name (joined (numbered_from (n + 1) (block_declared d) bs))) (block_told n b)
       ∙ ap (λ ns. names_in_block b ++ ns) (blocks_told (n + 1) bs)
 
-  -- what is made of the declarations of a function has the names in it, in their order
+  -- the items of a function's declarations have the names in it, in their order
   pub declared_names-are : (fn : Function) → map name (declared_by d fn) ≡ names_in_function fn
   declared_names-are fn =
       map-append name (map d.parameter fn.params) (blocks_declared d fn.blocks)

@@ -7,7 +7,7 @@ use Rattle.hip_tree.specs.declared.program.Program.{Program}
 use Rattle.hip_names.specs.Laws.NumberLaws.{number_of-there, number_of-known}
 use Rattle.hip_sound.specs.Numbering.{function_names, function_number}
 
--- a function that has a number is there, and has that name
+-- a function that has a number by its name is there, with that name
 pub function_number-there : (P : Program) (name : List ℕ) (g : ℕ) → function_number P name ≡ Some g
     → (fn : Function) × (slice_get P.functions g ≡ Some fn) × (fn.name ≡ name)
 function_number-there P name g e =

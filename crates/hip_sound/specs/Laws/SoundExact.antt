@@ -1,4 +1,4 @@
--- A program is sound exactly where it passes the checks.
+-- A program is sound exactly if it passes the checks.
 use Rattle.std.specs.Prelude.{ℕ, suc, ◌+◌, ◌≡◌, ◌≤◌, ◌&&◌, nat_le, Bool, true, false, List, [], ◌∷◌, map, get_or, All, Option, Some, None, is_none, slice_get, codes, option_map, cond, if◌then◌else◌}
 use Rattle.std.specs.Bool.{Decides}
 use Rattle.std.specs.Str.{bytes_eq}

@@ -1,4 +1,4 @@
--- The rules of a program are exact: the first fault is none exactly where all of them hold.
+-- The rules of a program are exact: there is no fault exactly if all rules hold.
 use Rattle.std.specs.Prelude.{ℕ, ◌≤◌, true, List, ◌∷◌}
 use Rattle.hip_types.specs.declared.limits.TheConstants.{LARGEST_REGION}
 use Rattle.hip_tree.specs.declared.block.Block.{Block}
@@ -71,6 +71,6 @@ rules-exact P =
     (and_then-exact _ _ (externs-exact P) (and_then-exact _ _ (asks_true-exact _ _ _)
     (and_then-exact _ _ (asks_true-exact _ _ _) (and_then-exact _ _ (inner_names-exact P) (places-exact P))))))
 
--- where the persistent globals of a sound program end
+-- the persistent globals of a sound program end within the largest region
 pub persistent-end : (P : Program) → KeepsToSizes P → end_of true 0 P.globals ≤ LARGEST_REGION
 persistent-end P k = let small = k.region in omega (arith, small)

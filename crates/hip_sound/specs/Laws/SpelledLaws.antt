@@ -1,4 +1,4 @@
--- What follows for the globals of a program from its being spelled.
+-- What holds of the globals of a program that is spelled.
 use Rattle.std.specs.Prelude.{ℕ, ◌%◌, ◌==◌, ◌≡◌, ◌&&◌, ◌⊎◌, not, max, Bool, true, List, [], ◌∷◌, Option, Some, None}
 use Rattle.std.specs.List.{list_all}
 use Rattle.std.proofs.Common.{refl, ap, ◌∙◌, inl, inr, arith}

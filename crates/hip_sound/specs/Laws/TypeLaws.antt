@@ -1,4 +1,4 @@
--- The test of types passes exactly where they are equal.
+-- The test of two types passes exactly if they are equal.
 use Rattle.std.specs.Prelude.{◌≡◌, Bool, true, List, [], ◌∷◌, map}
 use Rattle.std.proofs.Common.{refl, sym, ap, subst, ◌∙◌}
 use Rattle.std.proofs.lemmas.Bool.{eqb-true, eq-eqb, and_parts}
@@ -27,7 +27,7 @@ same_width-refl W16 = refl
 same_width-refl W32 = refl
 same_width-refl W64 = refl
 
--- each type that passes the test of being this one is equal to it
+-- each type that passes the test for this one is equal to it
 abbrev IsEqual : Ty → Type 0
 IsEqual a = (b : Ty) → same_type a b ≡ true → a ≡ b
 
@@ -35,7 +35,7 @@ IsEqual a = (b : Ty) → same_type a b ≡ true → a ≡ b
 abbrev Known : Type 0
 Known = (t : Ty) × IsEqual t
 
--- one level of a type, each type inside without the proof that what passes its test is equal to it
+-- one level of a type, whose parts are given without their proofs
 abbrev types : Ty-F Known → Ty-F Ty
 types y = map-Ty Known Ty (λ e. e.0) y
 
@@ -83,7 +83,7 @@ same_type-equal = ind-Ty IsEqual (λ x y is b h.
     let there : P (types y) = subst P (sym is) here in
     ap roll-Ty (sym is ∙ level_equal y (out-Ty b) there) ∙ roll-out-Ty b)
 
--- the type passes the test of being itself
+-- the type passes the test for itself
 abbrev IsReflexive : Ty → Type 0
 IsReflexive a = same_type a a ≡ true
 
@@ -91,7 +91,7 @@ IsReflexive a = same_type a a ≡ true
 abbrev Passing : Type 0
 Passing = (t : Ty) × IsReflexive t
 
--- one level of a type, each type inside without the proof that it passes its own test
+-- one level of a type, whose parts are given without their proofs
 abbrev bare : Ty-F Passing → Ty-F Ty
 bare y = map-Ty Passing Ty (λ e. e.0) y
 
@@ -105,7 +105,7 @@ level_reflexive Ty-F.Ptr = refl
 level_reflexive (Ty-F.Array n e) = both_true (eq-eqb n n refl) e.1
 level_reflexive (Ty-F.Struct es) = all_reflexive es
 
--- each type passes the test with itself
+-- each type passes the test for itself
 pub same_type-refl : (a : Ty) → same_type a a ≡ true
 same_type-refl = ind-Ty IsReflexive (λ x y is.
     let unfolded : same_type (roll-Ty x) (roll-Ty x) ≡ same_step (map-Ty Ty (Ty → Bool) same_type x) (roll-Ty x) =

@@ -1,4 +1,4 @@
--- A check reports nothing exactly where no byte of its range is loose; and its range lies in the region.
+-- A check reports nothing exactly if no byte of its range is loose; and its range lies in the region.
 use Rattle.std.proofs.Common.{◌≡◌, ◌⊎◌, inl, inr, ℕ, zero, suc, ◌+◌, ◌-◌, ◌<◌, ◌≤◌, Bool, true, false, cond, nat_le, nat_lt, ◌&&◌, List, [], ◌∷◌, ◌++◌, length, Option, Some, None, slice_get, refl, sym, ap, ap₂, subst, arith}
 use Rattle.std.specs.List.{flat_map, range_with_len}
 use Rattle.std.specs.Prelude.{is_some}
@@ -68,7 +68,7 @@ loose_reported P I n range none b low high loose =
         met p made (omega (arith, old, is.step)) (loose_parts range.offset range.size (run P I n).lines made) refl
         (loose_part range.offset range.size made (run P I n).lines p is)
 
--- ---- and what is reported is of a loose byte
+-- ---- and each report is of a loose byte
 
 no_reports : (f : ℕ → List Report) (ms : List ℕ) → ((m : ℕ) → f m ≡ []) → flat_map f ms ≡ []
 no_reports f [] h = refl
@@ -163,7 +163,7 @@ pub check_fits : (P : Program) (I : Input) (n : ℕ) (range : Range) → next_ch
     → range.offset + range.size ≤ length I.image
 check_fits P I n range e = (subst (FitsRegion I) e (next_fits P I (run P I n))).is
 
--- ---- so what a check without a report checked survives
+-- ---- so each byte that a check without a report checked survives
 
 pub checked_survives : (P : Program) → IsSound P → (I : Input) → IsValid P I → (n : ℕ) (range : Range)
     → next_check P I (run P I n) ≡ Some range → check_reports (run P I n) (Some range) ≡ []

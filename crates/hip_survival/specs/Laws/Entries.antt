@@ -1,4 +1,4 @@
--- Of two steps that store into the region each has an entry of its own.
+-- Two steps that store into the region have different entries.
 use Rattle.std.proofs.Common.{◌≡◌, ◌⊎◌, inl, inr, ℕ, zero, suc, ◌+◌, ◌-◌, ◌<◌, ◌≤◌, Bool, true, false, cond, Option, Some, None, refl, sym, ap, ◌∙◌, arith}
 use Rattle.std.specs.Prelude.{is_some}
 use Rattle.hip_tree.specs.declared.program.Program.{Program}

@@ -1,5 +1,5 @@
--- The reports of a check are of the stores of its loose parts; each is of a byte that some crash image has as it was
--- before the report's store.
+-- The reports of a check are of the stores of its loose parts. Each is of a byte that has, in some crash image, the
+-- value before the report's store.
 use Rattle.std.proofs.Common.{◌≡◌, inl, inr, ℕ, suc, ◌/◌, ◌<◌, ◌≤◌, Bool, true, false, cond, nat_eq, List, [], ◌∷◌, length, take, Some, slice_get, slice_index, refl, sym, ap, ◌∙◌, subst, arith}
 use Rattle.std.specs.List.{range_with_len}
 use Rattle.hip_tree.specs.declared.program.Program.{Program}
@@ -37,7 +37,7 @@ of_loose_part standing check r [] i = absurd i
 of_loose_part standing check r (p ∷ ps) (inl e) = (p, inl refl, ap (λ (x : Report). x.entry) e)
 of_loose_part standing check r (p ∷ ps) (inr i) = absurd i
 
--- what names the entry of a part is of the part's store
+-- a report with the entry of a part is of the part's store
 of_step : (P : Program) (I : Input) (n : ℕ) (x : StorePart) (r : Report) → PartOf (run P I n).lines x
     → r.entry ≡ x.entry → IsOfStep P I x.step r
 of_step P I n x r there e =
@@ -99,7 +99,7 @@ part_reported P I n range p is =
         )
 
 module _ (P : Program) (I : Input) (n : ℕ) where
-  -- in one line the parts before a place, and in each other line the durable parts alone
+  -- the pick of the parts before a place in one line, and of the durable parts alone in each other line
   abbrev pick_before : ℕ → ℕ → ℕ → ℕ
   pick_before line place j = cond (nat_eq j line) place (durable_alone (run P I n) j)
 

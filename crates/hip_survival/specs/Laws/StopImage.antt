@@ -1,4 +1,4 @@
--- Where a run stops with nothing to report at its stop, working memory is the only crash image.
+-- If a run stops with nothing to report at its stop, working memory is the only crash image.
 use Rattle.std.proofs.Common.{◌≡◌, ℕ, suc, ◌<◌, Bool, false, cond, ℤ, [], length, Some, None, slice_get, sym, ap, ◌∙◌, subst, arith}
 use Rattle.hip_tree.specs.declared.program.Program.{Program}
 use Rattle.hip_lines.specs.Image.{IsImage, parts_of, image_of}

@@ -89,7 +89,7 @@ module _ (I : Input) (counts : Counts) (site : Site) (levels : List Level) (a : 
   abbrev part : StorePart
   part = part_of_store counts site levels (a - I.base) bytes (b / 64)
 
-  -- the byte in its line's part is the byte in the write
+  -- the byte of the part in its line is the byte of the write
   part_written : (old : ℕ)
       → cond (covers part b) (byte_of part b) old ≡ byte_written (record { addr = a; bytes = bytes }) (I.base + b) old
   part_written old = go (covered_or_not (record { addr = a; bytes = bytes }) (I.base + b))
@@ -123,7 +123,7 @@ module _ (I : Input) (counts : Counts) (site : Site) (levels : List Level) (a : 
           none (inl e) = absurd (apart x.1 (held-stored (a - I.base) bytes (b / 64) b e))
           none (inr e) = e
 
-  -- a line that the store does not reach has no byte of it
+  -- a line that the store does not reach has no byte of the store
   not_reached : has_bytes (b / 64) (a - I.base) (length bytes) ≡ false → (old : ℕ)
       → old ≡ byte_written (record { addr = a; bytes = bytes }) (I.base + b) old
   not_reached f old = go (covered_or_not (record { addr = a; bytes = bytes }) (I.base + b))

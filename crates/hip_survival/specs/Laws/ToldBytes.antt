@@ -1,4 +1,4 @@
--- The loose bytes are those that the code's lines show.
+-- The loose bytes are those of the code's lines.
 use Rattle.std.proofs.Common.{◌≡◌, ℕ, ◌+◌, ◌/◌, ◌<◌, ◌≤◌, nat_lt, slice_get, refl, ap, ◌∙◌, subst, arith}
 use Rattle.hip_tree.specs.declared.program.Program.{Program}
 use Rattle.hip_lines.specs.declared.part.LooseByte.{LooseByte}

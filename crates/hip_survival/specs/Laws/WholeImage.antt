@@ -1,5 +1,4 @@
--- Working memory is the crash image that has each line's whole list; and of each byte there is a crash image that has
--- what is durable alone.
+-- Working memory is the crash image that has all parts of each line; and some crash image has the durable parts alone.
 use Rattle.std.proofs.Common.{◌≡◌, ℕ, zero, suc, ◌+◌, ◌/◌, ◌<◌, List, [], ◌∷◌, length, take, Option, Some, None, slice_get, slice_index, refl, sym, ap, ◌∙◌, subst, arith}
 use Rattle.hip_tree.specs.declared.program.Program.{Program}
 use Rattle.hip_lines.specs.Image.{byte_after, parts_of, IsPick}

@@ -1,4 +1,4 @@
--- In each state of a run working memory has at each byte of the region the initial byte, changed by all parts of its
+-- In each state of a run, each byte of the region in working memory is the initial byte, changed by all parts of its
 -- line in order.
 use Rattle.std.proofs.Common.{◌≡◌, ◌⊎◌, inl, inr, ℕ, zero, suc, ◌+◌, ◌-◌, ◌*◌, ◌/◌, ◌<◌, ◌≤◌, Bool, true, false, cond, ◌||◌, nat_le, List, [], ◌∷◌, ◌++◌, length, Option, Some, None, slice_get, slice_index, refl, sym, ap, ◌∙◌, arith}
 use Rattle.hip_types.specs.Laws.DistinctLaws.{either}
@@ -36,7 +36,7 @@ use Rattle.hip_survival.specs.Laws.StoreBytes.{line_byte, line_byte-flushed, lin
 abbrev region_byte : Input → List Write → ℕ → ℕ
 region_byte I ws b = byte_from ws (I.base + b) (slice_index I.image b)
 
--- after the writes and after the parts of the lines each byte of the region is the same
+-- each byte of the region is the same after the writes as after the parts of the lines
 record Agrees (I : Input) (ws : List Write) (ls : List (Line StorePart)) : Type 0 where
   is : (b : ℕ) → b < length I.image → region_byte I ws b ≡ line_byte I ls b
 
@@ -49,7 +49,7 @@ line_there (x ∷ ls) zero h = (x, refl)
 line_there (x ∷ ls) (suc j) h = line_there ls j (omega arith)
 
 module _ (P : Program) (I : Input) (low : volatile_end P ≤ I.base) (above : stack_end ≤ I.base) where
-  -- a write before the region, or of no bytes
+  -- a write that does not touch the region keeps this
   beside : (ws : List Write) (ls : List (Line StorePart)) (w : Write)
       → ((b : ℕ) → (I.base + b < w.addr) ⊎ (w.addr + length w.bytes ≤ I.base + b)) → Agrees I ws ls
       → Agrees I (ws ++ w ∷ []) ls
@@ -58,7 +58,7 @@ module _ (P : Program) (I : Input) (low : volatile_end P ≤ I.base) (above : st
         ∙ not_written w (I.base + b) (region_byte I ws b) (out b) ∙ h.is b lt;
   }
 
-  -- the bytes end before a mark, whichever area before the region they lie in
+  -- bytes in an area before the region end before the region
   before_region : (mark a n : ℕ) → mark ≤ stack_end
       → is_within volatile_start (volatile_end P) a n || (is_within stack_start mark a n || in_region I a n) ≡ true
       → in_region I a n ≡ false → a + n ≤ I.base
@@ -100,7 +100,7 @@ module _ (P : Program) (I : Input) (low : volatile_end P ≤ I.base) (above : st
           let end = before_region mark a (length bytes) m t e in
           beside ws ls (record { addr = a; bytes = bytes }) (λ b. inr (omega (arith, end))) h
 
-  -- a new block writes zeros on the stack alone, if any
+  -- a new block writes only zeros on the stack, if it writes at all
   block_beside : (mark a n len b : ℕ) → a + n ≤ stack_end → len ≡ (a + n) - mark
       → (I.base + b < mark) ⊎ (mark + len ≤ I.base + b)
   block_beside mark a n len b h e = go (split mark (a + n))

@@ -1,4 +1,4 @@
--- The first field of a text, and what stands after it.
+-- The first field of a text, and what follows it.
 use Rattle.std.proofs.Common.{◌≡◌, ℕ, suc, ◌+◌, ◌<◌, ◌≤◌, Bool, true, false, not, cond, List, [], ◌∷◌, length, take, drop, refl, arith, add-one, None}
 use Rattle.std.specs.List.{slice_split, onto_first, prefix_len}
 use Rattle.std.specs.Prelude.{◌==◌}
@@ -42,7 +42,7 @@ module _ (p : ℕ → Bool) where
       let len : prefix_len (λ y. not (p y)) (x ∷ xs) ≡ suc k = rw e one in
       rw (e, ih (omega arith)) refl
 
-  -- the whole is one part where none passes
+  -- the whole is one part if no element passes
   only_part_is : (xs : List ℕ) → length xs ≤ before xs → slice_split p xs ≡ xs ∷ []
   unfolding before
   only_part_is [] le = refl

@@ -1,4 +1,4 @@
--- The entries that some text spells are those whose values fit, and each is spelled by its canonical text.
+-- Some text spells an entry exactly if its values fit, and then its canonical text spells it.
 use Rattle.std.proofs.Common.{◌≡◌, ℕ, ℤ, pos, negsuc, suc, ◌+◌, ◌*◌, ◌%◌, ◌^◌, ◌<◌, ◌≤◌, Bool, true, false, ◌&&◌, ◌⊎◌, inl, inr, zero, List, [], ◌∷◌, ◌++◌, length, drop, Option, Some, None, nat_lt, nat_le, refl, sym, ap, subst, ◌∙◌, arith, FitsSigned, w32, w64, rules}
 use Rattle.std.specs.Prelude.{if◌then◌else◌, nat_eq, codes, decimal, option_map, option_and_then, ◌==◌, All}
 use Rattle.std.specs.Fmt.{digits, signed_decimal}
@@ -97,7 +97,7 @@ line_field bytes len h =
 
 -- ---- entries that fit are spelled
 
--- An entry's word and fields are read as that entry, no field has a semicolon, and the text has at most 256 bytes.
+-- An entry's word and fields read as that entry, no field has a semicolon, and the text has at most 256 bytes.
 record EntryOf (e : Entry) : Type 0 where
   by : entry_by (word_of e ∷ fields_of e) ≡ Some e
   plain : ArePlain (fields_of e)

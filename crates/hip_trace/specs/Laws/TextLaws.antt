@@ -1,4 +1,4 @@
--- The canonical text of an entry that some text spells: it spells the entry, and is no longer.
+-- The canonical text of an entry that some text spells: it spells the entry, and is no longer than that text.
 use Rattle.std.proofs.Common.{◌≡◌, ℕ, ℤ, pos, negsuc, zero, suc, ◌+◌, ◌*◌, ◌/◌, ◌%◌, ◌^◌, ◌<◌, ◌≤◌, Bool, true, false, ◌||◌, ◌&&◌, List, [], ◌∷◌, ◌++◌, length, drop, Option, Some, None, Ok, Err, Result, nat_lt, slice_index, rules, refl, sym, ap, subst, ◌∙◌, arith, append_assoc, length-append, FitsSigned, w64}
 use Rattle.std.specs.Prelude.{if◌then◌else◌, nat_eq, cond, codes, decimal, option_map, option_and_then, ◌==◌, neg_ℤ}
 use Rattle.std.specs.Char.{digit_value}
@@ -32,7 +32,7 @@ use Rattle.hip_trace.specs.Laws.FieldLaws.{some_field}
 
 -- ---- fields and lengths
 
--- the byte that stands between the fields of an entry's text
+-- the byte that separates the fields of an entry's text
 abbrev pub is_semicolon : ℕ → Bool
 is_semicolon b = b == byte ";"
 
@@ -105,7 +105,7 @@ length-fields (x ∷ xs) = go (is_semicolon x) (length-fields xs)
 
 -- ---- numbers
 
--- what a text was read as, read again from the canonical text
+-- the canonical text reads as the same value as the text, and is no longer
 pub record Again (A : Type 0) (read : List ℕ → Option A) (text canonical : List ℕ) (v : A) : Type 0 where
   pub again : read canonical ≡ Some v
   pub short : length canonical ≤ length text

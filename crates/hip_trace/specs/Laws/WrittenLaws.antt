@@ -24,7 +24,7 @@ use Rattle.hip_trace.specs.Laws.PieceLaws.{first_none, spelled_at}
 
 -- ---- texts without separators
 
--- no `|` and no line feed stands in the text, so that it lies in one piece
+-- the text has no `|` and no line feed, so it lies in one piece
 abbrev IsWhole : List ℕ → Type 0
 IsWhole text = list_any is_separator text ≡ false
 

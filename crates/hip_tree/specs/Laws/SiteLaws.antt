@@ -1,4 +1,4 @@
--- The test on two sites tells whether they are equal, and the order of sites agrees with it.
+-- The test of two sites decides whether they are equal, and the order of sites agrees with it.
 use Rattle.std.proofs.Common.{◌≡◌, ℕ, Bool, true, false, ◌&&◌, ◌||◌, cond, nat_eq, nat_cmp, List, [], ◌∷◌, refl, sym, ap₂, ◌∙◌, arith}
 use Rattle.std.proofs.lemmas.Bool.Decides.{nat_tests}
 use Rattle.std.specs.BTreeMap.{is_at}
@@ -55,7 +55,7 @@ same_site-sym a b =
 pub cmp-is_eq : (a b : Site) → is_eq (site_cmp a b) ≡ same_site a b
 cmp-is_eq a b = simp (then-is_eq, number-is_eq) refl
 
--- an ordered set whose keys are these sites has a site exactly where the list has it
+-- an ordered set whose keys are these sites has a site exactly if the list has it
 pub keys_have : (sites : List Site) (s : Site) → list_any (is_at (site_cmp s)) sites ≡ has_site sites s
 keys_have [] s = refl
 keys_have (x ∷ xs) s = ap₂ (λ b c. b || c) (cmp-is_eq s x) (keys_have xs s)

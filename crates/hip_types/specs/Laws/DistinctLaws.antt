@@ -1,4 +1,4 @@
--- Laws of lists without repeats: what is met, stays where it stands, and no item is there twice.
+-- Laws of lists without repeats: an item that is met keeps its place, and no item is there twice.
 use Rattle.std.specs.Prelude.{◌≡◌, ℕ, zero, suc, ◌⊎◌, Bool, true, false, cond, ◌||◌, List, [], ◌∷◌, ◌++◌, Some, slice_get}
 use Rattle.std.specs.Cmp.{IsEquivalence}
 use Rattle.std.specs.List.{list_any, IsDistinct}
@@ -72,7 +72,7 @@ module _ {A : Type 0} {same : A → A → Bool} (laws : IsEquivalence same) wher
       added true e = d
       added false e = IsDistinct-push laws xs y d e
 
-  -- what is in the first list or in the second, is in the list
+  -- what is in one of the two lists is in the whole
   pub met-first : (q : A) (xs ys : List A) → list_any (same q) xs ≡ true
       → list_any (same q) (met same xs ys) ≡ true
   met-first q xs [] e = e
@@ -96,7 +96,7 @@ module _ {A : Type 0} {same : A → A → Bool} (laws : IsEquivalence same) wher
       added true e t = list_any_congr laws q y xs t ∙ e
       added false e t = any_back (same q) xs (y ∷ []) (or_first _ _ t)
 
-  -- nothing else is
+  -- and nothing else is
   pub met-only : (q : A) (xs ys : List A) → list_any (same q) (met same xs ys) ≡ true
       → (list_any (same q) xs ≡ true) ⊎ (list_any (same q) ys ≡ true)
   met-only q xs [] e = inl e

@@ -1,4 +1,4 @@
--- The laws of layout, so that nobody above opens its definitions.
+-- The laws of layout, so that no crate above opens its definitions.
 use Rattle.std.specs.Prelude.{ℕ, zero, suc, ◌+◌, ◌*◌, ◌%◌, ◌≤◌, ◌<◌, ◌≡◌, ◌⊎◌, max, List, [], ◌∷◌, ◌++◌, map, take, drop, length, get_or, refl}
 use Rattle.std.specs.Int.{next_multiple_of}
 use Rattle.std.proofs.Common.{arith, sym, ap, subst, ◌∙◌, inl, inr}
@@ -28,7 +28,7 @@ alignment-low n h = grind (arith, h.is)
 pub alignment-high : (n : ℕ) → IsAlignment n → n ≤ 8
 alignment-high n h = grind (arith, h.is)
 
--- the next multiple of an alignment is one, and the first
+-- the next multiple of an alignment is a multiple, and the first one
 pub next-multiple : (x a : ℕ) → IsAlignment a → next_multiple_of x a % a ≡ 0
 next-multiple x a h = grind (arith, h.is)
 
@@ -41,7 +41,7 @@ next-lt x a h = grind (arith, h.is)
 pub next-least : (x a y : ℕ) → IsAlignment a → x ≤ y → y % a ≡ 0 → next_multiple_of x a ≤ y
 next-least x a y h le multiple = grind (arith, h.is)
 
--- the greater of two alignments is one, and a multiple of both
+-- the greater of two alignments is an alignment, and a multiple of both
 greater : (a b : ℕ) → IsAlignment a → IsAlignment b → IsAlignment (max a b)
 greater a b h k = record { is = grind (arith, h.is, k.is) }
 
@@ -72,7 +72,7 @@ pub record IsRegular (s : Shape) : Type 0 where
   pub whole : s.size % s.align ≡ 0
   pub held : s.size ≤ s.largest
 
--- a type whose shape is regular: what an induction over types has of each type inside
+-- a type whose shape is regular: what an induction over types gives for each type inside
 abbrev Regular : Type 0
 Regular = (t : Ty) × IsRegular (shape t)
 
@@ -269,7 +269,7 @@ module _ (ts : List Ty) (k : ℕ) (t : Ty) (h : k < length ts) (is : t ≡ get_o
             (omega (arith, largest_is, greatest_largest-append (take (k + 1) ts) rest));
       }
 
--- field k, read by its number
+-- field k by its number
 pub field_of-is : (ts : List Ty) (k : ℕ) → k < length ts → field_of ts k ≡ get_or ts k (field_of ts k)
 field_of-is ts k h = get_or_default ts k Ptr (field_of ts k) h
 

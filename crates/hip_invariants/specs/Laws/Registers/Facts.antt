@@ -1,5 +1,5 @@
--- A fact of (function, register, value) that each way keeps in which a register gets a value, holds of each register of
--- each frame of a run.
+-- If each case in which a register gets a value keeps a fact of (function, register, value), the fact holds of each
+-- register of each frame of a run.
 use Rattle.std.proofs.Common.{◌≡◌, ℕ, suc, Bool, true, false, cond, List, [], ◌∷◌, length, Option, Some, None, slice_get, refl, subst}
 use Rattle.std.specs.Str.{bytes_eq}
 use Rattle.std.proofs.lemmas.Slice.Eq.{bytes_eq-Decides}
@@ -26,23 +26,24 @@ use Rattle.hip_invariants.specs.Laws.Frames.{keeps, IsInvariant, invariant_holds
 use Rattle.hip_runs.specs.Laws.Members.{get_drop}
 use Rattle.hip_invariants.specs.Laws.Places.{block_there}
 
--- The fact of a function's register and its value; and one of a function and what it returns.
+-- Fact is about a function's register and its value, Returned about a function and what it returns.
 module _ (Fact : ℕ → List ℕ → ℕ → Type 0) (Returned : ℕ → ℕ → Type 0) where
-  -- each value in these registers, the hidden ones too
+  -- the fact holds of each value in these registers, the hidden ones too
   abbrev pub each_value : ℕ → Registers → Type 0
   each_value g [] = Unit {0}
   each_value g (r ∷ rs) = Fact g r.0 r.1 × each_value g rs
 
-  -- Each value of a frame of a function has the fact.
+  -- The fact holds of each value of a frame of the function.
   pub record ValuesHold (g : ℕ) (rs : Registers) : Type 0 where
     pub all : each_value g rs
 
-  -- the register that takes a value, if one does, has the fact
+  -- the fact holds of the register that takes the value; true if none does
   abbrev pub assigned_fact : ℕ → Option (List ℕ) → ℕ → Type 0
   assigned_fact g None v = Unit {0}
   assigned_fact g (Some name) v = Fact g name v
 
-  -- A function waits for the result of another: whatever comes, the register that it goes into has the fact.
+  -- A function waits for the result of another: for each result that this one may return, the fact holds of the
+  -- register that takes it.
   pub record WaitsFor (g : ℕ) (dest : Option (List ℕ)) (h : ℕ) : Type 0 where
     pub for_result : (v : ℕ) → Returned h v → assigned_fact g dest v
 
@@ -51,11 +52,11 @@ module _ (Fact : ℕ → List ℕ → ℕ → Type 0) (Returned : ℕ → ℕ �
     pub hold : ValuesHold g.function g.registers
     pub waits : WaitsFor g.function dest h
 
-  -- the frame on top
+  -- the fact holds of each value of the frame on top
   abbrev pub on_top : Frame → Type 0
   on_top f = ValuesHold f.function f.registers
 
-  -- What has to be shown of an action of a function: what it gives to registers, or returns, has the fact.
+  -- What has to be shown of an action of a function: the fact holds of what it gives to registers, or returns.
   abbrev pub gives_facts : ℕ → Action → Type 0
   gives_facts g (Assigns dest v) = assigned_fact g dest v
   gives_facts g (Allocates dest a n) = Fact g dest a
@@ -69,7 +70,7 @@ module _ (Fact : ℕ → List ℕ → ℕ → Type 0) (Returned : ℕ → ℕ �
   pub record GivesFacts (g : ℕ) (x : Action) : Type 0 where
     pub is : gives_facts g x
 
-  -- one more register
+  -- the fact still holds after a register takes a value that has it
   pub with_value : (g : ℕ) (dest : Option (List ℕ)) (v : ℕ) (rs : Registers) → assigned_fact g dest v
       → ValuesHold g rs
       → ValuesHold g (assigned dest v rs)
@@ -104,12 +105,12 @@ module _ (Fact : ℕ → List ℕ → ℕ → Type 0) (Returned : ℕ → ℕ �
       go true e rest = subst (λ n. Fact g n r.1) ((bytes_eq-Decides r.0 name).0 e) h.all.0
       go false e rest = rest
 
-  -- the registers of each frame
+  -- the fact holds of each value in the registers of each frame
   abbrev pub values_in_frames : List Frame → Type 0
   values_in_frames [] = Unit {0}
   values_in_frames (f ∷ fs) = ValuesHold f.function f.registers × values_in_frames fs
 
-  -- so each register of each frame has the fact, where 0 has it
+  -- if the fact holds of 0 in each register, it holds of each register of each frame
   pub each_told : ((g : ℕ) (name : List ℕ) → Fact g name 0) → (fs : List Frame) → values_in_frames fs
       → each_register Fact fs
   each_told none [] h = tt
@@ -117,9 +118,8 @@ module _ (Fact : ℕ → List ℕ → ℕ → Type 0) (Returned : ℕ → ℕ �
       (λ name. fact_of_value f.function f.registers name h.0 (none f.function name), each_told none fs h.1)
 
   module _ (P : Program) (I : Input) where
-    -- Each way in which a register gets a value, or a value is returned: by an instruction, by a phi, and by the end of
-    -- a
-    -- block.
+    -- Each case in which a register gets a value, or a function returns one, keeps the fact: an instruction, a phi, and
+    -- the end of a block.
     pub record ActionsKeep : Type 0 where
       pub instr : (n : ℕ) (f : Frame) (fs : List Frame) (fn : Function) (block : Block) (i : Instr) →
           IsTop (run P I n) f fs → ValuesHold f.function f.registers →

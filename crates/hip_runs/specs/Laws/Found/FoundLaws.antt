@@ -1,4 +1,4 @@
--- Marks are the same exactly where they are equal; and the findings of a run exist, and are one.
+-- Marks are the same exactly if they are equal; and each run has findings, and only one.
 use Rattle.std.proofs.lemmas.List.{append-nil}
 use Rattle.std.proofs.Common.{◌≡◌, ℕ, Bool, true, false, ◌&&◌, nat_eq, refl, ap, ap₂, subst, arith, ◌⊎◌, inl, inr, zero, suc, ◌+◌, cond, List, [], ◌∷◌, ◌++◌, Option, Some, None, sym, ◌∙◌}
 use Rattle.hip_tree.specs.declared.site.Site.{Site}
@@ -74,7 +74,7 @@ same_mark-equivalence = record {
   congr = λ a b c e. ap (λ m. same_mark m c) (same_mark_equal a b e);
 }
 
--- the items of two lists are met one list after the other
+-- items that are met list by list are met as one list
 pub met-append : {A : Type 0} (same : A → A → Bool) (xs ys zs : List A)
     → met same xs (ys ++ zs) ≡ met same (met same xs ys) zs
 met-append same xs [] zs = refl
@@ -95,11 +95,11 @@ hit-distinct P I (suc n) =
 -- ---- worths by one pass over the marks
 
 module _ (hit : List ℕ) (site : Site) (operand : ℕ) where
-  -- a sum with what a mark is worth, where it is of the site and the operand
+  -- the sum after a mark: its worth is added if it is of the site and the operand
   abbrev more : ℤ → Mark → ℤ
   more sum m = cond (same_site m.site site && nat_eq m.operand operand) (sum +ℤ worth_of (is_marked hit m.object)) sum
 
-  -- two tests on one operand agree
+  -- two tests for the same operand agree
   same_test : (w : Worth) (m : Mark) → is_worth_of w m.site m.operand ≡ true
       → is_worth_of w site operand ≡ same_site m.site site && nat_eq m.operand operand
   same_test w m e =

@@ -1,4 +1,4 @@
--- The loose parts of a store are those that the loose bytes of its step tell.
+-- The loose parts of a store are those of the loose bytes of its step.
 use Rattle.std.proofs.Common.{◌≡◌, ◌⊎◌, inl, inr, ℕ, zero, suc, ◌+◌, ◌-◌, ◌/◌, ◌<◌, ◌≤◌, Bool, true, false, cond, not, ◌&&◌, ◌||◌, nat_eq, nat_le, nat_lt, List, [], ◌∷◌, length, drop, Option, Some, None, option_map, slice_get, refl, sym, ap, ap₂, ◌∙◌, subst, arith}
 use Rattle.std.specs.Prelude.{option_and_then, option_to_list}
 use Rattle.std.specs.List.{list_any}
@@ -29,7 +29,7 @@ AreInLines ls =
 
 -- ---- a byte that a part shows
 
--- byte c lies among count bytes from b, and in the range of n bytes from o, and no later part covers it
+-- byte c is one of `count` bytes from b, and in the range of n bytes from o, and no later part covers it
 record IsShown (o n count b : ℕ) (later : List StorePart) (c : ℕ) : Type 0 where
   from : b ≤ c
   to : c < b + count
@@ -93,8 +93,8 @@ byte_shown o n (suc count) b later c s = go (λ t. byte_shown o n count (suc b) 
 
 -- ---- the loose parts of a line, by their places
 
--- Loose part y is of part p at place i of these parts, at place k + i of its line: it is of the store of step
--- `made`, after the d durable parts, the last one over a byte of the range, and flushed if it is of the first f.
+-- Loose part y is the part p, at place i of these parts and place k + i of its line. It is of the store of step `made`,
+-- after the d durable parts, and the last part over a byte of the range; it is flushed if it is one of the first f.
 pub record IsOfPart (o n made d f k : ℕ) (ps : List StorePart) (y : LoosePart) (i : ℕ) (p : StorePart) : Type 0 where
   pub at : slice_get ps i ≡ Some p
   pub step : p.step ≡ made
@@ -225,7 +225,7 @@ bytes_in ws o (suc n) x b le lt e = go (λ low. bytes_in ws (suc o) n x b low (o
 
 -- ---- the loose byte of a line
 
--- the last part over the byte, which stands at place k, decides whether it is loose
+-- byte b is loose by the part p at place k, and x is that loose byte
 record IsTold (l : Line StorePart) (b : ℕ) (x : LooseByte) (k : ℕ) (p : StorePart) : Type 0 where
   by : IsLooseBy covers l b k p
   is : x ≡ record { offset = b; tag = p.step; flushed = nat_lt k l.flushed }
@@ -304,7 +304,7 @@ true_over p c h = go (nat_le p.offset c) refl (nat_lt c (p.offset + length p.byt
     go true p false q h = absurd (let z : ⊥ = cc in z)
     go false p b q h = absurd (let z : ⊥ = cc in z)
 
--- ---- loose parts are those by which bytes of their lines are loose
+-- ---- a part is loose if a byte of its line is loose by it
 
 module _ (o n made : ℕ) (ls : List (Line StorePart)) where
   pub part_loose : (p : LoosePart) → In p (loose_parts o n ls made) → IsLoosePart o n made ls p
@@ -429,7 +429,7 @@ part_at [] m l x e i = absurd (let z : ⊥ = cc in z)
 part_at (y ∷ ls) zero l x e i = inl (let z : l ≡ y = cc in subst (λ (w : Line StorePart). In x w.parts) z i)
 part_at (y ∷ ls) (suc m) l x e i = inr (part_at ls m l x e i)
 
--- the part of a loose part is one of the lines
+-- the lines have each loose part
 pub loose_there : (o n made : ℕ) (ls : List (Line StorePart)) (p : LoosePart) → IsLoosePart o n made ls p
     → PartOf ls p.part
 loose_there o n made ls p r =

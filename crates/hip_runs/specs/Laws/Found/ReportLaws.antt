@@ -58,7 +58,7 @@ latest_there f (Some g) = go (nat_lt f.step g.step)
     go true = refl
     go false = refl
 
--- what is known of the loose parts of a store
+-- what holds of the loose parts of a store
 record AreKnown (P : Program) (s : State) (ps : List LoosePart) : Type 0 where
   there : (p : LoosePart) → In p ps → PartOf s.lines p.part
   flushed : (p : LoosePart) → In p ps → p.flushed ≡ true → (f : Flush) × (p.part.first_flush ≡ Some f)

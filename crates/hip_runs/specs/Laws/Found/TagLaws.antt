@@ -1,4 +1,4 @@
--- The loose parts that a check reports, by the loose bytes of its range.
+-- The loose parts that a check reports, found by the loose bytes of its range.
 use Rattle.std.proofs.Common.{◌≡◌, inl, ℕ, suc, ◌<◌, Bool, true, false, not, ◌||◌, nat_eq, List, [], ◌∷◌, Some, refl, sym, ap, ◌∙◌, subst, arith, ap₂, inr, zero, ◌++◌, ◌+◌, ◌≤◌, ◌⊎◌}
 use Rattle.std.specs.List.{flat_map, range_with_len}
 use Rattle.hip_grammar.specs.Spelling.{not_empty}
@@ -16,7 +16,7 @@ use Rattle.hip_runs.specs.Found.Tags.{AreAlike, AreToldBy, AscendWithin, HoldsTa
 use Rattle.hip_runs.specs.Laws.Members.{all_in, any_in, equal_true, in_all, in_any, true_equal}
 use Rattle.std.specs.Cmp.{both_ways}
 
--- ---- a flat map over all numbers of a range, and over those at which something is
+-- ---- a flat map over a range of numbers is one over those that give something
 
 above : (a b : ℕ) (xs : List ℕ) → AscendWithin a b xs → (x : ℕ) → In x xs → a ≤ x
 above a b [] h x i = absurd i
@@ -108,7 +108,7 @@ loose_told P I n o len made =
     let h = are_alike (run P I n).lines (in_lines P I n) o len made in
     record { alike = h; some = some_told _ _ made h; flushed = flushed_told _ _ made h }
 
--- the tags of loose bytes are of steps that were taken
+-- each tag of a loose byte is that of a step that was taken
 pub tag_made : (P : Program) (I : Input) (n o len : ℕ) (b : LooseByte) → In b (loose_bytes (run P I n) o len)
     → b.tag < (run P I n).counts.steps
 tag_made P I n o len b i =
@@ -118,7 +118,7 @@ tag_made P I n o len b i =
     subst (λ m. m < (run P I n).counts.steps) k.step
     ((has_history P I n).made r.0.part (loose_there o len b.tag (run P I n).lines r.0 k))
 
--- no part is loose of a store whose tag no loose byte has
+-- a store has no loose part if no loose byte has its tag
 none_loose : (P : Program) (I : Input) (n o len made : ℕ)
     → ((b : LooseByte) → In b (loose_bytes (run P I n) o len) → b.tag ≡ made → ⊥)
     → loose_parts o len (run P I n).lines made ≡ []

@@ -1,4 +1,4 @@
--- The pending parts that are shown follow the lines of a run through stores, flushes and fences.
+-- The pending parts of the code's lines follow the lines of a run through stores, flushes and fences.
 use Rattle.std.proofs.Common.{◌≡◌, ℕ, zero, suc, ◌-◌, ◌*◌, ◌<◌, ◌&&◌, subst, lt-ltb, Bool, true, false, cond, List, [], ◌∷◌, length, map, take, drop, refl, sym, ap, ap₂, ◌∙◌, arith, length-drop}
 use Rattle.std.proofs.lemmas.List.{length-map, length-take-le}
 use Rattle.hip_tree.specs.declared.site.Site.{Site}
@@ -15,7 +15,7 @@ use Rattle.hip_runs.specs.State.{Level, Flush, StorePart, Counts}
 use Rattle.hip_runs.specs.StoredParts.Shown.{shown_part, shown_line, shown}
 use Rattle.hip_runs.specs.Standing.{HoldsLines}
 
--- a change of the lines, and one of what is shown of them
+-- a change of the lines is a change of what is shown of them
 shown_change : (g : ℕ → Line StorePart → Line StorePart) (h : ℕ → Pending Part → Pending Part) (o n : ℕ)
     → ((j : ℕ) (l : Line StorePart) → IsOrdered l → shown_line (g j l) ≡ h j (shown_line l)) →
     (j : ℕ) (ls : List (Line StorePart)) → AreOrdered ls
@@ -55,7 +55,7 @@ fence_shown l h =
     ap (λ x. pending_of (fenced_line x)) (same_line noted_fence (λ p. refl) l)
     ∙ pending-fenced_line (map_line shown_part l) (ordered-map_line shown_part l h)
 
--- the bytes of a part are as many as its line has of the store
+-- a part has as many bytes as the store has in its line
 part_length : (o j : ℕ) (bytes : List ℕ)
     → length (take (end_in j o (length bytes) - start_in j o) (drop (start_in j o - o) bytes))
     ≡ end_in j o (length bytes) - start_in j o

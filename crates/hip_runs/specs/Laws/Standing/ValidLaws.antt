@@ -1,4 +1,4 @@
--- The two tests on valid bytes are one.
+-- The two tests on valid bytes agree.
 use Rattle.std.proofs.Common.{◌≡◌, ℕ, zero, suc, ◌+◌, ◌<◌, ◌≤◌, ◌⊎◌, inl, inr, Option, Some, None, cond, nat_eq, ◌%◌, Bool, true, false, ◌||◌, List, length, ◌∷◌, [], ◌++◌, refl, sym, ap, ap₂, ◌∙◌, arith}
 use Rattle.std.proofs.lemmas.Bool.Decides.{nat_tests}
 use Rattle.std.specs.Cmp.{both_ways}
@@ -96,13 +96,13 @@ pub valid_is : (P : Program) (I : Input) (w : World) (r : Areas) (a n : ℕ) →
 valid_is P I w r a zero some v h = absurd (omega (arith, some))
 valid_is P I w r a (suc n) some v h = valid_same P I w r a n v h
 
--- what a trap of the memory makes of an action
+-- the action after the memory's answer: the trap, or the action
 abbrev pub unless_trap : Option MemTrap → Action → Action
 unless_trap None go = go
 unless_trap (Some mem_traps.Misaligned) go = Traps traps.Misaligned
 unless_trap (Some mem_traps.BadAddress) go = Traps traps.Address
 
--- an access is refused by the memory of the code where it is in the run
+-- an access traps in the memory of the code exactly if it does in the run
 pub accessed_is : (P : Program) (I : Input) (w : World) (r : Areas) (a n align : ℕ) (go : Action) → 0 < n
     → volatile_start + length (volatile_bytes P I.base) ≡ volatile_end P → HoldsMemory P I r w.writes w.mark →
     accessed P I w a n align go ≡ unless_trap (access_trap r a n align) go

@@ -1,4 +1,4 @@
--- A type may lead back to itself through `Row`: how a row holds its items.
+-- A type may refer to itself through `Row`: how a row holds its items.
 use mathlib.Core.Path.{◌≡◌, refl, sym}
 use mathlib.Core.List.{List, []}
 use mathlib.Core.Former.{Former, this, list, via, children}
@@ -23,7 +23,7 @@ use Rattle.hip_types.specs.contracts.row.Row.TheInside as inside
 abbrev pub the_former : Former {0} → Former {0}
 the_former item = list item
 
--- the measure of a row is the greatest of its items', 0 if there is no item
+-- the measure of a row is the greatest of its items' measures; 0 if there is no item
 abbrev pub the_weighed : {item : Former {0}} → Weighed item → Weighed (the_former item)
 the_weighed weight = w_list weight
 

@@ -1,4 +1,4 @@
-//! The end of a call, when the status is known.
+//! The end of a call, once its status is known.
 
 ghost use Rattle.std.specs.Prelude.{◌≡◌};
 ghost use Rattle.hip_answers.specs.Answers.{Finishes, PutsLine};
@@ -16,8 +16,8 @@ pub fn refuse<N: Sink>(notes: &mut N, status: Status) -> Status
     status
 }
 
-/// What is answered when the text for the notes was tried after that for the output: the status, or a write fault,
-/// whose line is then tried.
+/// The status of a call that has tried to write its text for the notes, after that for the output: the status, or a
+/// write fault. Then it tries to write the line of the write fault.
 pub fn finish<N: Sink>(notes: &mut N, tried: Put, status: Status) -> Status
     ensures { Finishes tried status (N.state notes.old) (N.state notes.new) result }
 {

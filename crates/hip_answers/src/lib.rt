@@ -1,4 +1,4 @@
-//! What came of a command: its status, the line of each refusal, and what is written in which case.
+//! What a command answers: its status, the line of each refusal, and what it writes in which case.
 #![tactic(auto)]
 
 mod closing;

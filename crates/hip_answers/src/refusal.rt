@@ -5,12 +5,12 @@ use crate::status::{FileRole, Status};
 use hip_program_files::Failure;
 use hip_run_traces::MisfitKind;
 
-/// Why a file is no trace of a run of a program.
+/// Why a file is not the trace of a run of a program.
 #[derive(Clone, Copy, Debug, PartialEq, Eq)]
 pub enum TraceFileRefusal {
     /// There is no such file.
     Missing,
-    /// This is the first entry, numbered from 1, that is not the run's.
+    /// This entry, numbered from 1, is the first that differs from the run's.
     Misfit { entry: u128, kind: MisfitKind },
 }
 

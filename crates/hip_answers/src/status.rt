@@ -6,7 +6,7 @@ use hip_program_files::{Failure, LoadRefusal, ProgramRefusal};
 use hip_run_traces::MisfitKind;
 use hip_runs::TrapKind;
 
-/// Which file.
+/// The file that a status is about.
 #[derive(Clone, Copy, PartialEq, Eq)]
 pub enum FileRole {
     Program,
@@ -15,7 +15,7 @@ pub enum FileRole {
     Number(u64),
 }
 
-/// What came of a command.
+/// How a command ended.
 #[derive(Drop)]
 pub enum Status {
     /// It was carried out.
@@ -34,12 +34,12 @@ pub enum Status {
     BadProgram {
         refusal: ProgramRefusal,
     },
-    /// The trace is not one of a run of the program, first at this entry, numbered from 1.
+    /// The trace is not one of a run of the program. This entry is the first that differs, numbered from 1.
     Misfit {
         entry: u128,
         kind: MisfitKind,
     },
-    /// No memory was left.
+    /// Memory ran out.
     NoMemory,
     /// The program's text has more than 16,777,216 bytes.
     TooLarge,
@@ -49,7 +49,7 @@ pub enum Status {
     },
     /// The run was cut at its limit of turns.
     Cut,
-    /// One of many traces, numbered from 1, is not one of a run of the program, first at this entry.
+    /// One of many traces, numbered from 1, is not one of a run of the program. This entry is the first that differs.
     MisfitIn {
         trace: u64,
         entry: u128,
@@ -59,7 +59,7 @@ pub enum Status {
     NoEntry {
         entries: u128,
     },
-    /// This is how the first of the picks that fails does; never out of memory.
+    /// The first pick that fails does so in this way; never out of memory.
     BadPick {
         refusal: PickRefusal,
     },

@@ -11,7 +11,7 @@ use hip_lines::Lines;
 use hip_runs::{Event, Input};
 use hip_types::NoMemory;
 
-/// Makes room for the parts of a store, where it lies in the region.
+/// Makes room for the parts of a store, if it lies in the region.
 #[inline(always)]
 pub fn make_room(lines: &mut Lines, input: &Input, store: StoreAhead) -> Result<(), NoMemory>
     requires whole { length input.now.image ≡ LINE_SIZE * length lines.old.lines }

@@ -99,7 +99,7 @@ fn fresh_name(
     candidate(alloc, name, limit)
 }
 
-/// The name of the function of that number; empty where there is none.
+/// The name of the function of that number; empty if there is none.
 pub fn name_of(program: &Program, number: usize) -> &[u8]
     ensures { result.now ≡ name_of program.now number }
 {
@@ -109,10 +109,10 @@ pub fn name_of(program: &Program, number: usize) -> &[u8]
     }
 }
 
-/// Names for copies of the functions of these numbers: for each in order the first of `f.pm`, `f.pm1`, `f.pm2` and so
-/// on that no global, extern or function has and no earlier copy.
+/// Names for copies of the functions of these numbers: for each, in order, the first of `f.pm`, `f.pm1`, `f.pm2` and so
+/// on that no global, extern, function or earlier copy has.
 ///
-/// Where the functions differ, the time is linear in the names of the program and of the copies together.
+/// If the functions differ, the time is linear in the names of the program and of the copies together.
 pub fn fresh_names(
     alloc: Global,
     program: &Program,

@@ -7,7 +7,7 @@ pub fn callees_are_reached()
     ensures { CalleesAreReached }
 {}
 
-/// Fresh names are the first that nothing has yet, and none of them is an external function's.
+/// Each fresh name is the first candidate that is not in use, and none of them is an external function's.
 pub fn fresh_names_are_fresh()
     ensures { FreshNamesAreFresh }
 {}

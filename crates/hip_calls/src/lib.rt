@@ -1,4 +1,4 @@
-//! Which functions calls can reach, and names that nothing has yet.
+//! The functions that calls can reach, and names that are not in use.
 #![tactic(auto)]
 
 mod fresh;

@@ -71,7 +71,7 @@ fn add_called_from(
     }
 }
 
-/// Adds the function that the call at a site is of.
+/// Adds the function that the call at a site calls.
 fn add_called_at(
     seen: &mut IndexSet<usize>,
     functions: &FunctionTable<'_>,
@@ -122,9 +122,9 @@ fn add_reached(seen: &mut IndexSet<usize>, functions: &FunctionTable<'_>) -> Res
 }
 
 /// The numbers of the defined functions that calls reach from the calls at these sites, their callees included, each
-/// once, in the order of first meeting by breadth. A site that is no call of a defined function adds none.
+/// once, in breadth-first order. A site that is no call of a defined function adds none.
 ///
-/// Each function and each call is looked at once; the memory is linear in the number of functions.
+/// Each function and each call is visited once; the memory is linear in the number of functions.
 pub fn callees(alloc: Global, program: &Program, calls: &[Site]) -> Result<Row<usize>, NoMemory>
     ensures { IfOk result (λ found. found ≡ spec.callees program.now calls.now) }
 {

@@ -53,8 +53,8 @@ pub struct Body<'a> {
     pub alloc: Global,
 }
 
-/// The block that each path passes before the point: the one that assigns what the name denotes; none if it was
-/// assigned in the block of the point, or is a parameter.
+/// The block that each path to the point has to pass: the one that assigns what the name denotes. None if the block of
+/// the point assigns it before the point, or if it is a parameter.
 fn to_pass(count: usize, block: usize, point: Point, inner: Option<Inner>) -> Option<usize>
     ensures { result ≡ spec.to_pass count block point inner }
 {
@@ -120,7 +120,7 @@ pub fn check_operand(
     }
 }
 
-/// The same of an operand that a place may have.
+/// The same for an operand, if the place has one.
 fn check_one(
     body: &Body<'_>,
     place: Place,
@@ -140,7 +140,7 @@ fn check_one(
     }
 }
 
-/// The same of arguments.
+/// The same for arguments.
 fn check_args(
     body: &Body<'_>,
     place: Place,
@@ -163,7 +163,7 @@ fn check_args(
     Ok(())
 }
 
-/// The same of all that a place uses.
+/// The same for all that a place uses.
 pub fn check_uses(
     body: &Body<'_>,
     place: Place,

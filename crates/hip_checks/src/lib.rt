@@ -1,4 +1,4 @@
-//! The rules of soundness, each decided: what the first one that a program breaks finds.
+//! The rules of soundness as checks: each finds the first place that breaks a rule.
 #![tactic(auto)]
 
 mod assigned;

@@ -8,7 +8,7 @@ use crate::op::{BitOp, Comparison, DivisionOp, IntegerOp, ShiftOp, SumOp};
 use hip_num::{NumTrap, binary, compare, widen};
 use hip_types::{BinaryOp, Bits, Pred, Width};
 
-// The result of an operation on two integers of one width, or why there is none.
+// The result of an operation on two integers of the same width, or why there is none.
 #[inline(always)]
 fn operate(op: IntegerOp, a: Bits, b: Bits) -> Result<Bits, NumTrap>
     requires { a.width ≡ b.width }
@@ -33,7 +33,7 @@ fn operate(op: IntegerOp, a: Bits, b: Bits) -> Result<Bits, NumTrap>
     }
 }
 
-// The number that an operation gives on two numbers that are cut to a width, or why it traps.
+// The number that an operation gives on two numbers, each cut to a width, or why it traps.
 #[inline(always)]
 fn cut_and_operated(op: IntegerOp, width: Width, left: u64, right: u64) -> Result<u64, NumTrap>
     ensures { result ≡ number_in (operated (operation_of op) width left right) }
@@ -51,8 +51,8 @@ fn operated_narrow(op: IntegerOp, width: Width, left: u64, right: u64) -> Result
     cut_and_operated(op, width, left, right)
 }
 
-/// The number that an operation gives on two numbers that are cut to a width, or why it traps. Numbers of 64 bits,
-/// which need no cut, are a case of their own.
+/// The number that an operation gives on two numbers, each cut to a width, or why it traps. Numbers of 64 bits, which
+/// need no cut, are a case of their own.
 #[inline(always)]
 pub fn operated(op: IntegerOp, width: Width, left: u64, right: u64) -> Result<u64, NumTrap>
     ensures { result ≡ number_in (operated (operation_of op) width left right) }
@@ -76,7 +76,7 @@ pub fn divide(op: DivisionOp, a: Bits, b: Bits) -> Result<Bits, NumTrap>
     }
 }
 
-// Whether a comparison holds of two integers of one width.
+// Whether a comparison holds of two integers of the same width.
 #[inline(always)]
 fn holds_of(test: Comparison, a: Bits, b: Bits) -> bool
     requires { a.width ≡ b.width }
@@ -96,8 +96,8 @@ fn compared_narrow(test: Comparison, width: Width, left: u64, right: u64) -> boo
     holds_of(test, Bits::new(width, left), Bits::new(width, right))
 }
 
-/// Whether a comparison holds of two numbers that are cut to a width. Numbers of 64 bits need no cut and are
-/// compared as they are.
+/// Whether a comparison holds of two numbers, each cut to a width. Numbers of 64 bits need no cut and are compared as
+/// they are.
 #[inline(always)]
 pub fn compared(test: Comparison, width: Width, left: u64, right: u64) -> bool
     ensures { result ≡ compared (predicate_of test) width left right }
@@ -120,7 +120,7 @@ fn extend_narrow(width: Width, value: u64) -> u64
     widen(Bits::new(width, value), Width::W64, true).value
 }
 
-/// A number that is cut to a width, with its sign in front of it up to 64 bits.
+/// A number that is cut to a width, and then sign-extended to 64 bits.
 #[inline(always)]
 pub fn extend(width: Width, value: u64) -> u64
     ensures { result ≡ extended width value }

@@ -1,13 +1,13 @@
 use hip_types::Width;
 
-/// Where an op takes a value from: a register's slot in its frame, or a place in the table of constants.
+/// The place from which an op takes a value: a register's slot in its frame, or a place in the table of constants.
 #[derive(Clone, Copy)]
 pub enum Operand {
     Register(u32),
     Constant(u32),
 }
 
-/// Some entries of a table that follow one another: the place of the first one, and how many there are.
+/// Consecutive entries of a table: the place of the first one, and how many there are.
 #[derive(Clone, Copy)]
 pub struct Span {
     pub from: u32,
@@ -60,8 +60,8 @@ pub enum Comparison {
     SignedLess,
 }
 
-/// An address that is worked out from a base, modulo 2^64. Scales and offsets are in bytes, and an index is
-/// sign-extended to 64 bits from its width.
+/// An address that is computed from a base, modulo 2^64. Scales and offsets are in bytes, and an index is sign-extended
+/// to 64 bits from its width.
 #[derive(Clone, Copy)]
 pub enum Gep {
     /// The base and an offset.
@@ -108,7 +108,7 @@ pub enum Value {
 
 #[derive(Clone, Copy)]
 pub enum Rest {
-    /// 1 where the comparison holds or, if it is negated, where it does not.
+    /// 1 if the comparison holds, or, where it is negated, if it does not hold.
     Compare {
         test: Comparison,
         negated: bool,
@@ -116,7 +116,7 @@ pub enum Rest {
         a: Operand,
         b: Operand,
     },
-    /// The value modulo 2 to a width; if it is signed, its sign from the other width is put in front before.
+    /// The value modulo 2 to a width; if it is signed, it is sign-extended from the other width first.
     Cast {
         signed: bool,
         from: Width,
@@ -190,7 +190,7 @@ pub enum Outside {
     Read(Option<u32>),
 }
 
-/// What an edge moves into a slot, a phi's operand for the block that control comes from; or what a call moves into the
+/// What an edge moves into a slot: a phi's operand for the block that control comes from. Or what a call moves into the
 /// slot of a parameter.
 #[derive(Clone, Copy)]
 pub struct Move {
@@ -257,7 +257,7 @@ pub enum Exit {
     Unreachable,
 }
 
-/// What stands at a place of the code.
+/// The op at a place of the code.
 #[derive(Clone, Copy)]
 pub enum Op {
     /// A value that goes into a slot.

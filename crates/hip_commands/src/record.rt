@@ -14,7 +14,7 @@ use hip_types::{NoMemory, Row};
 use std::alloc::Global;
 
 /// Runs the program of a file, with its region at a base, and writes the trace of the run as it runs, a line for each
-/// entry; then how the run has ended goes to notes.
+/// entry; then it writes to notes how the run has ended.
 #[inline(never)]
 pub fn record_file<C: Cabinet, S: Sink, N: Sink>(
     alloc: Global,

@@ -12,8 +12,8 @@ use hip_runs::{MOST_NUMBERS, MOST_TURNS, first_input};
 use hip_types::{LOWEST_BASE, NoMemory, Row};
 use std::alloc::Global;
 
-/// Runs the program of a file, with its region at the lowest base, and writes what it prints as it runs; then how the
-/// run has ended goes to notes.
+/// Runs the program of a file, with its region at the lowest base, and writes what it prints as it runs; then it writes
+/// to notes how the run has ended.
 #[inline(never)]
 pub fn run_file<C: Cabinet, S: Sink, N: Sink>(
     alloc: Global,

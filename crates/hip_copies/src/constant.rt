@@ -7,7 +7,7 @@ use hip_tree::{Const, ConstGep, TypedConst};
 use hip_types::{Link, NoMemory, Row, Ty, copy_ty, same_ty};
 use std::alloc::Global;
 
-/// A constant of its own that is equal to the given one.
+/// A new constant that is equal to the given one.
 #[cycle(copy)]
 pub fn copy_const(alloc: Global, value: &Const) -> Result<Const, NoMemory>
     ensures { IfOk result (λ c. c ≡ value.now) }

@@ -75,7 +75,7 @@ impl Structural for Function {
     }
 }
 
-/// A program of its own that is equal to the given one.
+/// A new program that is equal to the given one.
 pub fn copy(alloc: Global, program: &Program) -> Result<Program, NoMemory>
     ensures { IfOk result (λ p. p ≡ program.now) }
 {

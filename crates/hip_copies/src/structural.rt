@@ -5,7 +5,7 @@ use std::alloc::Global;
 
 /// A type whose values contracts compare by their structure.
 pub trait Structural: Drop {
-    /// A value of its own that is equal to this one.
+    /// A new value that is equal to this one.
     fn copy(&self, alloc: Global) -> Result<Self, NoMemory>
         ensures { IfOk result (λ t. t ≡ self.now) };
 

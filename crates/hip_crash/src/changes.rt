@@ -13,7 +13,7 @@ use crate::values::StoredValue;
 use hip_image::Image;
 use hip_types::{LINE_SIZE, NoMemory};
 
-/// One more than the last line that has a byte of a range; 0 where the range has no bytes.
+/// One more than the last line that has a byte of a range; 0 if the range has no bytes.
 pub fn end_line(offset: u64, len: u64) -> u64
     requires { offset + len < 2 ^ 40 }
     ensures lines { (j : ℕ) → has_bytes j offset len ≡ (nat_le (offset / LINE_SIZE) j && nat_lt j result) }
@@ -58,8 +58,8 @@ fn ensure_line(lines: &mut KeptLines, image: &Image, line: u64) -> Result<(), No
     }
 }
 
-/// Flushes the lines that have a byte of a range, in time of the kept ones, and lists those that hold flushed stores
-/// then.
+/// Flushes the lines that have a byte of a range, in time linear in the kept ones, and lists those that hold flushed
+/// stores after that.
 pub fn flush_in(
     lines: &mut KeptLines,
     flushed: &mut Vec<u64>,
@@ -84,7 +84,7 @@ pub fn flush_in(
     Ok(())
 }
 
-// Flushes a line, and lists it if it holds flushed stores then and held none before.
+// Flushes a line, and lists it if it holds flushed stores now and held none before.
 fn flush_line(lines: &mut KeptLines, flushed: &mut Vec<u64>, line: u64) -> Result<(), NoMemory>
     requires there { IsSome (line_at lines.old line) }
     requires listed { AreListed flushed.old.items lines.old }
@@ -131,7 +131,7 @@ pub fn fence_in(lines: &mut KeptLines, flushed: &[u64])
     }
 }
 
-/// Makes all stores of the lines that have a byte of a range durable, in time of the kept ones.
+/// Makes all stores of the lines that have a byte of a range durable, in time linear in the kept ones.
 pub fn persist_in(lines: &mut KeptLines, offset: u64, len: u64)
     requires { offset + len < 2 ^ 40 }
     ensures { (j : ℕ) → kept_at lines.new j

@@ -9,7 +9,7 @@ use hip_image::Image;
 use hip_runs::{Event, Input};
 use hip_types::LINE_SIZE;
 
-/// The number of entries before a run's first step, in time of the initial bytes.
+/// The number of entries before a run's first step, in time linear in the initial bytes.
 pub fn count_header(input: &Input) -> u128
     ensures { result ≡ header_entries input.now }
 {

@@ -51,7 +51,7 @@ impl KeptLines {
         self.lines.get(place - 1)
     }
 
-    /// What is kept of the first cache line from one up to another of which something is.
+    /// What is kept of the first kept line of a range of cache lines, if there is one.
     pub fn first_from(&self, from: u64, to: u64) -> Option<&KeptLine>
         requires { to < 2 ^ 63 }
         ensures { IsFirstKept self.now from to (option_copied result) }

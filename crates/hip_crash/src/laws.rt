@@ -9,7 +9,7 @@ ghost use Rattle.hip_runs.specs.Step.{run};
 ghost use Rattle.hip_runs.specs.Validity.{IsValid};
 ghost use Rattle.hip_runs.specs.declared.input.Input.{Input};
 
-/// Picks of which none fails give a crash image.
+/// Picks, none of which fails, give a crash image.
 pub fn fitting_picks_give_images()
     ensures { (P : Program) → (I : Input) → (n : ℕ) → (picks : List Pick) → IsValid P I →
         first_failure (run P I n) picks ≡ None →

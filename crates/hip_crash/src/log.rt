@@ -23,8 +23,8 @@ use std::alloc::Global;
 use std::marker::Model;
 
 /// What a crash may leave in the region at each step of a run. Contracts see the program, the input, and the number of
-/// steps that were noted. Of each cache line that was stored into, it keeps the bytes after the durable stores, and the
-/// later stores.
+/// steps that were noted. Of each cache line that was stored into, the log keeps the bytes after the durable stores,
+/// and the later stores.
 #[derive(Drop)]
 pub struct CrashLog<'a> {
     checked: &'a Checked,
@@ -52,7 +52,7 @@ impl<'a> Model for CrashLog<'a> {
 }
 
 impl<'a> CrashLog<'a> {
-    /// A log of the first state of a run, in time of the initial bytes and the program's blocks.
+    /// A log of the first state of a run, in time linear in the initial bytes and the program's blocks.
     pub fn new(
         alloc: Global,
         checked: &'a Checked,
@@ -75,7 +75,8 @@ impl<'a> CrashLog<'a> {
         })
     }
 
-    /// Takes the next step of the machine whose steps it noted so far, and notes it. Out of memory, neither changes.
+    /// Takes the next step of the machine, and notes it; the log has noted each step of the machine so far. Out of
+    /// memory, neither changes.
     #[inline(always)]
     pub fn advance(&mut self, machine: &mut Machine<'_>) -> Result<Event, NoMemory>
         requires { self.old ≡ machine.old }
@@ -117,8 +118,8 @@ impl<'a> CrashLog<'a> {
         self.line_bounds(line)
     }
 
-    /// The image that picks give, in which a line that is not named keeps only its durable stores; or how the first
-    /// failing pick fails. It takes memory for the bytes up to the last one that is not 0.
+    /// The image that picks give, or how the first failing pick fails. A line that no pick names keeps only its durable
+    /// stores. It takes memory for the bytes up to the last one that is not 0.
     pub fn pick_image(&self, alloc: Global, picks: &[Pick]) -> Result<Image, PickRefusal>
         ensures image { IfOk result (λ image. image
             ≡ crash_image self.now.input (state_of self.now) (picked (state_of self.now) picks.now)) }
@@ -142,7 +143,7 @@ impl<'a> CrashLog<'a> {
         Ok(image)
     }
 
-    /// The picks of each line, ascending, that give an image, in one pass over it. None exactly when it is not a crash
+    /// The picks of each line, ascending, that give an image, in one pass over it. None exactly if it is not a crash
     /// image.
     pub fn find_picks(&self, alloc: Global, image: &Image) -> Result<Option<Row<Pick>>, NoMemory>
         requires { length image.now ≡ length self.now.input.image }
@@ -261,7 +262,7 @@ fn number_in(numbers: &[Option<u64>], line: usize) -> Option<u64>
     numbers[line]
 }
 
-// The number of stores after the durable ones that a number stands for.
+// The number of stores after the durable ones that an image has in a line, by the number that was picked for the line.
 fn behind(least: u64, number: Option<u64>) -> usize
     requires { least ≤ number_or least number }
     ensures { result ≡ number_or least number - least }

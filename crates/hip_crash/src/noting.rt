@@ -1,4 +1,4 @@
-//! What a step's event does to what is kept of the region.
+//! What the event of a step does to what is kept of the region.
 
 ghost use Rattle.std.specs.Prelude.{◌≡◌, ◌<◌, ◌^◌, ℕ, List, length};
 ghost use Rattle.hip_cache.specs.Within.{IsWithin};

@@ -6,7 +6,7 @@ ghost use Rattle.hip_types.specs.Bytes.{bytes_of};
 
 use hip_types::LINE_SIZE;
 
-/// A store into the region: where its first byte lies there, the value, and how many bytes of it were written, the
+/// A store into the region: the offset of its first byte, the value, and how many bytes of the value were written, the
 /// lowest first.
 #[derive(Clone, Copy, Drop)]
 pub struct StoredValue {
@@ -31,7 +31,7 @@ pub fn put_value(bytes: &mut [u8; LINE_SIZE as usize], start: u64, stored: Store
     }
 }
 
-// The byte of a value at a place counted from the lowest.
+// The byte of a value at a place, counted from the lowest byte.
 fn byte_at(value: u64, place: u64) -> u8
     ensures { (n : ℕ) → place < n → result ≡ slice_index (bytes_of n value) place }
 {

@@ -8,8 +8,8 @@ use crate::kept_line::put_front;
 use crate::values::{StoredValue, put_value};
 use hip_types::LINE_SIZE;
 
-/// The bytes of a line after its durable stores, the number of these, and the later ones, of which the last may stand
-/// apart.
+/// The bytes of a line after its durable stores, the number of these, and the later ones; the last of the later ones
+/// may be kept apart.
 #[derive(Drop)]
 pub struct LineView<'a> {
     pub bytes: [u8; LINE_SIZE as usize],
@@ -43,8 +43,8 @@ impl<'a> LineView<'a> {
         bytes
     }
 
-    /// The number of later stores after which the line's bytes, whose first one has this offset, are these, if there is
-    /// one.
+    /// The number of later stores after which the line's bytes are the wanted ones, if there is one. The first byte of
+    /// the line has this offset.
     pub fn find(&self, start: u64, wanted: &[u8]) -> Option<usize>
         requires start { start < 2 ^ 40 }
         ensures { MatchOption result
@@ -77,7 +77,7 @@ impl<'a> LineView<'a> {
     }
 }
 
-// Writes the bytes of the value that stands apart, if there is one.
+// Writes the bytes of the value that is kept apart, if there is one.
 fn put_last(bytes: &mut [u8; LINE_SIZE as usize], start: u64, last: Option<StoredValue>)
     requires { start < 2 ^ 40 }
     ensures { bytes.new ≡ bytes_after (option_to_list last) start bytes.old }

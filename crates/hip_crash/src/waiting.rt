@@ -1,6 +1,6 @@
 use crate::values::StoredValue;
 
-/// What came last, and is not taken up into the kept lines yet, since that takes memory.
+/// The last store or flush, which is not taken up into the kept lines yet, since that takes memory.
 #[derive(Clone, Copy, Drop)]
 pub enum Waiting {
     Nothing,

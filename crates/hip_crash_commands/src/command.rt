@@ -15,7 +15,7 @@ use hip_trace_writing::put_trace;
 use std::alloc::Global;
 
 /// Picks a crash image of the run whose trace a file has, at an entry of that trace, and writes the trace of the run
-/// that begins with it as it runs; then how that run has ended goes to notes.
+/// that begins with it as it runs; then it writes to notes how that run has ended.
 #[inline(never)]
 pub fn crash_file<C: Cabinet, S: Sink, N: Sink>(
     alloc: Global,

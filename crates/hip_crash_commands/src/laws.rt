@@ -4,18 +4,18 @@ ghost use Rattle.hip_crash_commands.specs.Laws.{CrashFaultsHideNone, CrashesAreA
 
 use hip_crash::fitting_picks_give_images;
 
-/// Where the files are known, `crash` has one answer on them, but for read faults.
+/// If the files are known, `crash` has one answer on them, apart from read faults.
 pub fn crashes_are_one()
     ensures { CrashesAreOne }
 {}
 
-/// Where the trace's file is current after a read fault, and is not the program's, its bytes that were taken show no
-/// misfit.
+/// If the trace's file is current after a read fault, and is not the program's, the bytes that were taken from it show
+/// no misfit.
 pub fn crash_faults_hide_no_misfit()
     ensures { CrashFaultsHideNone }
 {}
 
-/// Where the one file has a program and the other is the trace of a run of it, `crash` has an answer.
+/// If one file has a program and the other is the trace of a run of it, `crash` has an answer.
 pub fn crashes_are_answered()
     ensures { CrashesAreAnswered }
 {

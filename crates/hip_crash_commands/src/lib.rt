@@ -1,4 +1,4 @@
-//! `crash`: crash images that are picked, and the runs that begin with them.
+//! `crash`: the picked crash images, and the runs that begin with them.
 #![tactic(auto)]
 
 mod advancing;

@@ -10,7 +10,7 @@ use hip_program_files::Failure;
 pub enum ImageRefusal {
     /// The trace has this number of entries, and none with the order's number.
     NoEntry { entries: u128 },
-    /// This is how the first of the picks fails that does; never out of memory.
+    /// The first pick that fails does so in this way; never out of memory.
     BadPick { refusal: PickRefusal },
 }
 
@@ -26,7 +26,7 @@ pub(crate) fn status_of_image(failure: Failure<ImageRefusal>) -> Status
     }
 }
 
-/// A refusal of picks, as one of the image.
+/// A refusal of picks, as a refusal of the image.
 pub(crate) fn failure_of_picks(refusal: PickRefusal) -> Failure<ImageRefusal>
     ensures { result ≡ failure_of_picks refusal }
 {

@@ -14,7 +14,7 @@ use hip_types::NoMemory;
 use std::alloc::Global;
 
 /// Makes the program for a seed and a size, records its run in memory, replays the trace, repairs the program and runs
-/// it again. All memory is taken before the first byte is written. Whatever cabinet there is, it is not looked at.
+/// it again. It takes all its memory before it writes the first byte, and reads no file of the cabinet.
 #[inline(never)]
 pub fn demo<S: Sink, N: Sink>(
     alloc: Global,

@@ -10,7 +10,7 @@ use hip_sound::Checked;
 use hip_types::NoMemory;
 use std::alloc::Global;
 
-/// The program that the generated text for a seed and a size is read as.
+/// The program that the generated text for a seed and a size reads as.
 pub(crate) fn load_generated(alloc: Global, seed: u64, size: u64) -> Result<Checked, NoMemory>
     requires seed { seed < SEED_END }
     requires some { 1 ≤ size }

@@ -8,7 +8,7 @@ use hip_types::Row;
 use std::alloc::Global;
 use std::marker::Model;
 
-/// A sink whose bytes are kept; a piece for which there is no memory is not written.
+/// A sink that keeps its bytes. It does not write a piece for which there is no memory.
 #[derive(Drop)]
 pub(crate) struct KeptText {
     text: Row<u8>,

@@ -19,7 +19,7 @@ use hip_sound::Checked;
 use hip_types::{LOWEST_BASE, NoMemory, Row};
 use std::alloc::Global;
 
-/// What is counted where a program was recorded, replayed, repaired and run again.
+/// What a demonstration counts while it records, replays, repairs and runs a program again.
 #[derive(Drop)]
 pub(crate) struct Shown {
     /// How many entries the trace has.

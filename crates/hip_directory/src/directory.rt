@@ -10,7 +10,7 @@ use std::alloc::Global;
 /// and four bytes for each group below the last of them.
 #[derive(Drop)]
 pub struct Directory {
-    // For each group of keys where its entries lie, counted in groups; 0 where none were made.
+    // For each group of keys the place of its entries, counted in groups; 0 if none were made.
     groups: Vec<u32>,
     // The entries, group by group. The first group is zeros.
     entries: Vec<u32>,
@@ -74,7 +74,7 @@ impl Directory {
         self.entries[place] = number;
     }
 
-    /// The first key from one up to another that has a number but 0, in time of the groups between them; at once where
+    /// The first key of a range that has a number other than 0, in time linear in the groups of the range; at once if
     /// no key at all has one.
     pub fn first_set(&self, from: u64, to: u64) -> Option<u64>
         requires { to < 2 ^ 63 }

@@ -5,5 +5,5 @@ mod directory;
 
 pub use directory::Directory;
 
-/// How many keys in a row have their entries side by side.
+/// How many consecutive keys have their entries in one group.
 pub const GROUP_SIZE: u64 = 64;

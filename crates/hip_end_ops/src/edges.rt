@@ -19,7 +19,7 @@ pub struct Source<'a> {
     pub first: usize,
 }
 
-/// The edge to a block that is there already, if the table by blocks names one: what it names counts only where it is
+/// The edge to a block that exists already, if the table by blocks names one. What the table names counts only if it is
 /// an edge from the source to that block.
 fn earlier(tables: &Growing, made: &Row<u32>, first: usize, target: usize) -> Option<u32>
     ensures { MatchOption result (Unit {0}) (λ number. Earlier (grown tables.now) first target number) }
@@ -74,14 +74,14 @@ fn new_edge(
     Ok(number)
 }
 
-/// Keeps the number of the edge to a block, where the table by blocks has a place for it.
+/// Keeps the number of the edge to a block, if the table by blocks has a place for it.
 fn keep(made: &mut Row<u32>, target: usize, number: u32) {
     if target < made.len() {
         made.set(target, number);
     }
 }
 
-/// The edge from a block to the one with a label. Where `made` has a place for each block of the function, there is one
+/// The edge from a block to the one with a label. If `made` has a place for each block of the function, there is one
 /// edge from one block to another, however often it is named.
 pub fn edge(
     scope: &Scope<'_, '_>,

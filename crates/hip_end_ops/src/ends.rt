@@ -20,7 +20,7 @@ pub struct Labels<'a> {
     no: &'a Name,
 }
 
-/// The cases of a switch, and the label that it takes in no case.
+/// The cases of a switch, and the label that it takes if no case fits.
 #[derive(Clone, Copy)]
 pub struct Targets<'a> {
     cases: &'a [hip_tree::Case],

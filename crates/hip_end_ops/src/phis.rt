@@ -13,7 +13,7 @@ use hip_scope::{EdgeNumbers, Growing, Scope, operand, slot};
 use hip_tree::Phi;
 use hip_types::{Name, NoMemory, Row};
 
-/// What a phi moves where control comes from the block with a label.
+/// What a phi moves if control comes from the block with a label.
 fn phi_move(
     scope: &Scope<'_, '_>,
     tables: &mut Growing,
@@ -43,7 +43,7 @@ fn phi_move(
     }
 }
 
-/// What the phis of a block move where control comes from the block with a label.
+/// What the phis of a block move if control comes from the block with a label.
 pub fn phi_moves(
     scope: &Scope<'_, '_>,
     tables: &mut Growing,

@@ -55,7 +55,7 @@ fn is_end(op: &Op) -> bool
     }
 }
 
-/// The site of the core's place, where the op there is an instruction's.
+/// The site of the core's place, if the op there is an instruction's.
 #[inline(always)]
 pub fn site_here(core: &Core, code: &Code) -> Option<Site>
     requires { IsReady code.now core.now }

@@ -1,4 +1,4 @@
-//! Texts that tests of several crates use: programs, each in its canonical form, their traces, and what tests say.
+//! Texts that tests of several crates use: programs, each in its canonical form, their traces, and messages of tests.
 #![tactic(auto)]
 
 mod programs;
@@ -18,7 +18,7 @@ pub use stores::{
     ONE_OF_TWO_LINES, OVERWRITTEN, PERSIST, SEVEN, SHARED_LINE, TWO_LINES,
 };
 
-/// What is said where a call that was given ample memory found none.
+/// The message for a call that was given ample memory and ran out of it.
 pub const AMPLE: &str = "there is memory";
 
 /// The trace of the run of `ONE_STORE`.

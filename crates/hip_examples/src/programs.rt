@@ -28,7 +28,7 @@ entry:
 }
 ";
 
-/// What is copied is asserted inside the function that copies.
+/// A function that copies, and asserts in itself what it copied.
 pub const ASSERT_INSIDE_CALLEE: &str = "@p = global i64 0, section \".pm\"
 @q = global i64 9
 declare void @pm_assert(ptr, i64)
@@ -46,7 +46,8 @@ entry:
 }
 ";
 
-/// A function that stores through each of its parameters, once by another function, which never stores into the region.
+/// A function that stores through each of its parameters: through one of them by a call of a function that never stores
+/// into the region.
 pub const NOTES: &str = "@p = global i64 0, section \".pm\"
 define void @note(ptr %t) {
 entry:
@@ -135,7 +136,7 @@ loop:
 }
 ";
 
-/// Two numbers are read, and their sum is printed.
+/// It reads two numbers and prints their sum.
 pub const SUM_OF_NUMBERS: &str = "declare i64 @read_i64()
 declare void @print_i64(i64)
 define i32 @main() {

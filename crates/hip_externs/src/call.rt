@@ -4,7 +4,7 @@ ghost use Rattle.hip_externs.specs.Externs.{call_of, row_of};
 
 use hip_types::{Scalar, Width};
 
-/// The external functions that a program may declare. One that is added stands here, in `CALLS` and in the table.
+/// The external functions that a program may declare. A new one has to be added here, to `CALLS` and to the table.
 #[derive(Clone, Copy, PartialEq, Eq)]
 pub enum ExternCall {
     ReadI64,
@@ -39,9 +39,9 @@ pub const CALLS: [ExternCall; 11] = [
 #[derive(Clone, Copy, PartialEq, Eq)]
 pub enum LineEffect {
     Nothing,
-    /// The lines are being written back; they are durable at the next fence.
+    /// The write-back of the lines starts; they are durable at the next fence.
     Flush,
-    /// What has been flushed is durable.
+    /// What was flushed becomes durable.
     Fence,
     FlushAndFence,
 }

@@ -2,7 +2,7 @@ use hip_io::{Cabinet, Fetched, Taken};
 use std::fs::File;
 use std::io::{ErrorKind, Read};
 
-/// Files by their paths. It tells nothing of what they contain.
+/// Files by their paths. Contracts see nothing of what they contain.
 #[derive(Drop)]
 pub struct FileCabinet<'a> {
     rt: &'a HostRuntime,

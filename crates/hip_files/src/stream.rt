@@ -8,8 +8,8 @@ use std::io::{ErrorKind, Write};
 /// How many bytes are held back at most.
 const MOST_HELD: usize = 8_192;
 
-/// A stream of bytes that leaves the process. It tells nothing of what was written. It holds bytes back until they are
-/// delivered, until they are many, or, where lines go out at once, until a piece ends in a line feed.
+/// A stream of bytes that leaves the process. Contracts see nothing of what was written. It holds bytes back until they
+/// are delivered, until they are many, or, if lines go out at once, until a piece ends in a line feed.
 #[derive(Drop)]
 pub struct Stream<W> {
     out: W,
@@ -58,7 +58,7 @@ impl<W: Write + Drop> Stream<W> {
         self.fail()
     }
 
-    /// Writes a piece where nothing is held back.
+    /// Writes a piece while nothing is held back.
     fn send_piece(&mut self, piece: &[u8]) -> Put
         ensures held { length self.new.held.items ≡ length self.old.held.items }
         ensures works { result ≡ Put.Done → self.new.faults ≡ self.old.faults }
@@ -71,7 +71,7 @@ impl<W: Write + Drop> Stream<W> {
         self.fail()
     }
 
-    /// Holds a piece back, or writes it where it is long or there is no memory to hold it.
+    /// Holds a piece back, or writes it if it is long or there is no memory to hold it.
     fn hold(&mut self, piece: &[u8]) -> Put
         ensures works { result ≡ Put.Done → self.new.faults ≡ self.old.faults }
         ensures later { self.old.faults ≤ self.new.faults }
@@ -87,7 +87,7 @@ impl<W: Write + Drop> Stream<W> {
     }
 }
 
-/// Writes bytes, and answers how many were written. These are fewer than all where a write failed.
+/// Writes bytes, and answers how many were written: fewer than all if a write failed.
 fn write_front<W: Write>(out: &mut W, bytes: &[u8]) -> usize
     ensures { result ≤ length bytes.now }
 {

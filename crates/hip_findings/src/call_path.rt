@@ -8,8 +8,8 @@ use std::alloc::Global;
 use std::marker::Model;
 use std::rc::Rc;
 
-/// The calls that a frame stands in, from its own outward, which contracts see as the list of them. The frames that
-/// stand and the stores that were made in them share the calls that they have in common.
+/// The calls that a frame stands in, from its own outward; contracts see the list of them. The standing frames, and the
+/// stores that were made in them, share the nodes of the calls that they have in common.
 #[cycle(call_path)]
 pub struct CallPath {
     link: Link,
@@ -132,8 +132,8 @@ impl CallPath {
         }
     }
 
-    /// How many of the calls have returned, the innermost ones, given the births of the calls that stand, the outermost
-    /// one first. Where calls stand, it takes time in those that have returned.
+    /// How many of the calls, the innermost ones, have returned, given the births of the standing calls, the outermost
+    /// one first. If calls stand, the time is linear in those that have returned.
     #[tactic(auto, using(crate::proofs::Returned::all_returned))]
     pub fn closed(&self, births: &[u128]) -> usize
         ensures { result ≡ closed_by births.now self.now }
@@ -168,7 +168,7 @@ impl CallPath {
     }
 }
 
-// Whether the call at a depth that stands has this birth.
+// Whether the standing call at a depth has this birth.
 fn is_standing(births: &[u128], depth: usize, birth: u128) -> bool
     ensures { result ≡ is_birth birth (slice_get births.now depth) }
 {

@@ -49,7 +49,7 @@ impl SharedPath {
         }
     }
 
-    /// The site at a place counted from 0. It takes time in the place.
+    /// The site at a place counted from 0. The time is linear in the place.
     pub fn get(&self, place: usize) -> Option<Site>
         ensures { result ≡ slice_get self.now place }
     {

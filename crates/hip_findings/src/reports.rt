@@ -10,15 +10,15 @@ use std::alloc::Global;
 use std::marker::Model;
 use std::rc::Rc;
 
-// What a check found: the number of its entry, and each store that is not durable, in a row that it shares with the
-// check before it where that found the same.
+// What a check found: the number of its entry, and each store that is not durable. It shares the row of stores with the
+// check before it if that one found the same.
 #[derive(Drop)]
 pub struct CheckReports {
     check_entry: u128,
     stores: Rc<Row<StoreReport>>,
 }
 
-/// The reports of a run, which contracts see as the list of them. Checks in a row that found the same share it.
+/// The reports of a run; contracts see the list of them. Consecutive checks that found the same share it.
 #[derive(Drop)]
 pub struct SharedReports {
     checks: Row<CheckReports>,
@@ -93,7 +93,7 @@ impl SharedReports {
     }
 }
 
-// What a check found, in the row of the check before it where that found the same.
+// What a check found, in the row of the check before it if that one found the same.
 fn kept_once(
     alloc: Global,
     before: Option<&CheckReports>,
@@ -150,7 +150,7 @@ fn are_same(stores: &[StoreReport], others: &[StoreReport]) -> bool
 /// Reports, the first one first. Contracts see the list of those that are left.
 #[derive(Drop)]
 pub struct EachReport<'a> {
-    // The check that is gone through, with the stores that are left of it.
+    // The current check, with the stores that are left of it.
     check_entry: u128,
     stores: &'a [StoreReport],
     // The checks after it.

@@ -36,7 +36,7 @@ fn add_alloca<'a>(names: &mut NameSet<'a>, instr: &'a Instr) -> Result<(), NoMem
     Ok(())
 }
 
-/// Adds the registers that the `alloca` of a body assign.
+/// Adds the registers that the `alloca` instructions of a body assign.
 fn add_body_allocas<'a>(names: &mut NameSet<'a>, body: &'a [Instr]) -> Result<(), NoMemory>
     ensures { OnOk result (names.new ≡ met bytes_eq names.old (body_allocas body.now)) }
 {
@@ -46,7 +46,7 @@ fn add_body_allocas<'a>(names: &mut NameSet<'a>, body: &'a [Instr]) -> Result<()
     Ok(())
 }
 
-/// The registers that the `alloca` of blocks assign.
+/// The registers that the `alloca` instructions of blocks assign.
 fn alloca_names(alloc: Global, blocks: &[Block]) -> Result<NameSet<'_>, NoMemory>
     ensures { IfOk result (λ names. names ≡ met bytes_eq [] (alloca_names blocks.now)) }
 {
@@ -57,7 +57,7 @@ fn alloca_names(alloc: Global, blocks: &[Block]) -> Result<NameSet<'_>, NoMemory
     Ok(names)
 }
 
-/// Whether an instruction is a store whose address is one of these registers, or one of these globals itself.
+/// Whether an instruction is a store whose address is one of these registers, or the name of one of these globals.
 fn stores_by(volatile: &NameSet<'_>, allocated: &NameSet<'_>, instr: &Instr) -> bool
     ensures { result ≡ stores_by volatile.now allocated.now instr.now }
 {
@@ -71,7 +71,8 @@ fn stores_by(volatile: &NameSet<'_>, allocated: &NameSet<'_>, instr: &Instr) -> 
     }
 }
 
-/// The test for such stores: the volatile globals, and the registers that the `alloca` of one function assign.
+/// The test for such stores: the volatile globals, and the registers that the `alloca` instructions of one function
+/// assign.
 #[derive(Clone, Copy)]
 struct DirectTest<'a> {
     volatile: &'a NameSet<'a>,
@@ -88,8 +89,8 @@ impl InstrTest for DirectTest<'_> {
     }
 }
 
-/// Adds the sites of the stores of a function whose address is a register that an `alloca` assigns, or one of these
-/// globals itself.
+/// Adds the sites of the stores of a function whose address is a register that an `alloca` assigns, or the name of one
+/// of these globals.
 fn add_function(
     alloc: Global,
     sites: &mut Row<Site>,
@@ -108,7 +109,7 @@ fn add_function(
     add_passing(sites, &test, number, blocks)
 }
 
-/// Adds those of all functions.
+/// The same for all functions.
 fn add_functions(
     alloc: Global,
     sites: &mut Row<Site>,
@@ -123,8 +124,8 @@ fn add_functions(
     Ok(())
 }
 
-/// The sites of the stores whose address is a register that an `alloca` assigns, or a volatile global itself, in the
-/// program's order.
+/// The sites of the stores whose address is a register that an `alloca` assigns, or the name of a volatile global, in
+/// the program's order.
 pub fn direct_stores(alloc: Global, program: &Program) -> Result<Row<Site>, NoMemory>
     ensures { IfOk result (λ sites. sites ≡ filter (direct program.now) (sites_of program.now)) }
 {

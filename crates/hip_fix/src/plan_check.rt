@@ -93,7 +93,7 @@ fn is_flush_at(program: &Program, site: Site) -> bool
     }
 }
 
-/// Whether the instruction there is a call of a function that is not external.
+/// Whether the instruction at the site is a call of a function that is not external.
 fn is_call_at(program: &Program, site: Site) -> bool
     ensures { result ≡ calls_defined (instr_of program.now site) }
 {

@@ -75,8 +75,8 @@ pub fn apply_skipping(
 }
 
 /// The program repaired by a plan. Its clones do not flush the stores whose address is a register assigned by `alloca`,
-/// or a volatile global itself: those never lie in the region. It does no harm, it is clean, and its hoisted calls are
-/// covered.
+/// or the name of a volatile global: those never lie in the region. It does no harm, it is clean, and its hoisted calls
+/// are covered.
 ///
 /// Time and memory are linear in the program, the plan and the clones together.
 pub fn apply(alloc: Global, checked: &Checked, plan: &Plan) -> Result<Repaired, NoMemory>

@@ -35,9 +35,9 @@ pub(crate) struct Followed {
     pub entries: u128,
 }
 
-/// Compares the rest of the current file with the trace of the run on the input that its header gives: one entry is
-/// read for each that the run makes, and at most one after the run's end. Memory is taken by the input and the machine,
-/// and by what is noted: stores that are not durable, marks and reports.
+/// Compares the rest of the current file with the trace of the run on the input that its header gives. It reads one
+/// entry for each that the run makes, and at most one after the run's end. Memory is taken by the input and the
+/// machine, and by what is noted: stores that are not durable, marks and reports.
 pub fn replay<C: Cabinet>(
     alloc: Global,
     checked: &Checked,
@@ -149,7 +149,7 @@ fn follow<'a, C: Cabinet>(
     runs_end();
     runs_are_bounded();
     events_tell_output_and_ending();
-    // No body has 2^64 instructions, so that the entries can be counted.
+    // No body has 2^64 instructions, so the entries can be counted.
     let program = machine.checked().program();
     let _most = longest(program);
     'steps: loop {

@@ -1,4 +1,4 @@
-//! A trace beside its run: the run whose trace a file is, or the first misfit.
+//! A trace and its run, step by step: the run whose trace a file is, or the first misfit.
 #![tactic(auto)]
 
 mod compared;

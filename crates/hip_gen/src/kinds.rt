@@ -1,4 +1,4 @@
-//! Which kind each group of a generated program has.
+//! The kind of each group of a generated program.
 
 ghost use Rattle.std.specs.Prelude.{◌≡◌, ◌<◌};
 ghost use Rattle.hip_gen.specs.Kinds.{kind_by, next_draw};

@@ -20,7 +20,7 @@ pub fn is_base(base: u64) -> bool
     base % BASE_ALIGNMENT == 0 && base >= LOWEST_BASE && base <= HIGHEST_BASE
 }
 
-/// The greater of the type's alignment and the one that is written.
+/// The greater of the type's alignment and the written one.
 pub fn alignment(global: &GlobalVar) -> u64
     requires { Fits global.now.ty }
     ensures value { result ≡ global_align global.now }
@@ -45,7 +45,7 @@ fn end_after(at: u64, global: &GlobalVar) -> Option<u64>
     }
 }
 
-/// Where those of the globals end that are persistent, or that are not; none from 2^64 on.
+/// Where those of the globals end that are persistent, or the others; none from 2^64 on.
 fn end_of(globals: &[GlobalVar], persistent: bool, start: u64) -> Option<u64>
     requires { OwnTypesFit globals.now }
     ensures { SomeIff result (spec.end_of persistent start globals.now < 2 ^ 64)
@@ -63,7 +63,7 @@ fn end_of(globals: &[GlobalVar], persistent: bool, start: u64) -> Option<u64>
     Some(at)
 }
 
-/// Whether the globals that are persistent, or that are not, end at most at a limit.
+/// Whether the persistent globals, or the others, end at most at a limit.
 fn end_within(globals: &[GlobalVar], persistent: bool, start: u64, limit: u64) -> bool
     requires { OwnTypesFit globals.now }
     ensures { result ≡ nat_le (spec.end_of persistent start globals.now) limit }
@@ -95,8 +95,7 @@ pub fn region_size(program: &Program) -> u64
     }
 }
 
-/// Where the global of that number begins, where those that are persistent as it is, or are not, are laid from a
-/// place on.
+/// Where the global of that number begins, if the globals of its kind, persistent or not, are laid from a place on.
 fn start_of(globals: &[GlobalVar], persistent: bool, start: u64, number: usize) -> u64
     requires fit { OwnTypesFit globals.now }
     requires there { number < length globals.now }

@@ -13,8 +13,8 @@ use hip_types::{Name, NoMemory};
 use std::alloc::Global;
 use std::marker::Model;
 
-/// The addresses of a program's globals by their names, where its region begins at a base. They are computed once;
-/// a later look-up does not search a list of globals.
+/// The addresses of a program's globals by their names, if its region begins at a base. They are computed once; a later
+/// look-up does not search a list of globals.
 #[derive(Drop)]
 pub struct GlobalAddresses<'a> {
     table: AddressTable<'a>,
@@ -30,7 +30,7 @@ impl<'a> Model for GlobalAddresses<'a> {
 }
 
 impl<'a> GlobalAddresses<'a> {
-    /// The addresses from a base on. The time is that of the globals and of their names.
+    /// The addresses from a base on. The time is linear in the globals and their names.
     pub fn new(
         alloc: Global,
         globals: &'a [GlobalVar],
@@ -52,8 +52,8 @@ impl<'a> GlobalAddresses<'a> {
         address_of(&self.table, name)
     }
 
-    /// The value of a constant under an integer type or `ptr`: an integer's number, the address that a pointer is, 0
-    /// for any other. The memory is for the indices of a `getelementptr`.
+    /// The value of a constant under an integer type or `ptr`: an integer's number, a pointer's address, 0 for any
+    /// other. The memory is for the indices of a `getelementptr`.
     pub fn value(&self, alloc: Global, constant: &Const) -> Result<u64, NoMemory>
         requires { All Fits (types_in constant.now) }
         ensures { IfOk result (λ number. number ≡ (written (address_beside self.now) constant.now).value) }

@@ -25,7 +25,7 @@ fn push_number(bytes: &mut Image, count: u64, number: u64) -> Result<(), NoMemor
     Ok(())
 }
 
-/// Cuts what is after a place to a size, or fills it up with zeros.
+/// Cuts what comes after a place to a size, or fills it up with zeros.
 pub fn set_size(bytes: &mut Image, start: usize, size: u64) -> Result<(), NoMemory>
     requires { start ≤ length bytes.old }
     ensures { OnOk result (bytes.new ≡ take start bytes.old ++ sized size (drop start bytes.old)) }
@@ -39,7 +39,7 @@ pub fn set_size(bytes: &mut Image, start: usize, size: u64) -> Result<(), NoMemo
     bytes.push_zeros(size - len)
 }
 
-/// Fills up with zeros to the next multiple of an alignment, if what is after a place begins at an address.
+/// Fills up with zeros to the next multiple of an alignment; the byte at `start` has this address.
 pub fn set_align(bytes: &mut Image, start: usize, address: u64, align: u64) -> Result<(), NoMemory>
     requires { start ≤ length bytes.old }
     ensures { OnOk result (bytes.new ≡ take start bytes.old ++ aligned address align (drop start bytes.old)) }
@@ -71,7 +71,7 @@ fn offset_of(alloc: Global, ty: &Ty, indices: &[Bits]) -> Result<u64, NoMemory>
     }
 }
 
-/// The value of a constant: an integer's number, the address that a pointer has, 0 for any other.
+/// The value of a constant: an integer's number, a pointer's address, 0 for any other.
 #[cycle(value)]
 pub fn value_of(alloc: Global, addresses: &AddressTable<'_>, value: &Const) -> Result<u64, NoMemory>
     requires { AllFit (types_in value.now) }

@@ -36,7 +36,7 @@ fn add_global(
     set_size(bytes, len, size(&global.ty))
 }
 
-/// The bytes of those of the globals that are persistent, or that are not, the first of which lies at an address.
+/// The bytes of the persistent ones of these globals, or of the others; the first of them lies at an address.
 fn laid_bytes(
     alloc: Global,
     addresses: &AddressTable<'_>,
@@ -58,8 +58,8 @@ fn laid_bytes(
     Ok(bytes)
 }
 
-/// What the volatile globals hold before a run, from the first one's place on, where the region begins at a base. The
-/// time is that of the bytes and of the program's constants.
+/// The bytes of the volatile globals before a run, from the first one's place on, if the region begins at a base. The
+/// time is linear in the bytes and in the program's constants.
 pub fn volatile_bytes(alloc: Global, program: &Program, base: u64) -> Result<Image, NoMemory>
     requires globals { All TypesFitIn program.now.globals }
     requires persistent { end_of true base program.now.globals < 2 ^ 64 }
@@ -73,7 +73,7 @@ pub fn volatile_bytes(alloc: Global, program: &Program, base: u64) -> Result<Ima
     laid_bytes(alloc, &addresses, globals, false, VOLATILE_START)
 }
 
-/// What the region holds before a run, where it begins at a base: the persistent globals, and zeros between and after
+/// The bytes of the region before a run, if it begins at a base: the persistent globals, and zeros between and after
 /// them. The time is linear in the bytes and in the program's constants.
 pub fn region_bytes(alloc: Global, program: &Program, base: u64) -> Result<Image, NoMemory>
     requires globals { All TypesFitIn program.now.globals }

@@ -1,5 +1,4 @@
-/// What is wrong with the first token by which a text leaves the grammar, or with the end of a text that stops too
-/// early.
+/// What is wrong with the first token that leaves the grammar, or with the end of a text that ends too early.
 #[derive(Clone, Copy, Debug, PartialEq, Eq)]
 pub enum Fault {
     /// It is not allowed there, or the text ends too early.
@@ -8,6 +7,6 @@ pub enum Fault {
     Unsupported,
     /// It is a number out of the range of its place.
     Range,
-    /// It opens a level of nesting too many.
+    /// It opens one level of nesting too many.
     TooDeep,
 }

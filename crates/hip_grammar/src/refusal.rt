@@ -1,6 +1,6 @@
 /// Why there is no program, and on which line.
 ///
-/// The line is that of the refused token, or of the text's last byte where the text ends too early.
+/// The line is that of the refused token, or of the text's last byte if the text ends too early.
 #[derive(Debug, Drop, PartialEq, Eq)]
 pub enum ParseRefusal {
     /// The token is not allowed there, or the text ends too early.
@@ -9,8 +9,8 @@ pub enum ParseRefusal {
     Unsupported { line: u64 },
     /// The token is a number out of the range of its place.
     Range { line: u64 },
-    /// The token opens a level of nesting too many.
+    /// The token opens one level of nesting too many.
     TooDeep { line: u64 },
-    /// No memory was found.
+    /// Memory ran out.
     NoMemory,
 }

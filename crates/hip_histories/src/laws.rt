@@ -20,8 +20,8 @@ ghost use Rattle.hip_survival.specs.Survival.{working_region};
 ghost use Rattle.hip_sound.specs.Sound.{IsSound};
 ghost use Rattle.std.specs.Prelude.{ℕ, Bool, List, ◌∷◌, ◌++◌};
 
-/// Crash histories go on. After any number of steps on a valid input a crash may leave working memory. On what the crash of
-/// a round leaves, its base, numbers and limit are a valid input of a next round.
+/// Crash histories go on. After any number of steps on a valid input a crash may leave working memory. On the bytes
+/// that the crash of a round leaves, its base, numbers and limit are a valid input for a next round.
 pub fn histories_go_on()
     ensures round { (P : Program) → IsSound P → (bytes : List ℕ) → (r : Round) → IsValid P (input_of bytes r) →
         IsRound P bytes (record r { image = working_region P (input_of bytes r) (state_of P bytes r) }) }
@@ -36,17 +36,18 @@ pub fn repairs_add_no_history()
         AddsNoHistory P (repaired P plan skip) }
 {}
 
-/// A repair keeps each crash history in which no crash loses anything, by whatever plan: where each crash leaves the bytes
-/// of working memory, the history is also one of the repaired program, with the same inputs, images, outputs and endings.
+/// A repair keeps each crash history in which no crash loses anything, by whatever plan: if each crash leaves the bytes
+/// of working memory, the history is also one of the repaired program, with the same inputs, images, outputs and
+/// endings.
 pub fn repairs_keep_lossless_histories()
     ensures { (P : Program) → (plan : Plan) → (skip : Site → Bool) → IsSound P →
         KeepsLosslessHistories P (repaired P plan skip) }
 {}
 
-/// Repairs add up, by whatever plans. The program that is repaired twice has nothing to report on the input of each run
-/// that one of the two repairs was made for, and on each input on which it had nothing to report after the first repair. It
-/// does no harm in the place of the program, adds no crash history, and keeps the calls covered that the first repair
-/// hoisted.
+/// Repairs add up, by whatever plans. A program that is repaired twice has nothing to report on the input of each run
+/// that one of the two repairs was made for, and on each input on which it had nothing to report after the first
+/// repair. It does no harm in the place of the program, adds no crash history, and keeps the calls covered that the
+/// first repair hoisted.
 pub fn repairs_add_up()
     ensures clean { (P : Program) → (first second : Plan) → (skip also : Site → Bool) → IsSound P → (I : Input) →
         IsValid P I → IsClean (repaired P first skip) I → IsClean (repaired (repaired P first skip) second also) I }
@@ -65,9 +66,9 @@ pub fn repairs_add_up()
         AddsNoHistory P (repaired (repaired P first skip) second also) }
 {}
 
-/// The same holds of any number of repairs, one after another, by whatever plans: what they keep, they all keep. Where each
-/// repair is made for a run of the program that the repairs before it left, the program after all of them is clean on the
-/// input of every trace so far, and the calls that any of them hoisted are covered. A repair that has a plan for what was
+/// The same holds of any number of repairs in turn, by whatever plans: what one repair keeps, all of them keep. If each
+/// repair is made for a run of the program that the repairs before it left, the program after all of them is clean on
+/// the input of every trace so far, and the calls that any of them hoisted are covered. A repair by a plan for what was
 /// found after some repairs mends it, and all later repairs keep it mended.
 pub fn chains_of_repairs_add_up()
     ensures keep { (P : Program) → (repairs : List Repair) → IsSound P → KeepsProgram P (repaired_on P repairs) }
@@ -80,8 +81,8 @@ pub fn chains_of_repairs_add_up()
         IsClean (repaired_on P (before ++ repair ∷ behind)) I }
 {}
 
-/// What a repair by a plan that has what a run found is worth over crashes and over later repairs, where the stores that the
-/// clones do not flush never lie in the region.
+/// What a repair guarantees over crashes and over later repairs, if its plan has what a run found and the stores that
+/// the clones do not flush never lie in the region.
 pub fn repairs_are_crash_safe()
     ensures lasts { (P : Program) → (I : Input) → (plan : Plan) → (skip : Site → Bool) → (found : Findings) →
         IsSound P → IsValid P I → IsQuiet P skip → IsFound P I found → Contains plan (plan_for P found) →

@@ -8,13 +8,13 @@ ghost use Rattle.hip_repairs.specs.examples.CopyHoisted.{copy_hoisted};
 ghost use Rattle.hip_repairs.specs.examples.FenceWithoutFlush.{fence_without_flush, fence_without_flush_repaired};
 ghost use Rattle.hip_repairs.specs.examples.Words.{zeroed};
 
-/// A repair that drops a flush of the program adds a crash history: the program that is left without the flush can end
-/// with the store lost, and the program with the flush cannot.
+/// A repair that drops a flush of the program adds a crash history: the program without the flush can end with the
+/// store lost, and the program with the flush cannot.
 pub fn a_dropped_flush_adds_a_history()
     ensures { ¬ AddsNoHistory fence_without_flush_repaired fence_without_flush }
 {}
 
-/// A flush before the store, or a fence before the flush, leaves something to report.
+/// With a flush before the store, or a fence before the flush, the program still has something to report.
 pub fn early_flushes_and_fences_are_not_clean()
     ensures flush { ¬ IsClean flush_before_store (zeroed 1) }
     ensures fence { ¬ IsClean fence_before_flush (zeroed 1) }

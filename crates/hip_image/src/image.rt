@@ -5,10 +5,10 @@ use hip_types::{LINE_SIZE, NoMemory};
 use std::alloc::Global;
 use std::marker::Model;
 
-/// A list of bytes, of which those after the last one that is not 0 take no memory.
+/// A list of bytes. The zeros at its end take no memory.
 #[derive(Drop)]
 pub struct Image {
-    // The bytes up to a place after which each is 0.
+    // The bytes up to a place; each byte after it is 0.
     stored: Vec<u8>,
     // The number of bytes after that place.
     zeros: usize,
@@ -51,7 +51,7 @@ impl Image {
         self.len() == 0
     }
 
-    /// The bytes that take memory: those up to a place after which each is 0.
+    /// The bytes that take memory: those up to a place; each byte after it is 0.
     pub fn stored(&self) -> &[u8]
         ensures bytes { (i : ℕ) → slice_index result.now i ≡ slice_index self.now i }
         ensures few { length result.now ≤ length self.now }
@@ -158,7 +158,7 @@ fn extend(stored: &mut Vec<u8>, bytes: &[u8]) -> Result<(), NoMemory>
     }
 }
 
-// The bytes of a cache line that begins at a place, 0 where nothing is stored.
+// The bytes of a cache line that begins at a place; 0 if nothing is stored.
 fn bytes_from(stored: &[u8], start: usize) -> [u8; LINE_SIZE as usize]
     ensures { (i : ℕ) → i < LINE_SIZE → slice_index result i ≡ slice_index stored.now (start + i) }
 {

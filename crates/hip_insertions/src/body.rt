@@ -9,7 +9,7 @@ use hip_tree::{Instr, Operand};
 use hip_types::{NoMemory, Row, Scalar};
 use std::alloc::Global;
 
-/// Which functions inserted calls name.
+/// The functions that inserted calls name.
 #[derive(Clone, Copy)]
 pub struct Needed {
     pub clwb: bool,
@@ -30,7 +30,7 @@ impl Needed {
     }
 }
 
-/// Repaired instructions, and which functions the inserted ones among them name.
+/// Repaired instructions, and the functions that the inserted ones name.
 #[derive(Drop)]
 pub struct Body {
     pub instrs: Row<Instr>,

@@ -10,7 +10,7 @@ use hip_types::{Name, NoMemory};
 use std::alloc::Global;
 use std::marker::Model;
 
-/// The functions that have clones, found by their names. Contracts see the list of both names of each.
+/// The functions that have clones, found by their names. Contracts see a list with both names of each.
 #[derive(Drop)]
 pub struct CloneTable<'a> {
     program: &'a Program,

@@ -15,7 +15,7 @@ fn scalar_size(ty: Scalar) -> u64
     u64::from(ty.width().bytes())
 }
 
-/// The alignment of an access: the smaller one of its type's and the one that is written.
+/// The alignment of an access: the smaller of its type's and the written one.
 fn access_align(ty: Scalar, align: Option<u64>) -> u64
     ensures { result ≡ access_align ty align }
 {

@@ -11,7 +11,7 @@ use hip_tree::{Block, Function, Instr, Program, Site};
 use hip_types::{Name, NoMemory, Row};
 use std::alloc::Global;
 
-/// Where a repair inserts, and the names of its clones. Clones flush all stores but those of `skip`.
+/// Where a repair inserts, and the names of its clones. Clones flush all stores except those of `skip`.
 #[derive(Drop)]
 pub struct Repair<'a> {
     pub flush_after: SiteSet,
@@ -21,7 +21,7 @@ pub struct Repair<'a> {
     pub clones: CloneTable<'a>,
 }
 
-/// Repaired functions, and which functions the inserted calls in them name.
+/// Repaired functions, and the functions that the inserted calls name.
 #[derive(Drop)]
 pub struct Made {
     pub functions: Row<Function>,

@@ -31,7 +31,7 @@ pub fn result_slot(scope: &Scope<'_, '_>, dest: &Option<Name>) -> Result<Option<
     }
 }
 
-/// The operand of the argument of that number. Where there is none, the function takes none, and any operand does.
+/// The operand of the argument of that number. If there is none, the function takes none, and any operand will do.
 fn argument(
     scope: &Scope<'_, '_>,
     tables: &mut Growing,
@@ -51,7 +51,7 @@ fn argument(
     Ok(argument)
 }
 
-/// What a function does to cache lines, by its effect on them and its parameters, with two arguments, of which it may
+/// What a function does to cache lines, by its effect on them and its parameters, with two arguments; the function may
 /// take fewer.
 fn persistence(effect: LineEffect, params: &[Scalar], a: Operand, b: Operand) -> Persistence
     ensures { result ≡ ops.line_op effect params.now a b }
@@ -74,7 +74,8 @@ fn persistence(effect: LineEffect, params: &[Scalar], a: Operand, b: Operand) ->
     }
 }
 
-/// What a call of an external function does, with the slot of its result and two arguments, of which it may take fewer.
+/// What a call of an external function does, with the slot of its result and two arguments; the function may take
+/// fewer.
 fn effect(call: ExternCall, dest: Option<u32>, a: Operand, b: Operand) -> Effect
     ensures { result ≡ ops.extern_op call dest a b }
 {

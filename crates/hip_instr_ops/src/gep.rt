@@ -37,7 +37,7 @@ fn with_terms(
     })
 }
 
-/// An address, as a base and how far indices lead from there.
+/// An address: a base, and how far indices lead from it.
 fn address(
     tables: &mut Growing,
     base: Operand,

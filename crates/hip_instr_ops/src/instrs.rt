@@ -19,7 +19,7 @@ use hip_scope::{Growing, Scope};
 use hip_tree::{Arg, Instr};
 use hip_types::{Name, NoMemory};
 
-/// A call of an external function, or else of one of the program.
+/// A call of an external function, or else of a function of the program.
 fn any_call(
     scope: &Scope<'_, '_>,
     tables: &mut Growing,

@@ -26,7 +26,7 @@ fn scalar_size(ty: Scalar) -> u32
     }
 }
 
-/// The alignment of an access: the less of its type's and the one that is written.
+/// The alignment of an access: the smaller of its type's and the written one.
 fn access_align(ty: Scalar, written: Option<u64>) -> u32
     ensures { result ≡ spec.access_align ty written }
 {

@@ -20,7 +20,7 @@ use hip_scope::{Scope, slot};
 use hip_tree::{Arg, Const};
 use hip_types::{NoMemory, Row, Ty, field_offset};
 
-/// How far indices lead: an offset in bytes, modulo 2^64, and terms for those that registers hold.
+/// How far indices lead: an offset in bytes, modulo 2^64, and terms for the indices in registers.
 #[derive(Drop)]
 pub struct Path {
     pub offset: u64,
@@ -38,7 +38,7 @@ fn literal(scope: &Scope<'_, '_>, arg: &Arg, value: &Const) -> Result<u64, NoMem
     Ok(extend(width_of(arg.ty), number))
 }
 
-/// Goes over a number of values of a size.
+/// Steps over a number of values of a size.
 fn step_over(scope: &Scope<'_, '_>, path: &mut Path, arg: &Arg, size: u32) -> Result<(), NoMemory>
     requires scope { Describes scope.now }
     requires known { OperandKnown (names_of scope.now) arg.now.value }

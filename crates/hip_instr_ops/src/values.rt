@@ -29,7 +29,7 @@ pub struct CastTypes {
     pub to: Scalar,
 }
 
-/// The width of the number that a value is; a pointer is a number of 64 bits.
+/// The width of the number that a value of the type is; a pointer is a number of 64 bits.
 pub fn width_of(ty: Scalar) -> Width
     ensures { result ≡ the_width ty }
 {
@@ -84,7 +84,8 @@ fn compares(test: Comparison, negated: bool, width: Width, a: Operand, b: Operan
     }
 }
 
-/// One operand is greater than another where that is less, and at least the other where it is not less.
+/// The comparison for a predicate. One operand is greater than another if the other is less than it, and at least the
+/// other if it is not less.
 fn comparison(pred: Pred, width: Width, a: Operand, b: Operand) -> Rest
     ensures { result ≡ ops.compare_op pred width a b }
 {

@@ -1,4 +1,4 @@
-//! The laws of what runs keep, on definitions alone.
+//! The laws of what every run keeps, on definitions alone.
 
 ghost use Rattle.std.specs.Prelude.{ℕ, ◌<◌, ◌^◌, List};
 ghost use Rattle.hip_tree.specs.declared.program.Program.{Program};
@@ -17,7 +17,7 @@ ghost use Rattle.hip_invariants.specs.StackShape.{StackIsShaped};
 ghost use Rattle.hip_invariants.specs.Types.{AreUncut, CodeFits, OperandsFit, RegistersFit};
 
 /// A run of a sound program never gets stuck, whatever its input: a frame stands; each register that the next step
-/// reads has been assigned, and so has each in a frame below, but the one that waits for its call's result; and the
+/// reads has been assigned, and so has each in a frame below, except the one that waits for its call's result; and the
 /// run traps as unreachable only at an `unreachable`. On a valid input each value that the next step reads fits its
 /// type.
 pub fn sound_programs_never_get_stuck()
@@ -32,8 +32,8 @@ pub fn registers_fit_their_types()
 {}
 
 /// Each operand that the next step reads has a value of the type that its place states, and what the bottom frame
-/// returns is a number of 32 bits; so they are the same where a comparison, an index or the code of a stop cuts them
-/// to their widths.
+/// returns is a number of 32 bits. So a comparison, an index or the code of a stop does not change them when it cuts
+/// them to their widths.
 pub fn operands_fit_their_types()
     ensures operands { (P : Program) → IsSound P → (I : Input) → IsValid P I → (n : ℕ) →
         (f : Frame) → (fs : List Frame) → IsTop (run P I n) f fs → OperandsFit P I f }
@@ -41,15 +41,15 @@ pub fn operands_fit_their_types()
     ensures uncut { AreUncut }
 {}
 
-/// Under closed levels each register of each frame has a value within its level: at most the stack's end and 64 MiB a
-/// level.
+/// If levels are closed, each register of each frame has a value within its level: at most the stack's end and 64 MiB
+/// for each level.
 pub fn levels_bound_registers()
     ensures { (P : Program) → IsSound P → (L : Levels) → IsClosed P L → (I : Input) → (n : ℕ) →
         RegistersAreWithin L (run P I n).frames }
 {}
 
 /// The blocks and the marks of the frames lie in order below the stack's mark, at most 16,384 frames stand, and each
-/// but the bottom one has the call that made it, so that there is one call fewer than frames.
+/// but the bottom one has the call that made it, so there is one call fewer than frames.
 pub fn stack_keeps_its_shape()
     ensures { (P : Program) → (I : Input) → (n : ℕ) → StackIsShaped (run P I n) }
 {}
@@ -61,9 +61,9 @@ pub fn objects_are_apart()
         → AreApart P I.base (run P I n).frames }
 {}
 
-/// A run has at most as many steps as its limit of turns, and one more, times the longest body with its end, and at
-/// most one entry for each step after those of its header. So both counts are numbers of 128 bits where each body's
-/// length is one of 64.
+/// A run has at most as many steps as its limit of turns plus one, times the longest body with its end, and at most one
+/// entry for each step after those of its header. So both counts are numbers of 128 bits if each body's length is a
+/// number of 64 bits.
 pub fn runs_are_bounded()
     ensures bounded { (P : Program) → (I : Input) → (n : ℕ) → IsBounded P I n }
     ensures fit { (P : Program) → (I : Input) → IsSound P → IsValid P I → longest P < 2 ^ 64 →

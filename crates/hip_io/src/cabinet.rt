@@ -10,7 +10,7 @@ pub struct NamedFile {
     pub bytes: Row<u8>,
 }
 
-/// What came of a fetch.
+/// The answer to a fetch.
 #[derive(Clone, Copy, Debug, PartialEq, Eq)]
 pub enum Fetched {
     Ready,
@@ -18,7 +18,7 @@ pub enum Fetched {
     Failed,
 }
 
-/// What came of a read of the current file. `Got` has how many bytes were taken, at least one.
+/// The answer to a read of the current file. `Got` has how many bytes were taken, at least one.
 #[derive(Clone, Copy, PartialEq, Eq)]
 pub enum Taken {
     Got(usize),
@@ -32,7 +32,7 @@ pub trait Cabinet {
 
     ghost state: { Self → CabinetState };
 
-    /// Makes the named file the current one, at its first byte. After `Missing` or `Failed` none is.
+    /// Makes the named file the current one, at its first byte. After `Missing` or `Failed` no file is current.
     fn fetch(&mut self, name: &str) -> Fetched
         ensures { HasFetched (state self.old) (state self.new) name.now result };
 

@@ -8,7 +8,7 @@ use crate::mem_cabinet::MemCabinet;
 use hip_types::Name;
 use std::marker::Model;
 
-/// Where a file fails: at each fetch, or at each read once that many of its bytes were taken.
+/// Where a file fails: at each fetch, or at each read after that many of its bytes were taken.
 #[derive(Clone, Copy)]
 pub enum FailAt {
     Fetch,
@@ -42,7 +42,7 @@ impl Model for FailingCabinet {
 }
 
 impl FailingCabinet {
-    /// No file is current in it, whatever is current in `inner`.
+    /// No file is current in it, whichever is current in `inner`.
     pub fn new(inner: MemCabinet, name: Name, at: FailAt) -> FailingCabinet
         ensures { result ≡ record {
           inner = record inner { current = None };

@@ -1,4 +1,4 @@
-//! Where bytes come from and where they go: named files that are read, sinks that are written.
+//! Where bytes come from and where they go: named files to read, and sinks to write.
 #![tactic(auto)]
 
 mod cabinet;

@@ -6,14 +6,14 @@ use crate::cabinet::{Cabinet, Fetched, NamedFile, Taken};
 use hip_types::Row;
 use std::marker::Model;
 
-/// Where a file is read: its number, and how many of its bytes were taken.
+/// The place of a reader: the number of its file, and how many bytes of the file were taken.
 #[derive(Clone, Copy)]
 pub struct Place {
     pub file: usize,
     pub taken: usize,
 }
 
-/// Files in memory. Of two files of one name the first counts.
+/// Files in memory. Of two files with the same name the first counts.
 #[derive(Drop)]
 pub struct MemCabinet {
     files: Row<NamedFile>,

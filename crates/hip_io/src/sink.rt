@@ -3,7 +3,7 @@ ghost use Rattle.hip_io.specs.Sinks.{Delivers, HasPut, Writes};
 
 use thiserror::Error;
 
-/// What came of a piece that was handed to a sink.
+/// The answer to a piece that a sink was given.
 #[derive(Clone, Copy, Debug, PartialEq, Eq)]
 pub enum Put {
     Done,
@@ -15,7 +15,7 @@ pub enum Put {
 #[error("the write failed")]
 pub struct WriteFault;
 
-/// Where bytes go. A sink may hold the last bytes back until `deliver`. Whoever writes a text to its end delivers it.
+/// Where bytes go. A sink may hold the last bytes back until `deliver`. Code that writes a text to its end delivers it.
 pub trait Sink {
     ghost use Rattle.std.specs.Prelude.{ℕ};
     ghost use Rattle.hip_io.specs.Sinks.{SinkState};
@@ -29,7 +29,7 @@ pub trait Sink {
     fn put(&mut self, bytes: &[u8]) -> Put
         ensures { HasPut (state self.old) (state self.new) bytes.now result };
 
-    /// Sends out what is held back. It appends nothing; after `Failed` a write has failed.
+    /// Sends out what is held back. It appends nothing; `Failed` says that a write has failed.
     fn deliver(&mut self) -> Put
         ensures nothing { HasPut (state self.old) (state self.new) [] result }
         ensures all { result ≡ Put.Done → held self.new ≡ 0 };

@@ -38,7 +38,7 @@ fn named_level(table: &NameTable<'_, bool>, name: &Name) -> u8
     }
 }
 
-/// The offset of an element, 0 where there is none.
+/// The offset of an element; 0 if there is none.
 pub fn offset_of(ty: &Ty, path: &[u64]) -> u64
     requires { Fits ty.now }
     ensures { result ≡ unwrap_or (gep_of ty.now path.now) 0 }
@@ -108,7 +108,7 @@ fn known_index(arg: &Arg) -> Option<u64>
     }
 }
 
-/// The values of indices that are all constants. None where one is a register.
+/// The values of indices that are all constants. None if one is a register.
 pub fn known_path(alloc: Global, indices: &[Arg]) -> Result<Option<Row<u64>>, NoMemory>
     ensures { IfOk result (λ path. path ≡ known_path indices.now) }
 {

@@ -21,7 +21,8 @@ use hip_tree::{Arg, Block, Edge, End, Function, Instr, Operand, Param, Phi, Prog
 use hip_types::{Name, NoMemory, Ty};
 use std::alloc::Global;
 
-/// A program, with tables by names for gathering its rules: which globals are persistent, and the numbers of functions.
+/// A program, with tables by names for the gathering of its rules: which globals are persistent, and the numbers of
+/// functions.
 #[derive(Drop)]
 pub struct Scope<'p> {
     pub alloc: Global,
@@ -122,7 +123,7 @@ fn add_register<'p>(
     rules.add(Variable::Register(function, name.as_slice()), least)
 }
 
-/// Adds a rule for the register that a call's result goes into, if any.
+/// Adds a rule for the register that a call's result goes into, if there is one.
 fn add_result<'p>(
     program: &Program,
     rules: &mut RuleTable<'p>,
@@ -315,7 +316,7 @@ fn add_phi<'p>(
     Ok(())
 }
 
-/// Adds the rule of what a block returns, if it does.
+/// Adds the rule of what a block returns, if it returns a value.
 fn add_end<'p>(
     scope: &Scope<'p>,
     rules: &mut RuleTable<'p>,

@@ -1,4 +1,4 @@
-//! Levels of pointers, which bound the addresses that they hold, and the stores that never lie in the region, by these
+//! Levels of pointers, which bound the addresses that they hold; and the stores that never lie in the region, by these
 //! levels.
 #![tactic(auto)]
 

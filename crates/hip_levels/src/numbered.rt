@@ -4,7 +4,7 @@ ghost use Rattle.hip_levels.specs.Numbered.{IsWithin, LeastIsWithin, offset_rank
 /// The number of the level Free; the others are 0 to 32.
 pub const FREE: u8 = 33;
 
-/// A smaller offset leads at most one level higher.
+/// An offset below this one leads at most one level higher.
 const LEVEL_SIZE: u64 = 67_108_864;
 
 /// The least level that a rule allows: a known one, or the one at an offset from a variable's.
@@ -45,7 +45,7 @@ fn least_level(levels: &[u8], least: Least) -> u8
     }
 }
 
-/// Raises the variable of a rule to its least level, and says whether it was lower.
+/// Raises the variable of a rule to its least level, and answers whether it was lower.
 pub fn raise(levels: &mut [u8], rule: Rule) -> bool
     requires { IsWithin (length levels.old) rule }
     ensures new { levels.new ≡ risen levels.old rule }

@@ -6,8 +6,8 @@ use crate::numbered::{Least, Rule, raise};
 use hip_types::{NoMemory, Row};
 use std::alloc::Global;
 
-/// For each variable the last rule that depends on it, and for each rule the one before that depends on the same
-/// variable. The first rule of a chain has itself.
+/// For each variable the last rule that depends on it, and for each rule the rule before it that depends on the same
+/// variable. The first rule of a chain names itself.
 #[derive(Drop)]
 struct Chains {
     last: Vec<usize>,
@@ -77,7 +77,7 @@ fn raise_and_note(
     Ok(rose)
 }
 
-/// Applies each rule once, and says whether any variable rose.
+/// Applies each rule once, and answers whether any variable rose.
 fn sweep(levels: &mut [u8], rules: &[Rule], queue: &mut Row<usize>) -> Result<bool, NoMemory>
     requires within { AreWithin (length levels.old) rules.now }
     requires below { IsBelowAll rules.now levels.old }

@@ -10,7 +10,7 @@ use hip_types::{NoMemory, Row};
 use std::alloc::Global;
 use std::marker::Model;
 
-/// Rules, whose variables are numbered as they come. Contracts see the rules.
+/// Rules, whose variables are numbered in order of appearance. Contracts see the rules.
 #[derive(Drop)]
 pub struct RuleTable<'p> {
     variables: VariableSet<'p>,

@@ -47,7 +47,7 @@ impl<'p> VariableSet<'p> {
         }
     }
 
-    /// The number of a variable, which is put in where it is new.
+    /// The number of a variable, which is inserted if it is new.
     pub fn insert(&mut self, variable: Variable<'p>) -> Result<usize, NoMemory>
         ensures there { IfOk result (λ number. slice_get self.new number ≡ Some (variable_of variable.entry)) }
         ensures variables { OnOk result (self.new ≡ met same_variable self.old (variable_of variable.entry ∷ [])) }

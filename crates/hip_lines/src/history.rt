@@ -1,5 +1,5 @@
-//! What is pending on a line by the rules, where a queue keeps only what can still be seen. It exists only in proofs: it
-//! takes no memory, and its methods do nothing when they run.
+//! All parts that are pending on a line by the rules; a queue keeps only those that can still be seen. This exists only
+//! in proofs: it takes no memory, and its methods do nothing when they run.
 
 ghost use Rattle.std.specs.Prelude.{◌≡◌};
 ghost use Rattle.std.specs.Borrow.{ftrue};

@@ -67,7 +67,7 @@ pub fn make_room_in(
     Ok(())
 }
 
-/// Makes room for the parts of a store where the room that was made is not for it.
+/// Makes room for the parts of a store, unless the room that was made is for this store.
 pub fn ensure_room(
     queues: &mut Queues,
     flushed: &mut Vec<u64>,
@@ -92,7 +92,7 @@ pub fn ensure_room(
     make_room_in(queues, flushed, offset, size)
 }
 
-// Whether the room is that of this store.
+// Whether the room is for this store.
 fn is_room_for(room: Option<(u64, u32)>, offset: u64, size: u32) -> bool
     ensures { MatchBool result (room ≡ Some (offset, size)) (room ≢ Some (offset, size)) }
 {
@@ -135,7 +135,7 @@ fn part_at(offset: u64, size: u32, tag: u128, line: u64) -> Part
     }
 }
 
-/// Flushes a line, and says whether that changed it.
+/// Flushes a line, and answers whether that changed it.
 pub fn flush_at(queues: &mut Queues, flushed: &mut Vec<u64>, line: u64) -> bool
     requires listed { ListsFlushed flushed.old.items queues.old }
     requires spare { count_of queues.old ≤ vec_capacity flushed.old }
@@ -159,7 +159,7 @@ pub fn flush_at(queues: &mut Queues, flushed: &mut Vec<u64>, line: u64) -> bool
     true
 }
 
-/// Flushes the lines of a range, in time of those that have a queue, and says whether that changed one.
+/// Flushes the lines of a range, in time linear in those that have a queue, and answers whether that changed one.
 pub fn flush_in(queues: &mut Queues, flushed: &mut Vec<u64>, offset: u64, len: u64) -> bool
     requires some { 0 < len }
     requires fits { offset + len < 2 ^ 64 }
@@ -184,7 +184,7 @@ pub fn flush_in(queues: &mut Queues, flushed: &mut Vec<u64>, offset: u64, len: u
     changed
 }
 
-/// The flushed parts of all lines are let go.
+/// Lets the flushed parts of all lines go.
 pub fn fence_in(queues: &mut Queues, flushed: &[u64])
     requires { ListsFlushed flushed.now queues.old }
     ensures pending { (j : ℕ) → pending_at queues.new j ≡ pending_fenced (pending_at queues.old j) }

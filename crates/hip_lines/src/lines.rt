@@ -8,7 +8,7 @@ use hip_types::{LARGEST_REGION, LINE_SIZE, NoMemory};
 use std::alloc::Global;
 use std::marker::Model;
 
-/// The lines of a region, which contracts see as the pending parts of each and the room that was made.
+/// The lines of a region; contracts see the pending parts of each line and the room that was made.
 #[derive(Drop)]
 pub struct Lines {
     count: u64,
@@ -92,7 +92,7 @@ impl Lines {
         }
     }
 
-    /// Flushes each line that has a byte of the range, in time of the lines that hold something.
+    /// Flushes each line that has a byte of the range, in time linear in the lines that hold something.
     pub fn flush_range(&mut self, offset: u64, len: u64)
         requires some { 0 < len }
         requires within { offset + len ≤ LINE_SIZE * length self.old.lines }

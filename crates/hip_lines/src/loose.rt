@@ -8,7 +8,7 @@ use crate::queues::Queues;
 use hip_types::LINE_SIZE;
 use std::marker::Model;
 
-/// The loose bytes of a range, ascending, which contracts see as the list of those that are left.
+/// The loose bytes of a range, ascending; contracts see the list of those that are left.
 #[derive(Drop)]
 pub struct NotDurable<'a> {
     queues: &'a Queues,

@@ -7,7 +7,8 @@ ghost use Rattle.hip_lines.specs.Uses.{AreNoted, AreUses};
 
 use hip_types::LINE_SIZE;
 
-/// Gives the bytes from one on a number. The usual sizes have arms of their own, since a fill of a fixed size is one move.
+/// Gives a number to `size` bytes from `from` on. The usual sizes have arms of their own, since a fill of a fixed size
+/// is one move.
 #[inline(always)]
 pub fn number_bytes(numbers: &mut [u8], from: usize, size: usize, number: u8)
     requires { from + size ≤ length numbers.old }
@@ -32,7 +33,8 @@ fn fill_bytes(numbers: &mut [u8], from: usize, size: usize, number: u8)
     numbers[from..from + size].fill(number);
 }
 
-/// Lets the first tags go. The others have numbers that are lower by as many, and 0 is the number of what is gone.
+/// Lets the first tags go. The numbers of the others become lower by as many, and 0 becomes the number of those that
+/// are gone.
 #[inline(always)]
 pub fn let_go(tags: &mut Vec<u128>, numbers: &mut [u8; LINE_SIZE as usize], count: usize)
     requires count { count ≤ length tags.old.items }
@@ -108,7 +110,8 @@ pub fn keep_used(news: &mut [u8], tags: &mut Vec<u128>)
     tags.truncate(kept);
 }
 
-// Moves the tags that have a use to the front, in their order, gives each its new number, and says how many there are.
+// Moves the tags that have a use to the front, in their order, gives each its new number, and answers how many there
+// are.
 fn renumber(news: &mut [u8], tags: &mut [u128]) -> usize
     requires size { length news.old ≡ 256 }
     requires few { length tags.old < 256 }

@@ -8,15 +8,15 @@ use crate::part::{LooseByte, Part};
 use hip_types::{LINE_SIZE, NoMemory};
 use std::alloc::Global;
 
-/// The pending parts of one line. Of each part that a byte of the line still shows, its tag is kept; the others are let
-/// go from time to time, so that a line has memory for few parts however many stores there are.
+/// The pending parts of one line. Of each part that a byte of the line still shows, its tag is kept. The other parts
+/// are let go from time to time, so a line has memory for few parts however many stores there are.
 #[derive(Drop)]
 pub struct Queue {
     pub line: u64,
     // The tags of the kept parts, in the order of their stores, which are numbered from 1. The first ones are flushed.
     tags: Vec<u128>,
     flushed: usize,
-    // For each byte of the line the number of the last part over it, or 0 where no pending part is.
+    // For each byte of the line the number of the last part over it, or 0 if no pending part covers it.
     numbers: [u8; LINE_SIZE as usize],
     pub history: History,
     ghost within: { flushed ≤ length tags.items },
@@ -26,7 +26,7 @@ pub struct Queue {
 }
 
 impl Queue {
-    // The most tags that are kept without looking which of them a byte shows.
+    // The most tags that are kept without a look at which of them a byte shows.
     const FEW: usize = 32;
 
     ghost use Rattle.hip_lines.specs.Pending.{none_pending, pending_with, pending_flushed, pending_fenced};
@@ -100,7 +100,8 @@ impl Queue {
         self.grow()
     }
 
-    // Makes room for one more part, where there is none.
+    // Makes room for one more tag, and for as many as there are if memory allows it. It gives false if there is no
+    // room.
     #[inline(never)]
     fn grow(&mut self) -> Result<(), NoMemory>
         ensures line { self.new.line ≡ self.old.line }
@@ -115,7 +116,7 @@ impl Queue {
         }
     }
 
-    // Lets go what no byte shows, where there are many tags.
+    // Lets go what no byte shows, if there are many tags.
     fn keep_few(&mut self)
         ensures line { self.new.line ≡ self.old.line }
         ensures history { self.new.history ≡ self.old.history }
@@ -126,7 +127,7 @@ impl Queue {
         }
     }
 
-    // Lets go the tags that no byte shows, but for the last one and the last flushed one.
+    // Lets go the tags that no byte shows, except the last one and the last flushed one.
     fn keep_shown(&mut self)
         ensures line { self.new.line ≡ self.old.line }
         ensures history { self.new.history ≡ self.old.history }
@@ -212,7 +213,7 @@ impl Queue {
     }
 }
 
-// Makes room for one more tag, and for as many as there are where memory serves; false where there is no room.
+// Makes room for one more tag, and for half as many as there are if memory allows it; false if there is no room.
 fn reserve_half(tags: &mut Vec<u128>) -> bool
     ensures same { tags.new.items ≡ tags.old.items }
     ensures room { result ≡ true → vec_len tags.new < vec_capacity tags.new }

@@ -1,4 +1,4 @@
-//! The queues of the lines that hold something. A queue that a line gave back is taken by the next line that needs one,
+//! The queues of the lines that hold something. A queue that a line gave back is used by the next line that needs one,
 //! with the room that it has.
 
 ghost use Rattle.std.specs.Prelude.{◌≡◌, ◌≢◌, ℕ, zero, suc, ◌+◌, ◌-◌, ◌*◌, ◌/◌, ◌<◌, ◌≤◌, ◌^◌, List, length, Option, Some, None, IsSome, true, slice_get, IfOk, OnOk, OnErr};
@@ -20,7 +20,7 @@ use std::alloc::Global;
 #[derive(Drop)]
 pub struct Queues {
     alloc: Global,
-    // For each line that has a queue the place of that, counted from 1.
+    // For each line that has a queue, the place of that queue, counted from 1.
     directory: Directory,
     queues: Vec<Queue>,
     // The places of queues that lines gave back.
@@ -111,7 +111,7 @@ impl Queues {
         make_room_at(&mut self.queues, place)
     }
 
-    /// Takes up a part in the room that was made for it.
+    /// Adds a part in the room that was made for it.
     #[inline]
     pub fn push(&mut self, line: u64, part: Part)
         requires room { HasRoomAt self.old line }
@@ -133,7 +133,7 @@ impl Queues {
         flush_at(&mut self.queues, place);
     }
 
-    /// Lets the flushed parts of a line go, and gives its queue back where nothing is left.
+    /// Lets the flushed parts of a line go, and gives its queue back if nothing is left.
     #[inline]
     pub fn fence(&mut self, line: u64)
         ensures { ChangesLine pending_fenced line self.old self.new }
@@ -182,7 +182,7 @@ fn flush_at(queues: &mut Vec<Queue>, place: usize)
     queue.flush();
 }
 
-// Lets the flushed parts of a queue go, and says whether nothing is left.
+// Lets the flushed parts of a queue go, and answers whether nothing is left.
 fn fence_at(queues: &mut Vec<Queue>, place: usize) -> bool
     requires { place < length queues.old.items }
     ensures changes { ChangesPlace pending_fenced place queues.old.items queues.new.items }
@@ -194,7 +194,7 @@ fn fence_at(queues: &mut Vec<Queue>, place: usize) -> bool
     queue.is_empty()
 }
 
-// Notes a place whose queue no line has, where there is room to note it.
+// Notes a place whose queue no line has, if there is room to note it.
 fn give_back(free: &mut Vec<u32>, place: u32) {
     if free.len() < free.capacity() {
         free.push_reserved(place);

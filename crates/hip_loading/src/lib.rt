@@ -1,4 +1,4 @@
-//! Programs in files: fetched, read and checked, and what the files did meanwhile.
+//! Programs in files: fetched, read and checked, and how the files behaved.
 #![tactic(auto)]
 
 mod program;

@@ -7,7 +7,7 @@ use hip_sound::Checked;
 use hip_typing::check;
 use std::alloc::Global;
 
-/// The sound program that a text reads as. A read fault never comes.
+/// The sound program that a text reads as. It never answers a read fault.
 pub fn read_program(alloc: Global, text: &[u8]) -> Result<Checked, Failure<ProgramRefusal>>
     ensures { ReadsProgram text.now result }
 {

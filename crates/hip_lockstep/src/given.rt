@@ -1,4 +1,4 @@
-//! What the entries of a header give, so far.
+//! What the entries of a header have given so far.
 
 ghost use Rattle.std.specs.Prelude.{◌≡◌, ◌+◌, ◌-◌, ◌≤◌, ◌++◌, ◌&&◌, IfOk, OnOk, length, nat_le};
 ghost use Rattle.hip_globals.specs.Addresses.{region_size};
@@ -12,7 +12,8 @@ use hip_sound::Checked;
 use hip_trace::Entry;
 use hip_types::{NoMemory, Row};
 
-/// The input that START, REGISTER, INPUT and IMAGE entries give, whose initial bytes go up to the last IMAGE's.
+/// The input that START, REGISTER, INPUT and IMAGE entries give; its initial bytes go up to the end of the last IMAGE's
+/// line.
 #[derive(Drop)]
 pub(crate) struct Given {
     pub base: u64,
@@ -70,7 +71,7 @@ impl Given {
         Ok(true)
     }
 
-    // The input, in which the bytes after the last line are 0.
+    // The input; the bytes after the last line are 0.
     pub(crate) fn fill(self, size: u64) -> Result<Input, NoMemory>
         requires { length self.image ≤ size }
         ensures { IfOk result (λ i. i ≡ record (input_of self) {

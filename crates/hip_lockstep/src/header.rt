@@ -1,4 +1,4 @@
-//! What stands in a trace before the first step of its run.
+//! What a trace has before the first step of its run.
 
 ghost use Rattle.std.specs.Prelude.{◌≡◌, [], ◌∷◌, ◌+◌, ◌*◌, ◌/◌, ◌<◌, ◌^◌, FitsSigned, IfOk, length, map, pos, slice_index_or};
 ghost use Rattle.std.specs.Int.{w64};
@@ -84,7 +84,7 @@ fn put_number<S: Sink>(number: i64, out: &mut S) -> Result<(), WriteFault>
     write_entry(&Entry::Input { number }, out)
 }
 
-// Writes an IMAGE for each whole cache line that has a byte other than 0, and answers how many they are.
+// Writes an IMAGE for each whole cache line that has a byte other than 0, and answers how many.
 fn put_image<S: Sink>(base: u64, image: &Image, out: &mut S) -> Result<u64, WriteFault>
     requires { base + length image.now < 2 ^ 64 }
     ensures wrote { Wrote (S.state out.old) (S.state out.new)
@@ -101,7 +101,7 @@ fn put_image<S: Sink>(base: u64, image: &Image, out: &mut S) -> Result<u64, Writ
     Ok(count)
 }
 
-// Writes an IMAGE of a cache line where it has a byte other than 0, and answers how many entries that is.
+// Writes an IMAGE of a cache line if it has a byte other than 0, and answers how many entries that is.
 fn put_line<S: Sink>(addr: u64, line: &[u8], out: &mut S) -> Result<u64, WriteFault>
     requires { length line.now ≡ 64 }
     ensures wrote { Wrote (S.state out.old) (S.state out.new) (lines_of (image_entries 1 addr line.now)) result }

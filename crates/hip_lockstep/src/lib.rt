@@ -1,5 +1,5 @@
-//! The trace of a run beside the run: entries that are written as the steps are taken, and entries that are read one by
-//! one and compared with those of the steps.
+//! The trace of a run, step by step with the run: entries that are written as the steps are taken, and entries that are
+//! read one by one and compared with those of the steps.
 #![tactic(auto)]
 
 mod ended;

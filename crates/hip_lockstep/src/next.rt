@@ -45,7 +45,7 @@ pub(crate) fn next_entry<C: Cabinet>(
     found(count, next)
 }
 
-// Whether nothing was read, after n entries.
+// Whether nothing was read after n entries.
 fn ended(count: u128, next: Result<Option<Entry>, TraceRefusal>) -> Result<(), ReplayRefusal>
     requires { count + 1 < 2 ^ 128 }
     ensures { EndsHere count next result }

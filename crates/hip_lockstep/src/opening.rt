@@ -137,8 +137,8 @@ fn read_values<C: Cabinet>(
     }
 }
 
-/// Reads the header of the trace that is ahead of a new reader, and the first entry after it. Memory is taken for the
-/// numbers and the initial bytes of the input alone.
+/// Reads the header of the trace that is ahead of a new reader, and the first entry after it. Only the numbers and the
+/// initial bytes of the input take memory.
 pub fn read_header<C: Cabinet>(
     alloc: Global,
     checked: &Checked,

@@ -1,4 +1,4 @@
-//! The entries of a trace beside the steps of a run.
+//! The entries of a trace, compared with the steps of a run.
 
 ghost use Rattle.std.specs.Prelude.{◌≡◌, ◌+◌, ◌<◌, ◌^◌, Some, IsTrue};
 ghost use Rattle.hip_run_traces.specs.Traces.{entry_of_event};
@@ -22,7 +22,7 @@ pub struct Lockstep {
 
 impl Lockstep {
     /// Compares the entry of the next step, which has this event, with the one that was read, and reads the next one; a
-    /// step without an entry reads nothing. Where the step ends the run, the file must end too, and the ending is
+    /// step without an entry reads nothing. If the step ends the run, the file must end too, and the ending is
     /// answered.
     #[inline(always)]
     pub fn meet<C: Cabinet>(

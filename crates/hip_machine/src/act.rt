@@ -46,7 +46,7 @@ pub fn cut(core: &mut Core) -> Event
     Event::End(Ending::Cut)
 }
 
-// The op does what it stands for.
+// Performs the action of an op.
 #[inline(always)]
 fn act(core: &mut Core, code: &Code, input: &Input, op: &Op) -> Result<Event, NoMemory>
     requires room { HasRoom core.old }

@@ -7,7 +7,7 @@ use hip_runs::Ending;
 use hip_storage::Storage;
 use hip_tree::Site;
 
-/// A frame of a call: the place of its next op, and that of the first op of its block; where its slots begin; the
+/// A frame of a call: the place of its next op, and that of the first op of its block; the place of its first slot; the
 /// stack's mark at its call, and how many blocks stood on the stack then; the numbers of its function and of its block;
 /// and the slot of its caller that its result goes to.
 #[derive(Clone, Copy, Drop)]

@@ -1,4 +1,4 @@
-//! The state of a machine on resolved code, and its step: the op at its place does what it stands for.
+//! The state of a machine on resolved code, and its step: it performs the action of the op at its place.
 #![tactic(auto)]
 
 mod act;

@@ -78,7 +78,7 @@ fn store(
     }
 }
 
-// A block that was made on the stack is kept, or the stack's mark is set back.
+// Keeps a block that was made on the stack, or sets the stack's mark back if there is no memory to keep it.
 fn keep_block(core: &mut Core, mark: u64, addr: u64, size: u32) -> Result<(), NoMemory>
     requires behind { IsBehind addr core.old.blocks }
     requires entry { core.old.top.entry ≤ core.old.top.place }
@@ -248,7 +248,7 @@ fn outside(core: &mut Core, code: &Code, input: &Input, outside: Outside) -> Eve
     }
 }
 
-// An op that has an effect on the stack or on the outside, or shows a flush or a fence.
+// An op that acts on the stack or on the outside, or is a flush or a fence.
 fn step_effect(
     core: &mut Core,
     code: &Code,
@@ -281,7 +281,7 @@ fn step_effect(
     }
 }
 
-/// An op on memory or on the outside, or one that shows a flush or a fence.
+/// An op on memory or on the outside, or a flush or a fence.
 #[inline(always)]
 pub fn step_memory(
     core: &mut Core,

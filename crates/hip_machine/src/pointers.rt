@@ -116,7 +116,7 @@ pub fn pointer_here(core: &Core, code: &Code, instr: &Instr, operand: usize) -> 
     }
 }
 
-// The address of an op that stores, as a list of one. None of any other op.
+// The address of an op that stores, as a list of one. Empty for any other op.
 fn address_in(alloc: Global, core: &Core, code: &Code, op: Op) -> Result<Row<u64>, NoMemory>
     requires { OpWithin (numbers_of code.now core.now) op }
     ensures { IfOk result (λ values. (a : ℕ) → stores_at (numbers_of code.now core.now) a op → values ≡ a ∷ []) }

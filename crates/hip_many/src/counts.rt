@@ -12,7 +12,7 @@ use hip_types::NoMemory;
 use std::alloc::Global;
 use std::collections::BTreeMap;
 
-/// In how many plans a site was met, and the number of the last one, from 1; 0 where there was none.
+/// In how many plans a site was met, and the number of the last of them, from 1; 0 if there was none.
 #[derive(Clone, Copy)]
 pub struct Count {
     pub plans: u64,

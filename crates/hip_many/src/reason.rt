@@ -22,7 +22,7 @@ pub enum Sort {
 impl Sort {
     ghost use Rattle.hip_many.specs.Reasons.{sites_in};
 
-    /// The sites at which a plan does that.
+    /// The sites at which a plan flushes, fences or hoists.
     pub fn sites(self, plan: &Plan) -> &[Site]
         ensures { result.now ≡ sites_in self plan.now }
     {
@@ -64,9 +64,9 @@ fn add_reasons(
 }
 
 /// A reason for each site of a plan that is the union of others: for those of `flush_after`, then of `fence_after`,
-/// then of `hoist`. It holds of any plan.
+/// then of `hoist`. The plan may be any other one too.
 ///
-/// Memory is linear in the plans, and so is the time, but that sites are sorted.
+/// Memory is linear in the plans, and so is the time, except that sites are sorted.
 pub fn reasons(alloc: Global, plans: &[Plan], plan: &Plan) -> Result<Row<Reason>, NoMemory>
     ensures { IfOk result (λ rows. rows ≡ spec.reasons plans.now plan.now) }
 {

@@ -20,7 +20,7 @@ use hip_repairs::{Plan, repairs_are_clean};
 use hip_types::NoMemory;
 use std::alloc::Global;
 
-/// Puts in the sites of a plan.
+/// Inserts the sites of a plan.
 fn add_plan(sites: &mut PlanSites, plan: &Plan) -> Result<(), NoMemory>
     ensures { OnOk result (HasPut plan.now sites.old sites.new) }
 {
@@ -30,10 +30,11 @@ fn add_plan(sites: &mut PlanSites, plan: &Plan) -> Result<(), NoMemory>
     Ok(())
 }
 
-/// The union of plans, list by list; of no plans it is the empty plan. It has each of them, it suits each program that
-/// all of them suit, and a program that is repaired by it is clean on the input of each run whose plan is among them.
+/// The union of plans, list by list; that of no plans is the empty plan. It contains each of them, it suits each
+/// program that all of them suit, and a program that is repaired by it is clean on the input of each run whose plan is
+/// among them.
 ///
-/// Time is linear in the plans, but that sites are sorted; memory is linear in the union.
+/// Time is linear in the plans, except that sites are sorted; memory is linear in the union.
 pub fn plan_many(alloc: Global, plans: &[Plan]) -> Result<Plan, NoMemory>
     ensures union { IfOk result (IsUnion plans.now) }
     ensures contains { IfOk result (λ plan. (part : Plan) → In part plans.now → Contains plan part) }

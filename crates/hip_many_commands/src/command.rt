@@ -23,8 +23,8 @@ use hip_types::{NoMemory, Text};
 use hip_write::write;
 use std::alloc::Global;
 
-/// Repairs the program of a file for the runs whose traces other files have, once for all of them. All memory that it
-/// needs is taken before the first byte is written.
+/// Repairs the program of a file for the runs whose traces other files have, once for all of them. It takes all its
+/// memory before it writes the first byte.
 #[inline(never)]
 pub fn many_file<C: Cabinet, S: Sink, N: Sink>(
     alloc: Global,
@@ -51,7 +51,7 @@ pub fn many_file<C: Cabinet, S: Sink, N: Sink>(
     repair_many(alloc, &checked, traces.len(), &asked, out, notes)
 }
 
-// Repairs a program for as many runs as there are traces, and writes it.
+// Repairs a program for the runs of all traces, and writes it.
 fn repair_many<S: Sink, N: Sink>(
     alloc: Global,
     checked: &Checked,
@@ -75,7 +75,7 @@ fn repair_many<S: Sink, N: Sink>(
     }
 }
 
-// Writes the repaired program; then the counts and the reasons go to notes.
+// Writes the repaired program, and then the counts and the reasons to notes.
 fn put_repair<S: Sink, N: Sink>(
     checked: &Checked,
     traces: usize,

@@ -6,14 +6,14 @@ use hip_many::unions_are_one;
 use hip_repair_answers::plans_cure;
 use hip_repairs::direct_stores_are_quiet;
 
-/// Where the files are known, `many` has one answer on them, except for read faults.
+/// If the files are known, `many` has one answer on them, apart from read faults.
 pub fn many_are_one()
     ensures { ManyAreOne }
 {
     unions_are_one();
 }
 
-/// Where a file is current after a read fault, and is not the program's, its bytes that were taken show no misfit.
+/// If a file is current after a read fault, and is not the program's, the bytes that were taken from it show no misfit.
 pub fn many_faults_hide_no_misfit()
     ensures { ManyFaultsHideNone }
 {}

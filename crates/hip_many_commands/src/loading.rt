@@ -45,7 +45,7 @@ fn ask<C: Cabinet>(
     })
 }
 
-/// How many reports runs have together, with those of one run more.
+/// How many reports runs have together, after one more run.
 fn added(reports: u128, more: usize) -> u128
     requires { reports + 2 ^ 64 ≤ 2 ^ 128 }
     ensures sum { result ≡ reports + more }
@@ -54,7 +54,7 @@ fn added(reports: u128, more: usize) -> u128
     reports + more as u128
 }
 
-/// Loads the traces of files in order up to the first that is none, and plans for their runs.
+/// Loads the traces of files in order, up to the first file that is not the trace of a run, and plans for their runs.
 pub(crate) fn ask_all<C: Cabinet>(
     alloc: Global,
     checked: &Checked,

@@ -5,7 +5,7 @@ ghost use Rattle.hip_many_commands.specs.Many.{status_in};
 use hip_answers::{FileRole, Status, TraceFileRefusal};
 use hip_program_files::Failure;
 
-/// Which of many files is no trace of a run of a program, and why.
+/// The file that is not the trace of a run of a program, and why.
 #[derive(Clone, Copy, Debug, PartialEq, Eq)]
 pub struct NumberedRefusal {
     /// The file's number among the traces, counted from 1.
@@ -24,7 +24,7 @@ pub(crate) fn numbered(number: u64, failure: Failure<TraceFileRefusal>) -> Failu
     }
 }
 
-/// The status of traces of which one is not loaded.
+/// The status if one of the traces is not loaded.
 pub(crate) fn status_of_traces(failure: Failure<NumberedRefusal>) -> Status
     ensures { result ≡ status_of_traces failure }
 {

@@ -26,7 +26,7 @@ pub const REGION_PAGES: u64 = LARGEST_REGION / PAGE_SIZE;
 /// The least number that the region's first page may have.
 pub const LOWEST_REGION_PAGE: u64 = LOWEST_BASE / PAGE_SIZE;
 
-/// The key of a page, where the region begins with page `region`. Pages of the three areas have small keys.
+/// The key of a page, if the region begins with page `region`. Pages of the three areas have small keys.
 #[inline(always)]
 #[tactic(auto, unfolding(crate::specs::Paging::key_of))]
 pub fn key_of(region: u64, number: u64) -> u64

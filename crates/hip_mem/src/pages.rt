@@ -1,4 +1,4 @@
-//! Bytes by address, in pages that are made where something is written. A byte of a page that was not made is 0.
+//! Bytes by address, in pages that are made when something is written to them. A byte of a page that was not made is 0.
 
 ghost use Rattle.std.specs.Prelude.{◌≡◌, ◌≢◌, ℕ, ◌+◌, ◌-◌, ◌*◌, ◌/◌, ◌%◌, ◌^◌, ◌<◌, ◌≤◌, ◌&&◌, cond, nat_le, nat_lt, length, slice_index, slice_index_or, true, false, ◌⊎◌, IfOk, OnOk, OnErr};
 ghost use Rattle.hip_directory.specs.Directories.{number_at};
@@ -21,13 +21,13 @@ use std::alloc::Global;
 pub struct Pages {
     // The number of the region's first page.
     region: u64,
-    // Where each page lies among those that were made, by its key; 0 where it was not made.
+    // For each page, by its key, its place among the made pages; 0 if it was not made.
     directory: Directory,
-    // The pages side by side. The first is zeros, and is read where a page was not made.
+    // The made pages, one after the other. The first is zeros, and is read for each page that was not made.
     bytes: Vec<u8>,
     // Whether each page may have a byte that is not 0, so that a page is not cleared again before it is written.
     dirty: Vec<bool>,
-    // Where pages begin that were written not long ago.
+    // The starts of pages that were written recently.
     recent: Recent,
     ghost above: { LOWEST_REGION_PAGE ≤ region },
     ghost pages: { ArePages directory bytes.items },
@@ -40,7 +40,7 @@ pub struct Pages {
 impl Pages {
     ghost use Rattle.hip_mem.specs.Pages.{place_of, IsMade, byte_of, page_byte, IsFirstMade};
 
-    /// Zeros, where the region begins at a base.
+    /// Zeros, if the region begins at a base.
     pub fn new(alloc: Global, base: u64) -> Result<Pages, NoMemory>
         requires { 2 ^ 32 ≤ base }
         ensures { IfOk result (λ pages. (a : ℕ) → page_byte pages a ≡ 0) }
@@ -57,7 +57,7 @@ impl Pages {
         })
     }
 
-    // Where the bytes of a page begin.
+    // The start of a page's bytes.
     #[inline(always)]
     fn start(&self, number: u64) -> usize
         requires { number < 2 ^ 63 }
@@ -71,7 +71,7 @@ impl Pages {
         self.find_start(number)
     }
 
-    // The same by the directory.
+    // The same, by the directory.
     #[inline(always)]
     fn find_start(&self, number: u64) -> usize
         requires { number < 2 ^ 63 }
@@ -95,7 +95,7 @@ impl Pages {
         copy_front(into, self.bytes.as_slice(), from, size);
     }
 
-    // Writes bytes of one page, which was made.
+    // Writes bytes of one page that was made.
     #[inline(always)]
     fn write_page(&mut self, number: u64, at: usize, bytes: &[u8])
         requires number { number < 2 ^ 63 }
@@ -113,7 +113,7 @@ impl Pages {
         put(self.bytes.as_mut_slice(), start + at, bytes);
     }
 
-    // Makes the bytes of one page zeros that lie in a range.
+    // Clears the bytes of one page that lie in a range.
     fn clear_page(&mut self, number: u64, from: usize, to: usize)
         requires number { number < 2 ^ 63 }
         requires made { IsMade self.old number }
@@ -134,7 +134,7 @@ impl Pages {
         mark(self.dirty.as_mut_slice(), place, is_part(from, to));
     }
 
-    // Makes a page where it was not made.
+    // Makes a page, if it was not made.
     #[inline(always)]
     fn make_page(&mut self, number: u64) -> Result<(), NoMemory>
         requires { number < 2 ^ 63 }
@@ -148,7 +148,7 @@ impl Pages {
         self.note_page(number)
     }
 
-    // The same, and notes where the page begins.
+    // The same, and notes the start of the page.
     #[inline(never)]
     fn note_page(&mut self, number: u64) -> Result<(), NoMemory>
         requires { number < 2 ^ 63 }
@@ -162,7 +162,7 @@ impl Pages {
         Ok(())
     }
 
-    // Makes a page where the directory has none.
+    // Makes a page, if the directory has none.
     fn find_page(&mut self, number: u64) -> Result<(), NoMemory>
         requires { number < 2 ^ 63 }
         ensures same { (n i : ℕ) → i < PAGE_SIZE → byte_of self.new n i ≡ byte_of self.old n i }
@@ -190,7 +190,7 @@ impl Pages {
         )
     }
 
-    // The first page of the stack from one up to another that was made.
+    // The first made page of a range of the stack's pages.
     fn first_made(&self, from: u64, to: u64) -> Option<u64>
         requires from { STACK_PAGE ≤ from }
         requires forward { from ≤ to }
@@ -294,7 +294,7 @@ impl Pages {
         Ok(())
     }
 
-    /// Makes the bytes of a range of the stack zeros, in time of its pages that were made.
+    /// Clears the bytes of a range of the stack, in time linear in its pages that were made.
     pub fn clear(&mut self, from: u64, to: u64)
         requires low { STACK_START ≤ from }
         requires forward { from ≤ to }
@@ -315,7 +315,7 @@ impl Pages {
         }
     }
 
-    /// Writes bytes where there are zeros, and makes pages only for parts that are not all zeros.
+    /// Writes bytes over zeros, and makes pages only for parts that are not all zeros.
     pub fn fill(&mut self, start: u64, bytes: &[u8]) -> Result<(), NoMemory>
         requires aligned { start % PAGE_SIZE ≡ 0 }
         requires fits { start + length bytes.now + 8192 < 2 ^ 64 }
@@ -332,7 +332,7 @@ impl Pages {
         Ok(())
     }
 
-    // The same for bytes from a page's start on, of one page.
+    // The same for bytes of one page, from the page's start on.
     fn fill_page(&mut self, addr: u64, bytes: &[u8]) -> Result<(), NoMemory>
         requires aligned { addr % PAGE_SIZE ≡ 0 }
         requires few { length bytes.now ≤ PAGE_SIZE }

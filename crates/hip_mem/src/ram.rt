@@ -13,7 +13,7 @@ use hip_types::{
 use std::alloc::Global;
 use std::marker::Model;
 
-/// The bytes of a machine, which contracts see as the three areas of valid bytes.
+/// The bytes of a machine; contracts see the three areas of valid bytes.
 #[derive(Drop)]
 pub struct Ram {
     base: u64,
@@ -118,8 +118,8 @@ impl Ram {
         self.are_valid(addr, 1)
     }
 
-    /// Whether the `len` bytes from the address on are all valid; of no bytes it is true at any address. A range does
-    /// not wrap: what would lie past the last address is not valid.
+    /// Whether the `len` bytes from the address on are all valid; true for no bytes at any address. A range does not
+    /// wrap: bytes past the last address are not valid.
     pub fn valid_range(&self, addr: u64, len: u64) -> bool
         ensures { result ≡ are_valid self.now addr len }
     {
@@ -169,7 +169,7 @@ impl Ram {
         self.mark = mark;
     }
 
-    // Why an access is refused, if it is.
+    // Why an access traps, if it does.
     #[inline(always)]
     fn access_trap(&self, addr: u64, size: u32, align: u32) -> Option<MemTrap>
         requires some { 0 < size }
@@ -211,7 +211,8 @@ impl Ram {
     }
 }
 
-// Whether an address is a multiple of an alignment. The most usual ones have arms of their own, since they need no division.
+// Whether an address is a multiple of an alignment. The most usual alignments have arms of their own, since they need
+// no division.
 #[inline(always)]
 fn is_aligned(addr: u64, align: u64) -> bool
     requires { 0 < align }
@@ -233,7 +234,7 @@ fn lies_in(start: u64, len: u64, addr: u64, size: u64) -> bool
     addr >= start && addr - start <= len && size <= len - (addr - start)
 }
 
-// Writes the bytes of an image where there are zeros, in time of those that it stores.
+// Writes the bytes of an image over zeros, in time linear in those that it stores.
 fn put_image(pages: &mut Pages, start: u64, image: &Image) -> Result<(), NoMemory>
     requires aligned { start % PAGE_SIZE ≡ 0 }
     requires fits { start + length image.now + 8192 < 2 ^ 64 }

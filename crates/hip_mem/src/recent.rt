@@ -1,12 +1,12 @@
-//! Where pages begin that were written not long ago.
+//! The starts of pages that were written recently.
 
 ghost use Rattle.std.specs.Prelude.{◌≡◌, ◌≢◌, ℕ, ◌<◌, slice_index};
 ghost use Rattle.hip_mem.specs.Recents.{AreStarts};
 
-// How many pages are noted, as a power of 2.
+// The number of noted pages, as a power of 2.
 const SLOT_BITS: u32 = 4;
 
-/// The starts of a few pages, each in the slot of its page's number. 0 notes nothing.
+/// The starts of a few pages, each in the slot of its page's number. 0 is no start.
 #[derive(Drop)]
 pub struct Recent {
     numbers: [u64; 16],
@@ -24,7 +24,7 @@ impl Recent {
         }
     }
 
-    /// Where a page begins, if that is noted; else 0.
+    /// The start of a page, if it is noted; else 0.
     #[inline(always)]
     pub fn get(&self, number: u64) -> usize
         ensures { (start_of : ℕ → ℕ) → AreStarts self.now start_of → result ≢ 0 → result ≡ start_of number }
@@ -37,7 +37,7 @@ impl Recent {
         }
     }
 
-    /// Notes where a page begins, in place of the page that had its slot.
+    /// Notes the start of a page, in place of the page that had its slot.
     pub fn put(&mut self, number: u64, start: usize)
         ensures { (start_of : ℕ → ℕ) → AreStarts self.old start_of → start ≡ start_of number
             → AreStarts self.new start_of }

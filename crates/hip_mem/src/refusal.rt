@@ -14,7 +14,7 @@ pub enum StoreRefusal {
     Misaligned,
     /// Some byte of the access is not valid.
     BadAddress,
-    /// No memory was left for a page.
+    /// There was no memory for a page.
     NoMemory,
 }
 
@@ -23,6 +23,6 @@ pub enum StoreRefusal {
 pub enum PushRefusal {
     /// The new mark would pass the stack's end.
     StackFull,
-    /// No memory was left.
+    /// Memory ran out.
     NoMemory,
 }

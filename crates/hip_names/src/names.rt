@@ -7,7 +7,8 @@ use indexmap::IndexSet;
 use std::alloc::Global;
 use std::marker::Model;
 
-/// Up to this number of names a list takes a tenth of the memory of a hash table, and a search in it no more time.
+/// Up to this number of names, a list takes a tenth of the memory of a hash table, and a search in it takes no more
+/// time.
 const FEW: usize = 4;
 
 /// No machine has the memory for more names.
@@ -68,7 +69,7 @@ impl<'a> NameSet<'a> {
         }
     }
 
-    /// Whether the name is new. One that is not new leaves the names as they are.
+    /// Inserts a name, and answers whether it is new. A name that is not new changes nothing.
     pub fn insert(&mut self, name: &'a [u8]) -> Result<bool, NoMemory>
         ensures new { IfOk result (λ is_new. is_new ≡ not (is_among self.old name.now)) }
         ensures names { IfOk result (λ is_new. self.new

@@ -8,20 +8,20 @@ use std::alloc::Global;
 use std::marker::Model;
 use std::rc::Rc;
 
-/// A call that stands: its site, and how many steps were taken before it.
+/// A standing call: its site, and how many steps were taken before it.
 #[derive(Clone, Copy)]
 pub struct StandingCall {
     pub site: Site,
     pub birth: u128,
 }
 
-/// The calls that stand, which contracts see as the list of them, the innermost one first. A call takes a node only
-/// when a store is noted in it, and the stores share the nodes.
+/// The standing calls; contracts see the list of them, the innermost one first. A call takes a node only when a store
+/// is noted in it, and the stores share the nodes.
 #[derive(Drop)]
 pub struct Calls {
     // The calls that have nodes.
     shared: Rc<CallPath>,
-    // Those inside of them that have none, the outermost one first.
+    // The calls inside of these that have no nodes, the outermost one first.
     inner: Vec<StandingCall>,
 }
 
@@ -48,7 +48,7 @@ impl Calls {
         })
     }
 
-    /// One call more, inside of the others.
+    /// One more call, inside of the others.
     #[tactic(auto, using(crate::proofs::noting::CallsInside::inside_push))]
     pub fn enter(&mut self, site: Site, birth: u128) -> Result<(), NoMemory>
         ensures { OnOk result (self.new ≡ record { call = site; birth = birth } ∷ self.old) }
@@ -73,7 +73,7 @@ impl Calls {
         Ok(())
     }
 
-    /// The calls in nodes, when `count` of them stand. Each has its node from then on.
+    /// The calls in nodes, when `count` of them stand. From then on each of them has its node.
     pub fn path(&mut self, alloc: Global, count: usize) -> Result<Rc<CallPath>, NoMemory>
         requires { count ≡ length self.old }
         ensures path { IfOk result (λ path. path.value ≡ self.old) }
@@ -85,7 +85,7 @@ impl Calls {
     }
 }
 
-// Gives nodes to calls inside of those that have them; `count` calls stand in all.
+// Gives nodes to the calls inside of those that have them; `count` calls stand in all.
 fn share(
     alloc: Global,
     shared: &mut Rc<CallPath>,

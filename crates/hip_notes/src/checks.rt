@@ -26,8 +26,8 @@ pub struct Group {
     pub latest: Option<FlushNote>,
 }
 
-/// Where a check stands: the births of the calls that stand, the outermost one first, the number of its entry, and the
-/// step of the last fence.
+/// What a check needs: the births of the standing calls, the outermost one first, the number of its entry, and the step
+/// of the last fence.
 #[derive(Drop)]
 pub struct Check<'a> {
     pub births: &'a [u128],
@@ -68,7 +68,7 @@ pub fn check_range(
     reports.push(alloc, check.entry, stores)
 }
 
-// What the loose bytes of a range tell of each store.
+// A summary of the loose bytes of a range, for each store.
 fn groups_of(
     alloc: Global,
     notes: &BTreeMap<u64, LineNote>,
@@ -100,7 +100,7 @@ fn flush_of(notes: &BTreeMap<u64, LineNote>, byte: LooseByte) -> Option<FlushNot
     }
 }
 
-// One loose byte more of a store.
+// Adds one more loose byte of a store to its summary.
 fn join(
     groups: &mut BTreeMap<u128, Group>,
     tag: u128,
@@ -144,7 +144,7 @@ fn later(a: Option<FlushNote>, b: Option<FlushNote>) -> Option<FlushNote>
     }
 }
 
-// What a check finds of the stores of groups.
+// What a check reports of the stores of groups.
 fn stores_of(
     alloc: Global,
     pending: &Pending,
@@ -180,7 +180,7 @@ fn add_store(
     }
 }
 
-// What a check finds of a store.
+// What a check reports of a store.
 fn store_of(note: &StoreNote, check: &Check<'_>, group: Group) -> Result<StoreReport, NoMemory>
     ensures { IfOk result (λ store. store
         ≡ store_told check.now.births.now check.now.fence note.now group) }

@@ -172,7 +172,7 @@ fn thinned(
     flushes_among(alloc, &steps, flushes.as_slice())
 }
 
-// The steps of the flushes that are the first one after the store of a loose byte of a range.
+// The steps of the flushes that are the first after the store of a loose byte of a range.
 fn steps_in(
     alloc: Global,
     flushes: &Row<FlushNote>,

@@ -1,4 +1,5 @@
-//! What is kept of a run for its reports and marks, step by step, and the laws by which it gives what the run finds.
+//! What is kept of a run for its reports and marks, step by step, and the laws that show that it gives what the run
+//! finds.
 #![tactic(auto)]
 
 mod calls;

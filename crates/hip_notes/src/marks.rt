@@ -9,10 +9,10 @@ use hip_types::{NoMemory, Row};
 use indexmap::IndexSet;
 use std::alloc::Global;
 
-/// How many marks are kept at hand.
+/// How many recent marks are kept.
 const RECENT: usize = 256;
 
-/// No mark at hand.
+/// No recent marks.
 pub fn none_recent(alloc: Global) -> Result<Vec<Option<Mark>>, NoMemory>
     ensures { IfOk result (λ recent. AreMet [] recent.items) }
 {
@@ -23,7 +23,8 @@ pub fn none_recent(alloc: Global) -> Result<Vec<Option<Mark>>, NoMemory>
     }
 }
 
-// Where a mark is kept at hand: marks of an operand at one place, those of operands near one another at several.
+// The place of a mark among the recent ones: marks of one operand have the same place, those of nearby operands
+// different ones.
 #[inline(always)]
 fn place_of(mark: Mark) -> usize {
     let block = mark
@@ -59,7 +60,7 @@ fn is_mark(known: Option<Mark>, mark: Mark) -> bool
     }
 }
 
-// Keeps a mark at hand, in the place of another.
+// Keeps a recent mark, in the place of another.
 fn keep_recent(recent: &mut Vec<Option<Mark>>, mark: Mark)
     ensures { (i : ℕ) → (m : Met) → slice_get recent.new.items i ≡ Some (Some m)
         → (m ≡ mark) ⊎ (slice_get recent.old.items i ≡ Some (Some m)) }

@@ -24,7 +24,7 @@ use hip_types::NoMemory;
 use indexmap::IndexSet;
 use std::alloc::Global;
 
-/// Where a run stands before a step: the site, the number of steps, and that of the entry that the step may have.
+/// What is known before a step: the site, the number of steps, and the number of the entry that the step may have.
 #[derive(Clone, Copy)]
 pub struct Moment {
     pub site: Option<Site>,
@@ -44,7 +44,7 @@ pub struct Notes {
     pub entries: u128,
     // The step of the last fence.
     pub fence: Option<u128>,
-    // The calls that stand, and their births, the outermost one first.
+    // The standing calls, and their births, the outermost one first.
     pub calls: Calls,
     pub births: Vec<u128>,
     pub pending: Pending,
@@ -119,7 +119,7 @@ impl Notes {
         }
     }
 
-    // The reports of a check of a range, of which what lies in the region counts.
+    // The reports of a check of a range; only the part of the range in the region counts.
     fn check_within(
         &mut self,
         alloc: Global,
@@ -194,7 +194,7 @@ impl Notes {
         }
     }
 
-    /// Notes the calls after a step, by how many frames stood before it and stand after it.
+    /// Notes the calls after a step, by the numbers of frames before it and after it.
     #[inline(always)]
     pub fn note_calls(
         &mut self,
@@ -248,7 +248,7 @@ impl Notes {
         }
     }
 
-    /// The counts and the last fence after a step with this event.
+    /// Counts a step with this event, and notes the fence if it is one.
     #[inline(always)]
     pub fn count(&mut self, event: Event)
         requires steps { self.old.steps + 1 < 2 ^ 128 }
@@ -276,8 +276,8 @@ impl Notes {
         self.pending.stores.len() >= self.enough
     }
 
-    /// Drops the notes that no loose byte needs. Where this waits until there are many, the cost of a look is spread over
-    /// as many stores, and memory does not grow with the steps.
+    /// Drops the notes that no loose byte needs. If this waits until there are many, the cost of a search is spread
+    /// over as many stores, and memory does not grow with the steps.
     pub fn forget(&mut self, alloc: Global, region: &Region<'_>)
         requires region { IsWhole region.now }
         requires order { AreInOrder self.old.pending }
@@ -289,12 +289,12 @@ impl Notes {
     }
 }
 
-// The number of stores at which to look again, after this many were kept.
+// The number of stores at which to search again, after this many were kept.
 fn enough_for(kept: usize) -> usize {
     kept.saturating_mul(2).max(ENOUGH_STORES)
 }
 
-// The births of the calls that stand, without the innermost one.
+// The births of the standing calls, without the innermost one.
 fn forget_birth(births: &mut Vec<u128>)
     ensures { births.new.items ≡ take (length births.old.items - 1) births.old.items }
 {

@@ -27,12 +27,12 @@ pub struct FlushNote {
     pub site: Site,
 }
 
-/// A cache line into which a store came that may still be reported.
+/// A cache line with a store that may still be reported.
 #[derive(Drop)]
 pub struct LineNote {
     // A store came since the last flush.
     pub stored: bool,
-    // The earliest one first. A flush is left out when no store came since the one before.
+    // The earliest one first. A flush is left out if no store came since the one before.
     pub flushes: Row<FlushNote>,
 }
 
@@ -79,8 +79,8 @@ impl Pending {
         Ok(())
     }
 
-    /// Notes a flush of the lines that contain one of `size` bytes at an offset of the region, in time of those that
-    /// have a note.
+    /// Notes a flush of the lines that contain one of `size` bytes at an offset of the region, in time linear in those
+    /// that have a note.
     pub fn note_flush(&mut self, flush: FlushNote, offset: u64, size: u64) -> Result<(), NoMemory>
         requires { offset + size < 2 ^ 64 }
         ensures stores { OnOk result (self.new.stores.items ≡ self.old.stores.items) }
@@ -169,7 +169,7 @@ fn this_one(note: &StoreNote, tag: u128) -> Option<&StoreNote>
     if note.tag == tag { Some(note) } else { None }
 }
 
-// Notes a flush of the lines from the first one up to the end, in time of those that have a note.
+// Notes a flush of the lines from the first one up to the end, in time linear in those that have a note.
 fn flush_lines(
     lines: &mut BTreeMap<u64, LineNote>,
     flush: FlushNote,
@@ -202,7 +202,7 @@ fn flush_range(
     Ok(())
 }
 
-// The first line from one on that has a note, before the end.
+// The first line before the end, from a line on, that has a note.
 fn first_line(lines: &BTreeMap<u64, LineNote>, from: u64, end: u64) -> Option<u64>
     ensures some { IfSome result (λ line. (from ≤ line) × (line < end) × IsSome (lines_of lines.now line)
         × ((j : ℕ)
@@ -234,7 +234,7 @@ fn flush_line(
 }
 
 impl LineNote {
-    // Notes a flush where a store came since the one before.
+    // Notes a flush, if a store came since the one before.
     fn flush(&mut self, flush: FlushNote) -> Result<(), NoMemory>
         ensures { OnOk result (self.new ≡ with_flush flush self.old) }
     {
@@ -246,7 +246,7 @@ impl LineNote {
     }
 }
 
-/// The first of the flushes that came after a step.
+/// The first of the flushes after a step.
 pub fn first_after(flushes: &[FlushNote], step: u128) -> Option<FlushNote>
     requires { FlushesAscend 0 (2 ^ 128) flushes.now }
     ensures { result ≡ first_after step flushes.now }

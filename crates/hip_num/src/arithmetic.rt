@@ -11,13 +11,13 @@ use hip_types::{BinaryOp, Bits};
 pub enum NumTrap {
     /// The divisor is 0.
     DivZero,
-    /// The quotient of the least integer with a sign by -1 has no such integer.
+    /// The quotient of the least integer with a sign by -1 is too large for the width.
     DivOverflow,
     /// The amount of a shift is the width or more.
     ShiftRange,
 }
 
-/// The result of an operation on two integers of one width, or why it has none.
+/// The result of an operation on two integers of the same width, or why it has none.
 pub fn binary(op: BinaryOp, a: Bits, b: Bits) -> Result<Bits, NumTrap>
     requires { a.width ≡ b.width }
     ensures { result ≡ binary_of op a b }
@@ -57,7 +57,7 @@ fn rest(a: Bits, b: Bits) -> Result<Bits, NumTrap>
     Ok(Bits::new(a.width, a.value % b.value))
 }
 
-/// Whether an integer may be divided by another one, both with a sign.
+/// Why an integer may not be divided by another one, both with a sign; none if it may.
 fn divisor_fault(a: Bits, b: Bits) -> Option<NumTrap>
     requires { a.width ≡ b.width }
     ensures { result ≡ division_fault a.width a.value b.value }

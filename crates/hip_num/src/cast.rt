@@ -5,7 +5,7 @@ ghost use Rattle.hip_num.specs.Casts.{widened, narrowed};
 use crate::sign::{from_signed, signed_value};
 use hip_types::{Bits, Width};
 
-/// The same number at a greater width: zeros come in before it or, if it is read with a sign, its sign.
+/// The same number at a greater width: zeros come before it or, if it is read with a sign, copies of its sign.
 pub fn widen(a: Bits, to: Width, signed: bool) -> Bits
     requires { bits_of a.width < bits_of to }
     ensures { result ≡ widened a to signed }

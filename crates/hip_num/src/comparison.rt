@@ -4,7 +4,7 @@ ghost use Rattle.hip_num.specs.Comparisons.{holds};
 use crate::sign::signed_value;
 use hip_types::{Bits, Pred};
 
-/// Whether a comparison holds of two integers of one width.
+/// Whether a comparison holds of two integers of the same width.
 pub fn compare(pred: Pred, a: Bits, b: Bits) -> bool
     requires { a.width ≡ b.width }
     ensures { result ≡ holds pred a.width a.value b.value }

@@ -3,16 +3,16 @@ ghost use Rattle.std.specs.Option.{SomeIff};
 ghost use Rattle.std.specs.Str.Parse.{IsNumeral, digits_value};
 ghost use Rattle.hip_num.specs.Texts.{decimal_of, hex_of, number_of, signed_of};
 
-/// The number that one or more decimal digits write. None where a byte is no digit, where there is none, and where the
-/// number is 2^64 or more.
+/// The number that one or more decimal digits write. None if a byte is no digit, if there is none, and if the number is
+/// 2^64 or more.
 pub fn read_decimal(text: &[u8]) -> Option<u64>
     ensures { result ≡ decimal_of text.now }
 {
     read_number(text, 10)
 }
 
-/// The number that `0x` and one or more hexadecimal digits of either case write. None where the text has another
-/// form, and where the number is 2^64 or more.
+/// The number that `0x` and one or more hexadecimal digits of either case write. None if the text has another form, and
+/// if the number is 2^64 or more.
 pub fn read_hex(text: &[u8]) -> Option<u64>
     ensures { result ≡ hex_of text.now }
 {
@@ -23,8 +23,8 @@ pub fn read_hex(text: &[u8]) -> Option<u64>
     }
 }
 
-/// The number that one or more decimal digits write, negated where a `-` stands before them. None where the text has
-/// another form, and where the number is outside of i64.
+/// The number that one or more decimal digits write, negated if a `-` comes before them. None if the text has another
+/// form, and if the number is outside of i64.
 pub fn read_signed(text: &[u8]) -> Option<i64>
     ensures { result ≡ signed_of (2 ^ 63) text.now }
 {

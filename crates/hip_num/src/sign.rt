@@ -15,7 +15,7 @@ pub fn signed_value(a: Bits) -> i64
     }
 }
 
-/// The integer that a number with a sign leaves modulo 2 to the width.
+/// The integer that a number with a sign is modulo 2 to the width.
 pub fn from_signed(width: Width, value: i64) -> Bits
     ensures { result ≡ bits width (wrapped width value) }
 {

@@ -64,7 +64,7 @@ impl Blocks {
         }
     }
 
-    /// Leaves the oldest `count` blocks.
+    /// Keeps the oldest `count` blocks.
     pub fn truncate(&mut self, count: usize)
         ensures { self.new ≡ take count self.old }
     {
@@ -79,8 +79,8 @@ impl Blocks {
     }
 }
 
-// The site of the block that has the byte at the address: of those that begin there or before, the newest one alone
-// may.
+// The site of the block that has the byte at the address. Of the blocks that begin at or before it, only the newest one
+// can have it.
 fn site_in(blocks: &[Block], addr: u64) -> Option<Site>
     requires { AreStacked blocks.now }
     ensures { sited result ≡ object_in (slots_of blocks.now) addr }
@@ -92,7 +92,7 @@ fn site_in(blocks: &[Block], addr: u64) -> Option<Site>
     site_of(&blocks[count - 1], addr)
 }
 
-// The site of the block, where it has the byte at the address.
+// The site of the block, if it has the byte at the address.
 fn site_of(block: &Block, addr: u64) -> Option<Site>
     requires { block.now.addr ≤ addr }
     ensures { result ≡ cond (nat_lt addr (block.now.addr + block.now.size)) (Some block.now.site) None }
@@ -104,7 +104,7 @@ fn site_of(block: &Block, addr: u64) -> Option<Site>
     }
 }
 
-// How many blocks begin at the address or before it.
+// How many blocks begin at or before the address.
 fn count_upto(blocks: &[Block], addr: u64) -> usize
     requires { AreStacked blocks.now }
     ensures few { result ≤ length blocks.now }

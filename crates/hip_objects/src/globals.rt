@@ -12,7 +12,7 @@ use hip_types::{NoMemory, VOLATILE_START, size};
 use std::alloc::Global;
 use std::marker::Model;
 
-/// Where a global lies: its address and its size in bytes, and its number.
+/// The place of a global: its address and its size in bytes, and its number.
 #[derive(Clone, Copy)]
 pub struct Place {
     pub start: u64,
@@ -20,8 +20,8 @@ pub struct Place {
     pub number: usize,
 }
 
-/// The globals of a program by their addresses, where the region begins at a base. They are worked out once, in time
-/// linear in the globals; a question later goes through no list of globals.
+/// The globals of a program by their addresses, if the region begins at a base. The table is made once, in time linear
+/// in the globals; a later look-up searches no list of globals.
 #[derive(Drop)]
 pub struct GlobalTable {
     base: u64,
@@ -70,7 +70,7 @@ impl GlobalTable {
     }
 }
 
-// Where those of the globals lie that are persistent, or that are not, laid from a place on.
+// Where the persistent ones of the globals lie, or the others, if they are laid from a place on.
 fn places(
     alloc: Global,
     globals: &[GlobalVar],
@@ -114,8 +114,8 @@ fn lay(places: &mut Vec<Place>, at: u64, global: &GlobalVar, number: usize) -> R
     }
 }
 
-// The number of the global that has the byte at the address: of those that begin there or before, the last one alone
-// may.
+// The number of the global that has the byte at the address. Of the globals that begin at or before it, only the last
+// one can have it.
 fn number_in(places: &[Place], addr: u64) -> Option<usize>
     requires { AreLaid places.now }
     ensures { result ≡ number_at addr places.now }
@@ -127,7 +127,7 @@ fn number_in(places: &[Place], addr: u64) -> Option<usize>
     number_of(&places[count - 1], addr)
 }
 
-// The number of the global, where it has the byte at the address.
+// The number of the global, if it has the byte at the address.
 fn number_of(place: &Place, addr: u64) -> Option<usize>
     requires { place.now.start ≤ addr }
     ensures { result ≡ cond (nat_lt addr (place.now.start + place.now.size)) (Some place.now.number) None }
@@ -139,7 +139,7 @@ fn number_of(place: &Place, addr: u64) -> Option<usize>
     }
 }
 
-// How many globals begin at the address or before it.
+// How many globals begin at or before the address.
 fn count_upto(places: &[Place], addr: u64) -> usize
     requires { AreLaid places.now }
     ensures few { result ≤ length places.now }

@@ -81,7 +81,7 @@ impl<'a> Parser<'a> {
         self.literal(width)
     }
 
-    /// A constant under `ptr` that opens nothing.
+    /// A constant under `ptr` that opens no parenthesis.
     #[tactic(auto, unfolding(crate::specs::Left::left))]
     fn simple_pointer(&mut self, alloc: Global) -> Result<Const, ReadError>
         ensures { Takes (λ x. x) result ((token a_pointer).read (left self.old)) (left self.new) }
@@ -106,7 +106,7 @@ impl<'a> Parser<'a> {
         }
     }
 
-    /// A `getelementptr` where none may open any more.
+    /// A `getelementptr` at the greatest depth: it is refused.
     #[tactic(auto, unfolding(crate::specs::Left::left, hip_grammar::specs::Grammar::gep_const))]
     fn shallow_gep(&mut self) -> Result<Const, Option<Fault>>
         ensures { Gives (λ x. x) result

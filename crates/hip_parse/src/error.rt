@@ -6,8 +6,7 @@ ghost use Rattle.hip_parse.specs.declared.error.ReadError.TheVariants.{Memory, R
 use hip_grammar::Fault;
 use hip_types::NoMemory;
 
-/// Why a method gave nothing: out of memory, or the parser's next token is refused, perhaps for a reason of
-/// its place.
+/// Why a method gave nothing: out of memory, or the parser's next token is refused, perhaps for a reason of its place.
 #[derive(Debug, Drop)]
 pub(crate) enum ReadError {
     Memory,

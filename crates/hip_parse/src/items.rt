@@ -26,7 +26,7 @@ pub(crate) enum Item {
     Global(GlobalVar),
     Extern(Extern),
     Function(Function),
-    /// What is read and not kept.
+    /// An item that is read and not kept.
     Dropped,
 }
 

@@ -6,7 +6,7 @@ ghost use Rattle.hip_grammar.specs.Numbers.{below, digits_from, is_negative, mag
 
 use hip_types::{LARGEST_ALIGNMENT, LARGEST_COUNT, Width};
 
-/// The value of digits, where it fits 64 bits.
+/// The value of digits, if it fits 64 bits.
 fn decimal(digits: &[u8]) -> Option<u64>
     ensures { result ≡ below (2 ^ 64) (digits_from 0 digits.now) }
 {
@@ -30,7 +30,7 @@ fn is_negative(t: &[u8]) -> bool
     }
 }
 
-/// The value without the sign, where it fits 64 bits.
+/// The value without the sign, if it fits 64 bits.
 fn magnitude(t: &[u8]) -> Option<u64>
     ensures { result ≡ below (2 ^ 64) (magnitude t.now) }
 {

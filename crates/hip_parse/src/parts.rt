@@ -1,4 +1,4 @@
-//! Lists: parts that come several times, one after another.
+//! Lists: parts that are repeated.
 
 ghost use Rattle.std.specs.Prelude.{◌≡◌, ◌≤◌, ℕ, Bool, List, [], ◌∷◌, ◌++◌, Result, Ok, length};
 ghost use Rattle.hip_tokens.specs.Tokens.{Tok, At};
@@ -73,8 +73,8 @@ impl<P: Production> Repeated for Another<P> {
     ghost some = { λ s. another_some comma (P.part s.of) (P.within s.of) };
 }
 
-/// The same list, in the memory that its items take. While a list grew it took up to twice as much, and at least that of
-/// four items.
+/// The same list, without room for more items. While a list grows it takes up to twice the memory of its items, and at
+/// least that of four items.
 pub(crate) fn fitted<T: Drop>(items: Row<T>) -> Row<T>
     ensures { result ≡ items }
 {
@@ -103,7 +103,7 @@ impl<'a> Parser<'a> {
         Ok(fitted(items))
     }
 
-    /// Reads one or more, with a comma between each two.
+    /// Reads one or more parts, with a comma between each two.
     #[tactic(auto, unfolding(hip_rules::specs::Part::separated))]
     pub(crate) fn separated<P: Production>(
         &mut self,
@@ -118,7 +118,7 @@ impl<'a> Parser<'a> {
         self.repeated(alloc, Another { of: part }, items)
     }
 
-    /// Reads them, or none, up to the closing mark.
+    /// Reads parts, or none, up to the closing mark.
     #[tactic(auto, unfolding(hip_rules::specs::Part::listed, hip_rules::specs::Part::none_up_to, hip_rules::specs::Part::some_up_to))]
     pub(crate) fn listed<P: Production>(
         &mut self,

@@ -36,7 +36,7 @@ impl<'a> Parser<'a> {
         self.token.is_none()
     }
 
-    /// The fault of the next token, or of the end, where its place has no reason of its own.
+    /// The fault of the next token, or of the end, if its place has no reason of its own.
     #[tactic(auto, unfolding(crate::specs::Left::left))]
     fn usual(&self) -> Fault
         ensures { result ≡ usual (left self.now) }
@@ -91,13 +91,13 @@ fn refusal(fault: Fault, line: u64) -> ParseRefusal
 /// It reads in one pass with one token of look-ahead, in time and memory linear in the text. Recursion is bounded by
 /// the limits of nesting.
 pub fn parse(alloc: Global, text: &[u8]) -> Result<Program, ParseRefusal>
-    // What is answered is what the text reads as.
+    // The answer is what the text reads as.
     ensures read { IfOk result (λ program. Reads text.now program) }
     // It is also what its canonical text reads as.
     ensures spelled { IfOk result (λ program. IsSpelled program) }
-    // What a text reads as is answered, unless no memory is found.
+    // A text that reads as a program is answered with it, unless memory runs out.
     ensures only { (program : Program) → Reads text.now program → GivesProgram result program }
-    // Which refusal comes, and where.
+    // Each refusal has its cause.
     ensures refused { IfErr result (λ e. IsCause text.now e) }
 {
     let mut parser = Parser::new(text);

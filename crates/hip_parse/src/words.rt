@@ -231,7 +231,7 @@ impl Words for Linkages {
     }
 }
 
-/// What a text may say of the target.
+/// What a text may state of the target.
 #[derive(Clone, Copy)]
 pub(crate) struct TargetWords;
 

@@ -20,7 +20,7 @@ fn is_better(best: Option<i128>, score: Option<i128>) -> bool
     }
 }
 
-/// Whether a score cannot be exceeded where no worth is above a limit.
+/// Whether no score can exceed this one, if no worth is above a limit.
 fn is_at_limit(best: Option<i128>, limit: i128) -> bool
     ensures { result ≡ is_at_limit best limit }
 {
@@ -30,8 +30,8 @@ fn is_at_limit(best: Option<i128>, limit: i128) -> bool
     }
 }
 
-/// The best of level 0, whose score is given, and of the levels of the first `closed` calls. It looks at no call after
-/// a score that none exceeds.
+/// The best of level 0, whose score is given, and of the levels of the first `closed` calls. It reads no call after a
+/// score that none can exceed.
 fn best_level<W: Worths>(
     checked: &Checked,
     worths: &W,
@@ -87,9 +87,9 @@ pub fn choose_by<W: Worths>(checked: &Checked, worths: &W, report: &SharedReport
 }
 
 /// The level at which a report is repaired: of the store, which is level 0, and the calls that had returned, the one
-/// with the greatest score, and the innermost one where scores are equal. It is 0 where a fence alone is missing.
+/// with the greatest score, and the innermost one if scores are equal. It is 0 if only a fence is missing.
 ///
-/// It takes no memory, and goes through all marks once for each pointer operand of the sites that it looks at.
+/// It takes no memory, and goes through all marks once for each pointer operand of the sites that it reads.
 pub fn choose(checked: &Checked, findings: &SharedFindings, report: &SharedReport<'_>) -> usize
     ensures is { result ≡ choice checked.now findings.now report.now }
     ensures closed { result ≤ report.now.closed }

@@ -20,7 +20,7 @@ use hip_tree::{Program, Site, instr_at};
 use hip_types::NoMemory;
 use std::alloc::Global;
 
-/// The store that needs a flush after it, for a report.
+/// The store after which a report needs a flush.
 fn flush_asked(report: &SharedReport<'_>, level: usize) -> Option<Site>
     ensures { result ≡ spec.flush_asked report.now.kind level report.now.path }
 {
@@ -30,8 +30,7 @@ fn flush_asked(report: &SharedReport<'_>, level: usize) -> Option<Site>
     }
 }
 
-/// The instruction that needs a fence after it, for a report: a flush of the program, or the store whose flush is
-/// inserted.
+/// The instruction after which a report needs a fence: a flush of the program, or the store whose flush is inserted.
 fn fence_asked(report: &SharedReport<'_>, level: usize) -> Option<Site>
     ensures { result ≡ spec.fence_asked report.now.kind level report.now.flush_site report.now.path }
 {
@@ -42,7 +41,7 @@ fn fence_asked(report: &SharedReport<'_>, level: usize) -> Option<Site>
     }
 }
 
-/// The call to hoist, for a report.
+/// The call that a report needs hoisted.
 fn hoist_asked(report: &SharedReport<'_>, level: usize) -> Option<Site>
     ensures { result ≡ spec.hoist_asked report.now.kind level report.now.path }
 {
@@ -58,7 +57,7 @@ fn is_there(program: &Program, site: Site) -> bool
     instr_at(program, site).is_some()
 }
 
-/// Puts a site in, where there is one and the program has it.
+/// Inserts a site, if there is one and the program has it.
 fn add(sites: &mut SiteSet, program: &Program, site: Option<Site>) -> Result<(), NoMemory>
     ensures { OnOk result ((s : Site) →
         has_site sites.new s ≡ ((is_site site s && is_there program.now s) || has_site sites.old s)) }
@@ -69,7 +68,7 @@ fn add(sites: &mut SiteSet, program: &Program, site: Option<Site>) -> Result<(),
     }
 }
 
-/// Puts in what a report asks for.
+/// Inserts the sites that a report needs.
 fn add_asked(
     sites: &mut PlanSites,
     program: &Program,
@@ -87,8 +86,8 @@ fn add_asked(
 /// The plan for what was found: in each list the sites of the program that some report needs, in ascending order. It
 /// suits the program if a run of the program found this.
 ///
-/// Memory is linear in the marks and the reports. So is the time, but that sites are sorted, and that a path is looked at
-/// from its store outward up to the first site whose score no score exceeds.
+/// Memory is linear in the marks and the reports. So is the time, except that sites are sorted, and that a path is read
+/// from its store outward up to the first site whose score no other can exceed.
 pub fn plan(alloc: Global, checked: &Checked, findings: &SharedFindings) -> Result<Plan, NoMemory>
     ensures is { IfOk result (λ plan. plan ≡ plan_for checked.now findings.now) }
     ensures suits { IfOk result (λ plan. (I : Input) → IsFound checked.now I findings.now →

@@ -50,7 +50,7 @@ fn operand_count(checked: &Checked, site: Site) -> usize
     }
 }
 
-/// The greater one of the greatest worth so far and a worth.
+/// The greater of a worth and the greatest worth so far.
 fn greatest(so_far: Option<i128>, worth: i128) -> Option<i128>
     ensures { result ≡ greatest so_far worth }
 {
@@ -71,7 +71,7 @@ pub fn score_by<W: Worths>(checked: &Checked, worths: &W, site: Site) -> Option<
     score
 }
 
-/// The score of a site: the greatest worth of its pointer operands. None exactly where it has no pointer operand.
+/// The score of a site: the greatest worth of its pointer operands. None exactly if it has no pointer operand.
 ///
 /// It takes no memory, and goes through all marks once for each pointer operand of the site.
 pub fn score(checked: &Checked, findings: &SharedFindings, site: Site) -> Option<i128>

@@ -70,7 +70,7 @@ fn is_marked(hit: &BTreeSet<usize>, object: Object) -> bool
     }
 }
 
-/// The worth that stands in the table for an operand; 0 where none does.
+/// The worth in the table of an operand; 0 if it has none.
 fn worth_among(worths: &BTreeMap<OperandKey, i128>, key: OperandKey) -> i128
     ensures { result ≡ worth_among worths.now.entries key }
 {
@@ -101,7 +101,7 @@ fn greater_one(a: i128, b: i128) -> i128
     if a < b { b } else { a }
 }
 
-/// The greatest worth in the table; 0 where none is above it.
+/// The greatest worth in the table; 0 if none is above it.
 fn greatest_among(worths: &BTreeMap<OperandKey, i128>) -> i128
     ensures { IsGreatest worths.now.entries result }
 {
@@ -113,7 +113,7 @@ fn greatest_among(worths: &BTreeMap<OperandKey, i128>) -> i128
 }
 
 impl<'a> WorthTable<'a> {
-    /// The table of a run's marks. It takes memory linear in the marks, and time linear but that operands are sorted.
+    /// The table of a run's marks. Memory is linear in the marks, and so is the time, except that operands are sorted.
     pub fn new(alloc: Global, found: &'a SharedFindings) -> Result<WorthTable<'a>, NoMemory>
         ensures { IfOk result (λ table. table ≡ found.now) }
     {

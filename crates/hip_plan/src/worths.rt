@@ -63,7 +63,7 @@ pub fn worth_of(is_marked: bool) -> i128
     if is_marked { 1 } else { -1 }
 }
 
-/// What a mark adds to the worth of an operand: nothing where it is of another operand.
+/// What a mark adds to the worth of an operand; 0 if it is of another operand.
 fn added_by(hit: &[usize], mark: &Mark, site: Site, operand: usize) -> i128
     ensures { result ≡ added_by hit.now mark.now site operand }
 {

@@ -1,4 +1,4 @@
-//! Runs that are written: what they print, and their traces.
+//! Runs as they are written: what they print, and their traces.
 #![tactic(auto)]
 
 mod delivery;

@@ -19,8 +19,8 @@ use hip_step::Begin;
 use std::alloc::Global;
 
 /// Runs a program on an input, and writes what it prints: each number in signed decimal with a line feed. The numbers
-/// are put as they are printed, and delivered at the end and before a refusal, so that after a refusal out has a front
-/// of the run's text. The runner alone takes memory.
+/// are put as they are printed, and delivered at the end and before a refusal, so after a refusal out has a front of
+/// the run's text. Only the runner takes memory.
 pub fn print_run<S: Sink>(
     alloc: Global,
     checked: &Checked,

@@ -29,8 +29,8 @@ pub struct Recorded {
     pub findings: SharedFindings,
 }
 
-/// Runs a program on an input, writes the trace of the run as `write_trace` does, and answers what the run found. Memory
-/// is taken by the machine and by what is noted (stores that are not durable, marks and reports).
+/// Runs a program on an input, writes the trace of the run as `write_trace` does, and answers what the run found.
+/// Memory is taken by the machine and by what is noted (stores that are not durable, marks and reports).
 pub fn record_run<S: Sink>(
     alloc: Global,
     checked: &Checked,
@@ -138,7 +138,7 @@ fn note_entries<'a, S: Sink>(
     runs_end();
     runs_are_bounded();
     events_tell_output_and_ending();
-    // No body has 2^64 instructions, so that the entries can be counted.
+    // No body has 2^64 instructions, so the entries can be counted.
     let program = machine.checked().program();
     let _most = longest(program);
     'steps: loop {

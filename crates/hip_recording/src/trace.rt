@@ -19,8 +19,8 @@ use hip_step::Begin;
 use std::alloc::Global;
 
 /// Runs a program on an input, and writes the trace of the run, a line for each entry. The entries are put as the steps
-/// are taken, and delivered at the end and before a refusal, so that after a refusal out has a front of the trace. The
-/// runner alone takes memory.
+/// are taken, and delivered at the end and before a refusal, so after a refusal out has a front of the trace. Only the
+/// runner takes memory.
 pub fn write_trace<S: Sink>(
     alloc: Global,
     checked: &Checked,
@@ -85,7 +85,7 @@ fn put_entries<'a, S: Sink>(
     runs_end();
     runs_are_bounded();
     events_tell_output_and_ending();
-    // No body has 2^64 instructions, so that the entries can be counted.
+    // No body has 2^64 instructions, so the entries can be counted.
     let program = runner.checked().program();
     let _most = longest(program);
     'steps: loop {

@@ -17,15 +17,15 @@ ghost use Rattle.hip_runs.specs.declared.report.Findings.{Findings};
 ghost use Rattle.hip_sound.specs.Sound.{IsSound};
 
 /// The program that is repaired for what a run found does no harm, is clean on the run's input, has its hoisted calls
-/// covered, is sound, and its canonical text reads as it.
+/// covered, is sound, and its canonical text reads as that program.
 pub fn repairs_cure()
     ensures { (P : Program) → (I : Input) → (found : Findings) → IsSound P → IsValid P I
         → IsFound P I found →
         IsCured P I found }
 {}
 
-/// The same of a repair by any plan that has what the run found, where the stores that the clones do not flush never
-/// lie in the region.
+/// The same for a repair by any plan that has what the run found, if the stores that the clones do not flush never lie
+/// in the region.
 pub fn plans_cure()
     ensures { (P : Program) → (I : Input) → (plan : Plan) → (skip : Site → Bool) → (found : Findings)
         → IsSound P →
@@ -40,23 +40,23 @@ pub fn answers_are_one()
     ensures rerun { GivesOne HasRerun }
 {}
 
-/// Where the trace's file is current after a read fault, and is not the program's, its bytes that were taken show no
-/// misfit.
+/// If the trace's file is current after a read fault, and is not the program's, the bytes that were taken from it show
+/// no misfit.
 pub fn faults_hide_no_misfit()
     ensures check { FaultsHideNone HasChecked }
     ensures repair { FaultsHideNone HasRepaired }
     ensures rerun { FaultsHideNone HasRerun }
 {}
 
-/// Where the one file has a program and the other is the trace of a run of it, each command has an answer by which it
-/// is carried out.
+/// If one file has a program and the other is the trace of a run of it, each command has an answer by which it is
+/// carried out.
 pub fn runs_are_answered()
     ensures check { AnswersRuns HasChecked }
     ensures repair { AnswersRuns HasRepaired }
     ensures rerun { AnswersRuns HasRerun }
 {}
 
-/// Where the run reports nothing, `repair` gives the program's canonical text and five zeros.
+/// If the run reports nothing, `repair` gives the program's canonical text and five zeros.
 pub fn nothing_to_repair()
     ensures { NothingToRepair }
 {}

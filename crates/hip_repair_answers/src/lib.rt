@@ -1,4 +1,4 @@
-//! What `check`, `repair` and `rerun` answer, and what their answers promise.
+//! What `check`, `repair` and `rerun` answer, and what their answers guarantee.
 #![tactic(auto)]
 
 mod laws;

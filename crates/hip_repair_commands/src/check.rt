@@ -11,7 +11,7 @@ use hip_sound::Checked;
 use hip_trace_loading::{Replayed, load_run};
 use std::alloc::Global;
 
-/// Writes a line for each report of a run; then how many there are goes to notes.
+/// Writes a line for each report of a run, and then their number to notes.
 fn report_findings<S: Sink, N: Sink>(
     checked: &Checked,
     replayed: &Replayed,
@@ -32,8 +32,8 @@ fn report_findings<S: Sink, N: Sink>(
     }
 }
 
-/// Writes the reports of the run whose trace one file has, of the program that another has. All memory that it needs is
-/// taken before the first byte is written.
+/// Writes the reports of the run whose trace one file has, of the program that another file has. It takes all its
+/// memory before it writes the first byte.
 #[inline(never)]
 pub fn check_file<C: Cabinet, S: Sink, N: Sink>(
     alloc: Global,

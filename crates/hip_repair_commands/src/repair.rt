@@ -18,7 +18,7 @@ use hip_types::NoMemory;
 use hip_write::write;
 use std::alloc::Global;
 
-/// Writes the repaired program; then the counts go to notes.
+/// Writes the repaired program, and then the counts to notes.
 fn put_repair<S: Sink, N: Sink>(
     checked: &Checked,
     replayed: &Replayed,
@@ -66,8 +66,8 @@ fn repair_findings<S: Sink, N: Sink>(
     }
 }
 
-/// Repairs the program of a file for the run whose trace another has. All memory that it needs is taken before the
-/// first byte is written.
+/// Repairs the program of a file for the run whose trace another file has. It takes all its memory before it writes the
+/// first byte.
 #[inline(never)]
 pub fn repair_file<C: Cabinet, S: Sink, N: Sink>(
     alloc: Global,

@@ -1,4 +1,4 @@
-//! `rerun`: the trace of the repaired program's run, on the input of a trace of the program's.
+//! `rerun`: the trace of the repaired program's run, on the input of a trace of the original program.
 
 ghost use Rattle.std.specs.Prelude.{◌≡◌, true};
 ghost use Rattle.hip_answers.specs.Answers.{AnswersOnRun, HasAnswered, IsDelivered, sinks};
@@ -18,8 +18,8 @@ use hip_trace_loading::{Replayed, load_run};
 use hip_types::NoMemory;
 use std::alloc::Global;
 
-/// Runs the repaired program on the run's input and writes its trace as it runs; then how many reports there are of
-/// either run goes to notes.
+/// Runs the repaired program on the run's input and writes its trace as it runs; then it writes to notes how many
+/// reports each of the two runs has.
 fn run_repair<S: Sink, N: Sink>(
     alloc: Global,
     checked: &Checked,
@@ -69,8 +69,8 @@ fn rerun_findings<S: Sink, N: Sink>(
     }
 }
 
-/// Repairs the program of a file for the run whose trace another has, and writes the trace of the repaired program's
-/// run on the same input as it runs.
+/// Repairs the program of a file for the run whose trace another file has, and writes the trace of the repaired
+/// program's run on the same input as it runs.
 #[inline(never)]
 pub fn rerun_file<C: Cabinet, S: Sink, N: Sink>(
     alloc: Global,

@@ -27,8 +27,8 @@ pub fn repairs_loosen_nothing()
 {}
 
 /// A repair makes no check worse, by whatever plan and on every input: each check of the repaired program is one of the
-/// program's, and each of its reports has a report there of the same store. So a run that has nothing to report still has
-/// nothing to report after the repair.
+/// program's, and for each of its reports that check has one of the same store. So a run that has nothing to report
+/// still has nothing to report after the repair.
 pub fn repairs_worsen_no_check()
     ensures checks { (P : Program) → (plan : Plan) → (skip : Site → Bool) → IsSound P
         → WorsensNoCheck P plan skip }
@@ -36,22 +36,22 @@ pub fn repairs_worsen_no_check()
         IsValid P I → IsClean P I → IsClean (repaired P plan skip) I }
 {}
 
-/// Where a run has nothing to report, each byte that it checks survives a crash at the check, and after it has stopped
+/// If a run has nothing to report, each byte that it checks survives a crash at the check, and after it has stopped
 /// every crash image is equal to working memory.
 pub fn clean_checks_survive()
     ensures { (P : Program) → IsSound P → (I : Input) → IsValid P I → IsClean P I → ChecksSurvive P I }
 {}
 
-/// In the program repaired by a plan that has what a run found, each byte that is checked on that run's input survives a
-/// crash at its check, where the stores that the clones do not flush never lie in the region.
+/// In the program repaired by a plan that has what a run found, each byte that is checked on that run's input survives
+/// a crash at its check, if the stores that the clones do not flush never lie in the region.
 pub fn checks_of_repaired_programs_survive()
     ensures { (P : Program) → (plan : Plan) → (skip : Site → Bool) → (I : Input) → (found : Findings) →
         IsSound P → IsValid P I → IsQuiet P skip → IsFound P I found → Contains plan (plan_for P found) →
         ChecksSurvive (repaired P plan skip) I }
 {}
 
-/// On every input each byte whose last store came under a hoisted call survives a crash after the fence that follows the
-/// call, where the stores that the clones do not flush never lie in the region.
+/// On every input each byte whose last store came under a hoisted call survives a crash after the fence that follows
+/// the call, if the stores that the clones do not flush never lie in the region.
 pub fn stores_under_hoisted_calls_survive()
     ensures { (P : Program) → (plan : Plan) → (skip : Site → Bool) → IsSound P → IsQuiet P skip →
         CoveredSurvive P (repaired P plan skip) }

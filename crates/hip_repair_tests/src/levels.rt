@@ -61,7 +61,7 @@ fn rows_of_the_table(rt: HostRuntime) {
     assert_quiet(&rt, rt.alloc(), ROWS, &quiet);
 }
 
-/// A pointer that is stepped in a loop meets its own level; one that is only handed round keeps it.
+/// A pointer that is stepped in a loop depends on its own level; one that is only passed around keeps its level.
 const LOOP: &str = "define i32 @main() {
 entry:
   %a = alloca [9 x i8]
@@ -87,8 +87,8 @@ fn stepped_in_a_loop(rt: HostRuntime) {
     assert_quiet(&rt, rt.alloc(), LOOP, &[(0, 1, 1)]);
 }
 
-/// Recursion through a result: one function steps what it answers, the other answers it as it is. A call that no path
-/// reaches makes a parameter free, and a function without calls or returns has level 0 throughout.
+/// Recursion through a result: one function steps the pointer that it returns, the other returns it as it is. A call
+/// that no path reaches makes a parameter free, and a function without calls or returns has level 0 throughout.
 const CALLS: &str = "@p = global i64 0, section \".pm\"
 define ptr @step(ptr %s, i64 %n) {
 entry:

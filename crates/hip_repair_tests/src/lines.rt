@@ -36,7 +36,7 @@ fn found(rt: &impl Abort, alloc: Global, case: &Case) -> StoreReport {
     }
 }
 
-/// Each sink that is shorter than a line takes a front of it.
+/// Each sink with less room than a line takes a front of it.
 fn assert_cut(
     rt: &impl Abort,
     alloc: Global,

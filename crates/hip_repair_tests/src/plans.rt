@@ -11,7 +11,7 @@ use hip_types::Row;
 use std::alloc::Global;
 use std::process::Abort;
 
-/// A report of a store, made in these calls, and how many of them had returned.
+/// A report of a store, the calls that it was made in, and how many of them had returned.
 struct Found {
     kind: Kind,
     entries: (u128, u128),
@@ -35,7 +35,7 @@ enum Into {
     Slot(Place),
 }
 
-/// What a run of a program found, and what comes of it.
+/// What a run of a program found, and the plan for it.
 struct Case {
     name: &'static str,
     program: &'static str,

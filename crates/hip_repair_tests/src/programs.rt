@@ -1,4 +1,4 @@
-//! Programs of texts, sites in them, and how they are written.
+//! Programs from texts, sites in them, and how they are written.
 
 use hip_examples::AMPLE;
 use hip_findings::{CallPath, SharedPath};
@@ -57,7 +57,7 @@ pub fn path(rt: &impl Abort, alloc: Global, store: Place, places: &[Place]) -> S
     SharedPath::new(site(store), &calls).expect(rt, AMPLE)
 }
 
-/// The program is written so.
+/// Asserts that the program is written as this text.
 pub fn assert_written(rt: &impl Abort, alloc: Global, program: &Program, text: &str) {
     let mut sink = MemSink::new(alloc, 10_000).expect(rt, AMPLE);
     assert!(rt; write(program, &mut sink).is_ok());

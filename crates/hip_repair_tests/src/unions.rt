@@ -1,4 +1,4 @@
-//! Unions of plans, and for how many of them each line of a union stands.
+//! Unions of plans, and how many of the plans have each site of a union.
 
 use crate::programs::{Place, site, sites};
 use hip_examples::AMPLE;

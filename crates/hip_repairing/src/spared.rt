@@ -51,9 +51,9 @@ fn count_spared(
     count
 }
 
-/// How many low stores of the functions with clones are neither direct nor flushed by the plan, given the low stores and
-/// the clones. It takes memory linear in the program and the lists, and time linear in them except for the logarithm
-/// of the number of direct stores.
+/// How many low stores of the functions with clones are neither direct nor flushed by the plan, given the low stores
+/// and the clones. Memory is linear in the program and the lists, and so is the time, except for the logarithm of the
+/// number of direct stores.
 pub fn spared_count(
     alloc: Global,
     checked: &Checked,

@@ -1,4 +1,4 @@
-//! Small programs with the reports of their runs and their repairs, worked out by the definitions.
+//! Small programs with the reports of their runs and their repairs, computed by the definitions.
 
 ghost use Rattle.hip_repairs.specs.examples.AssertInsideCallee.{
   assert_inside_callee,
@@ -79,7 +79,7 @@ pub fn assert_inside_callee_is_repaired()
 {}
 
 /// Two functions that call one another, first for the stack and then for a persistent global: the second call from
-/// `main` goes to a clone of the one, and the clones call one another.
+/// `main` goes to a clone, and the clones call one another.
 pub fn mutual_recursion_is_hoisted()
     ensures { IsHoisted mutual_recursion (zeroed 1) 38 (mutual_recursion_report ∷ []) mutual_recursion_repaired }
 {}

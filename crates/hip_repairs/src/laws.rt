@@ -18,12 +18,12 @@ ghost use Rattle.hip_repairs.specs.Repaired.{repaired};
 ghost use Rattle.hip_repairs.specs.declared.plan.Plan.{Plan};
 ghost use Rattle.std.specs.Prelude.{Bool, ℕ, ◌≡◌};
 
-/// A repair does no harm, by whatever plan, and whatever stores the clones do not flush.
+/// A repair does no harm, by whatever plan, and whichever stores the clones do not flush.
 pub fn repairs_do_no_harm()
     ensures { (P : Program) → (plan : Plan) → (skip : Site → Bool) → IsSound P → IsHarmless P plan skip }
 {}
 
-/// A repair by a plan that has what a run found leaves nothing to report on that run's input, where the stores that the
+/// A repair by a plan that has what a run found leaves nothing to report on that run's input, if the stores that the
 /// clones do not flush never lie in the region.
 pub fn repairs_are_clean()
     ensures { (P : Program) → (plan : Plan) → (skip : Site → Bool) → (I : Input) → (found : Findings) →
@@ -31,7 +31,7 @@ pub fn repairs_are_clean()
         IsClean (repaired P plan skip) I }
 {}
 
-/// The repaired program is sound again, by whatever plan. The region's size and all addresses are what they were.
+/// The repaired program is sound again, by whatever plan. The region's size and all addresses stay the same.
 pub fn repaired_is_sound()
     ensures sound { (P : Program) → (plan : Plan) → (skip : Site → Bool) → IsSound P
         → IsSound (repaired P plan skip) }
@@ -42,8 +42,8 @@ pub fn repaired_is_sound()
         address (repaired P plan skip) base number ≡ address P base number }
 {}
 
-/// A call of a clone goes to a clone of the function that the program calls there. The fence that follows it makes all
-/// durable that was stored under the call, where the stores that the clones do not flush never lie in the region.
+/// A call of a clone goes to a clone of the function that the program calls there. After the fence that follows it, all
+/// that was stored under the call is durable, if the stores that the clones do not flush never lie in the region.
 pub fn hoisted_calls_are_covered()
     ensures { (P : Program) → (plan : Plan) → (skip : Site → Bool) → IsSound P → IsQuiet P skip →
         IsCovered P (repaired P plan skip) }
@@ -54,7 +54,8 @@ pub fn hoisted_calls_are_fenced()
     ensures { (P : Program) → (plan : Plan) → (skip : Site → Bool) → IsSound P → AreHoistsFenced P plan skip }
 {}
 
-/// The stores whose address is a register assigned by `alloca`, or a volatile global itself, never lie in the region.
+/// The stores whose address is a register assigned by `alloca`, or the name of a volatile global, never lie in the
+/// region.
 pub fn direct_stores_are_quiet()
     ensures { (P : Program) → IsSound P → IsQuiet P (direct P) }
 {}

@@ -4,9 +4,9 @@ use hip_types::Row;
 /// Where a program is repaired. In a plan that suits a program, each list is strictly ascending.
 #[derive(Drop)]
 pub struct Plan {
-    /// The stores that a flush is put after.
+    /// The stores after which a flush is put.
     pub flush_after: Row<Site>,
-    /// The flushes that a fence is put after: flush calls, and stores that a flush is put after.
+    /// The flushes after which a fence is put: flush calls, and stores after which a flush is put.
     pub fence_after: Row<Site>,
     /// The calls of defined functions that go to clones, with a fence after each.
     pub hoist: Row<Site>,

@@ -38,8 +38,8 @@ pub fn plans_suit()
         → IsSuiting P (plan_for P found) }
 {}
 
-/// The union of two plans has each of them, where that one names sites of the program alone, as a plan does that
-/// suits it; and it suits the program where both do.
+/// The union of two plans contains each plan that names only sites of the program, as a plan that suits it does; and it
+/// suits the program if both do.
 pub fn plans_unite()
     ensures first { (P : Program) → (a b : Plan) → IsWithin P a → Contains (union P a b) a }
     ensures second { (P : Program) → (a b : Plan) → IsWithin P b → Contains (union P a b) b }
@@ -47,7 +47,7 @@ pub fn plans_unite()
     ensures suits { (P : Program) → (a b : Plan) → IsSuiting P a → IsSuiting P b → IsSuiting P (union P a b) }
 {}
 
-/// Where nothing was reported the plan is empty, and the program repaired by the empty plan is the program itself.
+/// If nothing was reported the plan is empty, and the program repaired by the empty plan is the program itself.
 pub fn nothing_is_changed_without_reports()
     ensures plan { (P : Program) → (found : Findings) → found.reports ≡ [] → plan_for P found ≡ no_repairs }
     ensures program { (P : Program) → (skip : Site → Bool) → repaired P no_repairs skip ≡ P }
@@ -59,8 +59,8 @@ pub fn inputs_stay_valid()
         IsValid (repaired P plan skip) I }
 {}
 
-/// The clones that are numbered for a plan are those of the repaired program: each stands there under its number as
-/// the clone of the function that it was made of, and each function that is cloned has one.
+/// The clones that are numbered for a plan are those of the repaired program: each has its number there, as the clone
+/// of the function that it was made of, and each function that is cloned has one.
 pub fn clones_are_numbered()
     ensures clone { (P : Program) → (plan : Plan) → (skip : Site → Bool) → (clone : CloneOf) →
         In clone (clone_numbers P plan) → IsCloneOf P plan skip clone }

@@ -1,4 +1,4 @@
-//! The calls that run a whole program: its run is printed, recorded as a trace, or replayed beside one.
+//! The calls that run a whole program: they print its run, record it as a trace, or compare it with one.
 #![tactic(auto)]
 
 pub use hip_following::{Replayed, replay};

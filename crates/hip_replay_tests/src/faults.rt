@@ -10,7 +10,7 @@ use hip_types::Row;
 use std::alloc::Global;
 use std::process::Abort;
 
-/// A trace of which `at` bytes are read before a read fails, and the refusal.
+/// A trace whose reader fails after `at` bytes, and the refusal.
 struct Fault {
     trace: &'static str,
     at: u64,
@@ -56,7 +56,7 @@ const FAULTS: &[Fault] = &[
     },
 ];
 
-/// The refusal of a trace with the program of one store, where a read fails.
+/// The refusal of a trace with the program of one store, if a read fails.
 fn refused(
     rt: &impl Abort,
     alloc: Global,
@@ -85,7 +85,7 @@ STORE;0x100000000;0x6;0x8
 STOP;0
 ";
 
-/// Whether a sink with so much room is full where the run is recorded, and has what fits of the trace.
+/// Whether the run is recorded up to what a sink with this room can hold.
 fn is_cut_of(rt: &impl Abort, alloc: Global, checked: &Checked, input: &Input, room: u64) -> bool {
     assert!(rt; why_not(checked, input).is_none(), "the input is valid");
     let mut out = MemSink::new(alloc, room).expect(rt, AMPLE);
@@ -96,7 +96,7 @@ fn is_cut_of(rt: &impl Abort, alloc: Global, checked: &Checked, input: &Input, r
     refused && TRACE.as_bytes().starts_with(out.bytes()) && out.bytes().len() as u64 == room
 }
 
-/// Whether a sink with so much room is full, and has what fits of the trace.
+/// The same for the program of two stores.
 fn is_cut(rt: &impl Abort, alloc: Global, room: u64) -> bool {
     let checked = checked(rt, alloc, OVERWRITTEN);
     let input = input(rt, alloc, &checked, &[], 9);

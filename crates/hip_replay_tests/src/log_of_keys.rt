@@ -1,4 +1,4 @@
-//! A log of keys and values: 40 inserts, with a store that lacks something at most places.
+//! A log of keys and values: 40 inserts, with stores that lack something at most places.
 
 use crate::runs::{checked, in_chunks, input, record, replayed};
 use hip_examples::{AMPLE, KEY_VALUE_LOG};
@@ -19,7 +19,7 @@ report both entry 241 check 243 closed 1 path @fill:entry:1 @main:loop:6
 report both entry 242 check 243 closed 1 path @fill:entry:3 @main:loop:6
 ";
 
-/// What stands before the first step, and the entries of the first insert.
+/// The entries before the first step, and those of the first insert.
 const FRONT: &str = "START;1000000000
 REGISTER;0x100000000;0x300
 STORE;0x1000002c0;0x1;0x8

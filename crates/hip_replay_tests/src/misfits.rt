@@ -1,4 +1,4 @@
-//! The first entry of a trace that is none of the run's, and in which way it is not.
+//! The first entry of a trace that differs from the run's, and how.
 
 ghost use Rattle.std.specs.Prelude.{◌≤◌};
 
@@ -18,7 +18,7 @@ struct Misfit {
     kind: MisfitKind,
 }
 
-/// Asserts how a trace is refused, of which `chunk` bytes come at a time.
+/// Asserts how a trace is refused that comes in chunks of `chunk` bytes.
 fn assert_refused(
     rt: &impl Abort,
     alloc: Global,
@@ -36,7 +36,7 @@ fn assert_refused(
     }
 }
 
-/// Asserts the misfit of each trace with a program, where `chunk` bytes come at a time.
+/// Asserts the misfit of each trace with a program; the trace comes in chunks of `chunk` bytes.
 fn assert_misfits(rt: &impl Abort, alloc: Global, program: &str, cases: &[Misfit], chunk: usize)
     requires { 1 ≤ chunk }
 {

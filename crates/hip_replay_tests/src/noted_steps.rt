@@ -1,4 +1,4 @@
-//! A tracker that notes a run step by step, and what it has found when the run has ended.
+//! A tracker that notes a run step by step, and what it has found at the end of the run.
 
 ghost use Rattle.std.specs.Prelude.{◌≡◌, ◌+◌, ◌<◌, ◌≤◌, ◌^◌, length, true};
 ghost use Rattle.hip_report.specs.Tracking.{HasNoted};

@@ -74,7 +74,8 @@ fn pointed_by(
     }
 }
 
-// What those of the instruction at a site point into. Of a store the op gives the only one; for a call the tree is read.
+// What the pointer operands of the instruction at a site point into. A store has one, which its op gives; for a call
+// the tree is read.
 #[inline(always)]
 fn pointed_from(
     alloc: Global,
@@ -124,7 +125,7 @@ fn pointed_at(
     Ok(pointed)
 }
 
-// What all pointer operands of the next instruction point into. Its site is given.
+// What all pointer operands of the next instruction point into; its site is given.
 fn all_pointed(
     alloc: Global,
     notes: &Notes,
@@ -141,7 +142,7 @@ fn all_pointed(
     pointed_among(alloc, notes, machine, site, values.as_slice())
 }
 
-// What they point into, where these are their values.
+// What the pointer operands with these values point into.
 fn pointed_among(
     alloc: Global,
     notes: &Notes,
@@ -178,7 +179,7 @@ fn value_at(values: &[u64], operand: usize) -> Option<u64>
     values.get(operand).copied()
 }
 
-// The number after this one. There is no memory for an instruction with as many operands.
+// The number after this one. An instruction with more operands is out of memory.
 #[inline(always)]
 fn next_number(operand: usize) -> Result<usize, NoMemory>
     ensures { IfOk result (λ next. next ≡ operand + 1) }

@@ -42,7 +42,7 @@ fn note_hit(
     }
 }
 
-// The global that an address lies in, which the last operand may have.
+// The global that an address lies in; it may be the target of the last operand.
 #[inline(always)]
 fn global_at(machine: &Machine<'_>, last: Option<Target>, addr: u64) -> Option<usize>
     requires { TellsGlobal machine.now.program machine.now.input last }
@@ -54,7 +54,7 @@ fn global_at(machine: &Machine<'_>, last: Option<Target>, addr: u64) -> Option<u
     }
 }
 
-// The number of the global that an object is.
+// The number of the global, if the object is one.
 #[inline(always)]
 fn global_of(object: Option<Object>) -> Option<usize>
     ensures { result ≡ global_of object }
@@ -127,7 +127,7 @@ fn note_calls_alone(
     Ok(())
 }
 
-// Drops the notes that no check will need, after a step that was noted, where there are many.
+// Drops the notes that no check will need, after a step that was noted, if there are many.
 #[inline(always)]
 fn forget(alloc: Global, notes: &mut Notes, machine: &Machine<'_>)
     requires noted { AreNoted machine.now.program machine.now.input machine.now.taken notes.old }

@@ -28,9 +28,9 @@ pub struct Source<'a> {
     pub input: &'a Input,
 }
 
-/// A tracker of one run, which contracts see as the machine whose steps it noted, the number of entries before the
-/// first step, and whether it ran out of memory. It keeps the stores that may still be reported, and shares the calls
-/// that they have in common.
+/// A tracker of one run; contracts see the machine whose steps it noted, the number of entries before the first step,
+/// and whether it ran out of memory. It keeps the stores that may still be reported, and shares the calls that they
+/// have in common.
 #[derive(Drop)]
 pub struct Tracker<'a> {
     alloc: Global,
@@ -117,7 +117,7 @@ impl<'a> Tracker<'a> {
         }
     }
 
-    /// The findings of the run, where every step of the machine was noted, it has ended, and the header's entries are
+    /// The findings of the run, if every step of the machine was noted, it has ended, and the header's entries are
     /// those of the run's trace.
     pub fn close(self, machine: &Machine<'a>) -> Result<SharedFindings, NoMemory>
         requires noted { HasNoted self machine.now }
@@ -141,7 +141,7 @@ fn marks_in(alloc: Global, notes: &Notes) -> Result<Marks, NoMemory>
     Ok(Marks { pointed, hit })
 }
 
-// Takes a machine's program and input, where nothing was noted yet.
+// Takes a machine's program and input, if nothing was noted yet.
 #[inline(always)]
 fn begin<'a>(source: &mut Option<Source<'a>>, notes: &Notes, machine: &Machine<'a>)
     requires { MayNote source.old notes.now machine.now }

@@ -37,7 +37,7 @@ pub fn put_repair_counts<N: Sink>(notes: &mut N, reports: usize, plan: &Plan, cl
     put_repair_totals(Put::Done, notes, reports as u128, plan, clones)
 }
 
-/// The counts of a repair, where the reports may be those of many runs.
+/// The counts of a repair; the reports may be those of many runs.
 pub fn put_repair_totals<N: Sink>(
     before: Put,
     notes: &mut N,

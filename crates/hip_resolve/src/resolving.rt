@@ -25,9 +25,9 @@ use hip_tree::Program;
 use hip_types::{NoMemory, Row};
 use std::alloc::Global;
 
-/// The code of a checked program, where the region begins at a base: constants are numbers in it, and names are slots
-/// and places. Time and memory are linear in the program's text. From 2^32 ops, or entries of a table, on there is no
-/// memory.
+/// The code of a checked program, if the region begins at a base: constants are numbers in it, and names are slots and
+/// places. Time and memory are linear in the program's text. A program with 2^32 ops or more, or with as many entries
+/// in a table, is out of memory.
 pub fn resolve(alloc: Global, checked: &Checked, base: u64) -> Result<Code, NoMemory>
     requires { IsBase base }
     ensures { IfOk result (λ code. IsResolved checked.now base code) }
@@ -72,7 +72,7 @@ struct Made {
     ops: Row<Op>,
 }
 
-/// The ops of all functions, one after another.
+/// The ops of all functions, in order.
 fn whole_of(known: &Known<'_, '_>) -> Result<Made, NoMemory>
     requires { IsKnown known.now }
     ensures { IfOk result (λ made. AreWhole known.now.program.now known.now.base made.ops (grown made.tables)) }

@@ -44,7 +44,7 @@ fn starts_of(alloc: Global, functions: &[Function]) -> Result<Row<u32>, NoMemory
     Ok(starts)
 }
 
-/// The places where the functions begin. Where the code ends at 2^32 or later, there is no memory.
+/// The places where the functions begin. Code that ends at 2^32 or later is out of memory.
 pub fn starts(alloc: Global, program: &Program) -> Result<Row<u32>, NoMemory>
     ensures { IfOk result (λ starts. OfFunctions program.now starts (λ g. entry program.now g 0)) }
 {
@@ -74,7 +74,7 @@ fn sizes_of(alloc: Global, functions: &[Function]) -> Result<Row<u32>, NoMemory>
     Ok(sizes)
 }
 
-/// How many registers the functions have. Where there are 2^32 or more, there is no memory.
+/// How many registers the functions have. A function with 2^32 or more is out of memory.
 pub fn sizes(alloc: Global, program: &Program) -> Result<Row<u32>, NoMemory>
     requires { IsSound program.now }
     ensures { IfOk result (λ sizes. OfFunctions program.now sizes (λ g. length (names_at program.now g))) }

@@ -14,7 +14,7 @@ use std::process::Abort;
 /// An upper bound of the steps of these programs' runs.
 const MOST_STEPS: u64 = 40;
 
-/// A store in two lines, the second of which is then made durable.
+/// A store in two lines; then the second of these is made durable.
 const TWO_LINES: &str = "@a = global [16 x i64] zeroinitializer, section \".pm\"
 declare void @llvm.x86.clwb(ptr)
 declare void @llvm.x86.sse.sfence()
@@ -29,7 +29,7 @@ entry:
 }
 ";
 
-/// Stores of which the first is flushed, and those of another line that are persisted with one call.
+/// Stores whose first one is flushed, and stores of another line that one call persists.
 const FLUSHED: &str =
     "@a = global [16 x i64] [i64 1, i64 0, i64 0, i64 0, i64 0, i64 0, i64 0, i64 0, i64 0, i64 0, i64 0, i64 0, i64 0, i64 0, i64 0, i64 0], section \".pm\"
 declare void @llvm.x86.clwb(ptr)

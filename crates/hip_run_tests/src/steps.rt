@@ -33,7 +33,7 @@ fn place(site: Site) -> Place {
     (site.function, site.block, site.index)
 }
 
-/// Takes a step, and gives what was shown before it.
+/// Takes a step, and gives what the machine showed before it.
 fn taken(rt: &impl Abort, machine: &mut Machine<'_>) -> Step {
     let site = machine.site().map(place);
     let depth = machine.depth();

@@ -43,7 +43,7 @@ pub fn headers_read_back()
         header P (map (λ e. Some e) (trace P I n)) ≡ Gives (header_entries I) I }
 {}
 
-/// What a header gives is a valid input, and its entries are those that stand before the first step of the run on it.
+/// What a header gives is a valid input, and its entries are those before the first step of the run on it.
 pub fn headers_give_valid_inputs()
     ensures input { (P : Program) → (bytes : List ℕ) → (whole : Bool) → (h : ℕ) → (I : Input) →
         header P (spelled whole bytes) ≡ Gives h I → IsInput I }
@@ -64,7 +64,7 @@ pub fn trace_entries_are_spelled()
         All IsSpelled (trace P I n) }
 {}
 
-/// There is one misfit at most, and none where the file is the trace of a run; and it follows the header.
+/// There is at most one misfit, and none if the file is the trace of a run; and it follows the header.
 pub fn misfits_are_one()
     ensures entry { (P : Program) → (bytes : List ℕ) → (whole : Bool) → (e e' : ℕ) → (k k' : MisfitKind) →
         IsMisfit P bytes whole e k → IsMisfit P bytes whole e' k' → e ≡ e' }
@@ -77,14 +77,15 @@ pub fn misfits_are_one()
         IsMisfit P bytes whole e k → header P (spelled whole bytes) ≡ Gives h I → h < e }
 {}
 
-/// The misfit that the first bytes of a file show is the file's, whatever follows, and whether it is whole or not.
+/// The misfit that the first bytes of a file show is the file's, whatever follows, and whether the file is whole or
+/// not.
 pub fn first_bytes_decide_misfits()
     ensures { (P : Program) → (front rest : List ℕ) → (whole : Bool) → (e : ℕ) → (k : MisfitKind) →
         IsMisfit P front false e k → IsMisfit P (front ++ rest) whole e k }
 {}
 
-/// After entries that the pieces spell, the first difference is the next one. Where pieces differ from the trace of a
-/// run's first steps before that trace ends, they differ so from the run's trace.
+/// After entries that the pieces spell, the first difference is that of the rest. If pieces differ from the trace of a
+/// run's first steps before that trace ends, they differ in the same way from the run's trace.
 pub fn first_steps_decide_misfits()
     ensures here { (whole : Bool) → (front : List Entry) → (pieces : List (Option Entry))
         → (more : List Entry) →
@@ -96,7 +97,7 @@ pub fn first_steps_decide_misfits()
         FirstDiffers whole pieces (trace P I n) count k → FirstDiffers whole pieces es count k }
 {}
 
-/// A front of a file shows no misfit where its pieces are all valid entries of a header that has less than two, or all
+/// A front of a file shows no misfit if its pieces are all valid entries of a header with less than two entries, or all
 /// spell the first entries of the run's trace.
 pub fn fronts_that_agree_show_no_misfit()
     ensures stops { (P : Program) → (bytes : List ℕ) → (h e : ℕ) → (k : MisfitKind) →
@@ -109,7 +110,7 @@ pub fn fronts_that_agree_show_no_misfit()
         IsMisfit P bytes false e k → ⊥ }
 {}
 
-/// A front of a file shows no misfit where its pieces are the first of those that spell the entries of a run's steps.
+/// A front of a file shows no misfit if its pieces are the first of those that spell the entries of a run's steps.
 pub fn fronts_of_traces_show_no_misfit()
     ensures { (P : Program) → (I : Input) → (n : ℕ) → (bytes : List ℕ) → (more : List (Option Entry))
         → (e : ℕ) →

@@ -1,4 +1,4 @@
-//! The trace of a run, the header that gives a run's input, and where a file is no trace of a run.
+//! The trace of a run, the header that gives a run's input, and where a file differs from the trace of a run.
 #![tactic(auto)]
 
 mod laws;

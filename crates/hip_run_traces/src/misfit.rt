@@ -1,4 +1,4 @@
-/// In which way an entry of a trace is not the run's.
+/// How an entry of a trace differs from the run's.
 #[derive(Clone, Copy, Debug, PartialEq, Eq)]
 pub enum MisfitKind {
     /// The text spells no entry, or has more than 256 bytes.

@@ -1,4 +1,4 @@
-//! Laws of runs: what the cache lines tell of the steps before, and which contents a crash may leave.
+//! Laws of runs: what the cache lines have of the steps before, and which contents a crash may leave.
 
 ghost use Rattle.hip_tree.specs.declared.program.Program.{Program};
 ghost use Rattle.hip_types.specs.declared.areas.TheConstants.{LINE_SIZE};
@@ -11,8 +11,8 @@ ghost use Rattle.hip_runs.specs.Validity.{IsValid};
 ghost use Rattle.hip_runs.specs.declared.input.Input.{Input};
 ghost use Rattle.std.specs.Prelude.{◌≡◌, ℕ, suc, ◌+◌, ◌/◌, true, false, List, Option};
 
-/// Each choice of first parts, a line at a time and no durable part left out, gives a crash image, and each crash
-/// image comes of such a choice.
+/// Each choice of first parts for each line, with all durable parts, gives a crash image, and each crash image is given
+/// by such a choice.
 pub fn images_are_choices()
     ensures choice { (P : Program) → (I : Input) → (n : ℕ) → (pick : ℕ → ℕ) → IsValid P I →
         IsCrashPick (run P I n) pick → IsCrashImage I (run P I n) (crash_image I (run P I n) pick) }
@@ -21,7 +21,7 @@ pub fn images_are_choices()
         (pick : ℕ → ℕ) × IsCrashPick (run P I n) pick × (crash_image I (run P I n) pick ≡ content) }
 {}
 
-/// Only a store into the region adds crash images, and only a fence takes some away.
+/// Only a store into the region adds crash images, and only a fence removes some.
 pub fn images_shrink()
     ensures added { (P : Program) → (I : Input) → (n : ℕ) → (content : List ℕ) →
         stores (event P I (run P I n)) ≡ false →
@@ -31,8 +31,8 @@ pub fn images_shrink()
         IsCrashImage I (run P I n) content → IsCrashImage I (run P I (suc n)) content }
 {}
 
-/// A part of a store is durable exactly where its cache line was flushed after the store, and a fence came with the
-/// flush or after it.
+/// A part of a store is durable exactly if its cache line was flushed after the store, and a fence came with the flush
+/// or after it.
 pub fn durable_stores_were_flushed_then_fenced()
     ensures came { (P : Program) → (I : Input) → (n line place : ℕ) → (part : StorePart) →
         IsDurableAt (run P I n) line place part → IsFlushedThenFenced P I line part.step n }
@@ -41,20 +41,20 @@ pub fn durable_stores_were_flushed_then_fenced()
         IsDurableAt (run P I n) line place part }
 {}
 
-/// A part of a store that is durable stays durable, at its place in its line, and as it is.
+/// A durable part of a store stays durable, at its place in its line, and does not change.
 pub fn durable_stores_stay_durable()
     ensures { (P : Program) → (I : Input) → (n d line place : ℕ) → (part : StorePart) →
         IsDurableAt (run P I n) line place part → IsDurableAt (run P I (n + d)) line place part }
 {}
 
-/// Each part in a cache line is one of a store that the run made: it has the store's bytes in that line, and tells
-/// where the run stood then.
+/// Each part in a cache line is one of a store that the run made: it has the store's bytes in that line, and the site
+/// and the calls of the store.
 pub fn parts_are_of_stores()
     ensures { (P : Program) → (I : Input) → (n : ℕ) → (part : StorePart) →
         PartOf (run P I n).lines part → IsOfStore P I part }
 {}
 
-/// A part of a store tells that it was fenced exactly where a fence came after its store.
+/// A part of a store is fenced exactly if a fence came after its store.
 pub fn fences_are_told()
     ensures came { (P : Program) → (I : Input) → (n : ℕ) → (part : StorePart)
         → PartOf (run P I n).lines part →
@@ -64,8 +64,8 @@ pub fn fences_are_told()
         FencedSince P I part.step n → part.fenced ≡ true }
 {}
 
-/// A part of a store tells the first flush of its cache line after its store, or that there was none; and there is
-/// one first flush at most.
+/// A part of a store has the first flush of its cache line after its store, or none if there was none; and there is at
+/// most one first flush.
 pub fn first_flushes_are_told()
     ensures told { (P : Program) → (I : Input) → (n : ℕ) → (part : StorePart)
         → PartOf (run P I n).lines part →

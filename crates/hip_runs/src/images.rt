@@ -11,8 +11,7 @@ ghost use Rattle.hip_runs.specs.Validity.{IsInput, IsValid};
 ghost use Rattle.hip_runs.specs.declared.input.Input.{Input};
 ghost use Rattle.std.specs.Prelude.{◌≡◌, ◌-◌, ◌<◌, ◌≤◌, ℕ, List, drop, take, true};
 
-/// The first parts of a line, applied to a byte, give what its durable parts give with the rest of the first parts
-/// applied to it.
+/// The byte after the first parts of a line, from the byte after its durable parts.
 pub fn bytes_follow_the_durable()
     ensures { (line : Line StorePart) → (upto byte first : ℕ) → line.durable ≤ upto →
         byte_after covers byte_of (take upto line.parts) byte first
@@ -28,7 +27,7 @@ pub fn images_are_decided_by_lines()
         IsCrashImage I s content → is_crash_image I s content ≡ true }
 {}
 
-/// A valid input stays valid, and an input, where it begins with a crash image of one of its runs.
+/// A valid input that begins with a crash image of one of its runs instead of its initial bytes is valid too.
 pub fn images_make_valid_inputs()
     ensures valid { (P : Program) → (I : Input) → (n : ℕ) → (content : List ℕ) → IsValid P I →
         IsCrashImage I (run P I n) content → IsValid P (record I { image = content }) }
@@ -38,7 +37,7 @@ pub fn images_make_valid_inputs()
 {}
 
 /// A number of entries is reached first after exactly one number of steps, if it is ever reached. The state there has
-/// exactly that number of entries, where it is more than the header's.
+/// exactly that number of entries, if it is greater than the header's.
 pub fn entries_find_one_state()
     ensures there { (P : Program) → (I : Input) → (entry steps : ℕ)
         → entry ≤ (run P I steps).counts.entries →

@@ -1,7 +1,7 @@
 use hip_image::Image;
 use hip_types::Row;
 
-/// What a run is given: where the persistent region lies and what it holds, the numbers that are read, and a limit.
+/// What a run is given: where the persistent region lies and what it holds, the numbers to read, and a limit.
 #[derive(Drop)]
 pub struct Input {
     /// The address of the region's first byte: a multiple of 4,096 from 2^32 to 2^46.
@@ -19,7 +19,7 @@ pub struct Input {
 pub enum InputFault {
     /// The base is no multiple of 4,096, or not from 2^32 to 2^46.
     BadBase,
-    /// The initial bytes are not as many as the program's region has.
+    /// There are not as many initial bytes as the program's region has.
     BadImage,
     /// There are more than 1,048,576 numbers.
     TooManyNumbers,

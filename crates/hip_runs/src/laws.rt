@@ -12,9 +12,9 @@ pub fn runs_end()
     ensures { (P : Program) → (I : Input) → Ends P I }
 {}
 
-/// What each part of a store in the lines of a run carries: it was made by an earlier step, and first flushed by an
-/// earlier one; the parts of one store share their history of fences; and its calls are those that returned, and then
-/// the outermost ones of those that stand.
+/// What each part of a store in the lines of a run carries: an earlier step made it, and its first flush was an earlier
+/// step; the parts of one store share their history of fences; and its calls are those that returned, and then the
+/// outermost ones of the standing calls.
 pub fn parts_carry_their_history()
     ensures { (P : Program) → (I : Input) → (n : ℕ) → HasHistory P (run P I n) }
 {}

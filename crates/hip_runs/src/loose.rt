@@ -1,4 +1,4 @@
-//! Laws of loose parts of stores: the loose bytes of a range tell them, and so the reports of a check.
+//! Laws of loose parts of stores: the loose bytes of a range determine them, and so the reports of a check.
 
 ghost use Rattle.hip_tree.specs.declared.program.Program.{Program};
 ghost use Rattle.hip_lines.specs.Line.{Line};
@@ -13,16 +13,16 @@ ghost use Rattle.hip_runs.specs.declared.report.Report.{Report};
 ghost use Rattle.std.specs.List.{flat_map, range_with_len};
 ghost use Rattle.std.specs.Prelude.{◌≡◌, ◌<◌, ℕ, List, Some};
 
-/// A step's store has loose parts in a range exactly where one of the range's loose bytes has its tag, all of them
-/// are flushed exactly where all those bytes are, and each of either has one of the other that is flushed alike.
+/// A step's store has loose parts in a range exactly if one of the range's loose bytes has its tag, and all parts are
+/// flushed exactly if all those bytes are. Each such part has such a byte that is flushed alike, and each such byte has
+/// such a part.
 pub fn loose_bytes_tell_loose_parts()
     ensures { (P : Program) → (I : Input) → (n offset size made : ℕ) →
         AreToldBy (loose_parts offset size (run P I n).lines made) (loose_bytes (run P I n) offset size) made }
 {}
 
-/// A part is one of a step's loose parts in a range exactly where some byte of the range is loose by it, as cache
-/// lines tell, and its store was made by that step; and it is flushed where it stands before the flushed number of
-/// its line.
+/// A part is one of a step's loose parts in a range exactly if some byte of the range is loose by it and that step made
+/// its store; and it is flushed if its place is before the flushed number of its line.
 pub fn loose_parts_are_last_over_loose_bytes()
     ensures byte { (offset size made : ℕ) → (lines : List (Line StorePart)) → (part : LoosePart) →
         In part (loose_parts offset size lines made) → IsLoosePart offset size made lines part }
@@ -36,7 +36,7 @@ pub fn tags_are_steps()
         In b (loose_bytes (run P I n) offset size) → b.tag < (run P I n).counts.steps }
 {}
 
-/// A flat map over all numbers below n is one over an ascending list of them, where the function has nothing at the
+/// A flat map over all numbers below n is one over an ascending list of them, if the function gives nothing for the
 /// others.
 pub fn steps_of_nothing_may_be_left_out()
     ensures { (f : ℕ → List Report) → (n : ℕ) → (members : List ℕ) → AscendWithin 0 n members →

@@ -14,31 +14,32 @@ ghost use Rattle.hip_runs.specs.Step.{counted, event, has_ended, run};
 ghost use Rattle.hip_runs.specs.declared.input.Input.{Input};
 ghost use Rattle.std.specs.Prelude.{◌≡◌, ◌++◌, ℕ, suc, true, false};
 
-/// In each line of a run the parts lie in the order of their stores' steps, each covers bytes of its line alone, and
-/// it is flushed exactly where it has a first flush.
+/// In each line of a run the parts are in the order of their stores' steps, each covers only bytes of its line, and it
+/// is flushed exactly if it has a first flush.
 pub fn lines_keep_their_order()
     ensures { (P : Program) → (I : Input) → (n : ℕ) → HasOrder (run P I n) }
 {}
 
-/// A part was met by a fence exactly where its store came before the last fence.
+/// A fence met a part exactly if the part's store came before the last fence.
 pub fn the_last_fence_tells()
     ensures { (P : Program) → (I : Input) → (n : ℕ) → (part : StorePart) → PartOf (run P I n).lines part →
         part.fenced ≡ is_before part.step (last_fence P I n) }
 {}
 
-/// A step leaves the frames below the top one, or below the one that it returns to, as they were: the top frame
-/// stays, a frame comes upon it, made by the call at which it stood, or it goes. A run that has ended stays as it is.
+/// A step leaves the frames below the top one, or below the one that it returns to, as they were. The top frame stays,
+/// or it calls a function whose frame is put on top, or it returns. A run that has ended stays as it is.
 pub fn a_step_moves_the_top()
     ensures { (P : Program) → (I : Input) → (n : ℕ) → Moves P (run P I n) (run P I (suc n)) }
 {}
 
-/// The calls that stand were made one after another, and so were those of each part, before its store.
+/// The standing calls were made one after another, and so were those of each part, before its store.
 pub fn calls_were_made_in_order()
     ensures { (P : Program) → (I : Input) → (n : ℕ) → HasCalls (run P I n) }
 {}
 
-/// A part names a store as its site, and as that of its first flush a call that flushes, which takes no fence where
-/// the part is not durable; and the calls that stand, and those of each part, are calls of functions of the program.
+/// The site of a part is that of a store, and the site of its first flush that of a call that flushes, which takes no
+/// fence if the part is not durable; and the standing calls, and those of each part, are calls of functions of the
+/// program.
 pub fn states_name_what_stands_there()
     ensures { (P : Program) → (I : Input) → (n : ℕ) → HasSites P (run P I n) }
 {}
@@ -50,7 +51,7 @@ pub fn events_tell_the_next_lines()
         (top_site (run P I n).frames) (levels_of (run P I n).frames) (run P I n).lines }
 {}
 
-/// A step counts itself, and its entry in the trace where it has one; a run that has ended stays as it is.
+/// A step counts itself, and its entry in the trace if it has one; a run that has ended stays as it is.
 pub fn steps_are_counted()
     ensures counted { (P : Program) → (I : Input) → (n : ℕ) → has_ended (run P I n) ≡ false →
         (run P I (suc n)).counts ≡ counted (event P I (run P I n)) (run P I n).counts }
@@ -58,8 +59,8 @@ pub fn steps_are_counted()
         run P I (suc n) ≡ run P I n }
 {}
 
-/// The event of a step tells what the run prints in it, which comes after all that it printed before, and whether it
-/// ends. One that has ended prints nothing more.
+/// The event of a step gives what the run prints in it, which comes after all that it printed before, and whether the
+/// run ends. A run that has ended prints nothing more.
 pub fn events_tell_output_and_ending()
     ensures output { (P : Program) → (I : Input) → (n : ℕ) →
         (run P I (suc n)).world.output ≡ (run P I n).world.output ++ printed_by (event P I (run P I n)) }

@@ -2,8 +2,8 @@ use crate::event::Object;
 use hip_tree::Site;
 use hip_types::Row;
 
-/// What a store lacks to be durable, as the Hippocrates paper distinguishes it. A store that lies in two cache lines has
-/// a part in each. A part is loose where it is the last one over a checked byte and is not durable.
+/// What a store lacks to be durable, as the Hippocrates paper distinguishes it. A store that lies in two cache lines
+/// has a part in each. A part is loose if it is the last one over a checked byte and is not durable.
 #[derive(Clone, Copy, PartialEq, Eq)]
 pub enum Kind {
     /// A loose part is not flushed, and a fence came after the store.
@@ -30,11 +30,11 @@ pub struct Report {
     pub closed: usize,
 }
 
-/// That a pointer operand of an instruction pointed into an object.
+/// A pointer operand of an instruction pointed into an object.
 #[derive(Clone, Copy, PartialEq, Eq, Hash)]
 pub struct Mark {
     pub site: Site,
-    /// Counted from 0 among the pointer operands of the instruction.
+    /// The number of the operand among the pointer operands of the instruction, counted from 0.
     pub operand: usize,
     pub object: Object,
 }

@@ -1,4 +1,4 @@
-//! Laws of what a machine's memory and cache lines stand for.
+//! Laws of what a machine's memory and cache lines represent.
 
 ghost use Rattle.hip_globals.specs.Addresses.{volatile_end};
 ghost use Rattle.hip_globals.specs.Initial.{volatile_bytes};
@@ -19,7 +19,7 @@ ghost use Rattle.hip_runs.specs.State.{Counts, Flush, Level, StorePart, World};
 ghost use Rattle.hip_runs.specs.declared.input.Input.{Input};
 ghost use Rattle.std.specs.Prelude.{◌≡◌, ◌+◌, ◌<◌, ℕ, List, length};
 
-/// The pending parts that a `Lines` shows follow the cache lines of a run through each store, flush and fence.
+/// The pending parts of a `Lines` follow the cache lines of a run through each store, flush and fence.
 pub fn shown_lines_follow_the_run()
     ensures fresh { (n : ℕ) → none_pending_all n ≡ shown (fresh_lines n) }
     ensures stored { (I : Input) → (ps : List (Pending Part)) → (ls : List (Line StorePart))
@@ -36,7 +36,7 @@ pub fn shown_lines_follow_the_run()
         HoldsLines I (pending_fenced_all ps) (fenced_lines ls) }
 {}
 
-/// Where a `Ram` holds the memory of a run, the bytes that are valid in it are those that are valid in the run.
+/// If a `Ram` holds the memory of a run, the bytes that are valid in it are those that are valid in the run.
 pub fn valid_bytes_are_those_of_the_run()
     ensures { (P : Program) → (I : Input) → (w : World) → (r : Areas) → (addr : ℕ) → (size : ℕ)
         → 0 < size →

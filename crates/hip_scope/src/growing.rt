@@ -28,7 +28,7 @@ impl Growing {
         }
     }
 
-    /// Puts a number into the table of constants.
+    /// Adds a number to the table of constants.
     pub fn constant(&mut self, value: u64) -> Result<Operand, NoMemory>
         ensures stands { IfOk result (λ o. Makes (grown self.old) (grown self.new)
             (λ t. IsConstant t.constants o value)) }
@@ -40,7 +40,7 @@ impl Growing {
     }
 }
 
-/// A place in a table; from 2^32 on there is no memory.
+/// A place in a table; a table with 2^32 entries or more is out of memory.
 pub fn place(len: usize) -> Result<u32, NoMemory>
     ensures { IfOk result (λ place. place ≡ len) }
 {

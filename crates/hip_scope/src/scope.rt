@@ -62,7 +62,7 @@ pub fn slot(scope: &Scope<'_, '_>, name: &Name) -> Result<u32, NoMemory>
     }
 }
 
-/// Where an operand's value stands: in a register's slot, or in the table of constants.
+/// The place of an operand's value: a register's slot, or a place in the table of constants.
 pub fn operand(
     scope: &Scope<'_, '_>,
     tables: &mut Growing,

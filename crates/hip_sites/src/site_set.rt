@@ -40,7 +40,7 @@ impl SiteSet {
         }
     }
 
-    /// The set of the sites of a list, which may have one more than once.
+    /// The set of the sites of a list, which may have a site more than once.
     pub fn of(alloc: Global, sites: &[Site]) -> Result<SiteSet, NoMemory>
         ensures { IfOk result (λ set. has_site set ≡ has_site sites.now) }
     {
@@ -49,7 +49,7 @@ impl SiteSet {
         Ok(set)
     }
 
-    /// Puts a site in. It takes time logarithmic in the number of sites, and memory where the site is new.
+    /// Inserts a site. It takes time logarithmic in the number of sites, and memory if the site is new.
     pub fn insert(&mut self, site: Site) -> Result<(), NoMemory>
         ensures ok { OnOk result ((s : Site) → has_site self.new s ≡ (same_site s site || has_site self.old s)) }
         ensures err { OnErr result (self.new ≡ self.old) }
@@ -58,7 +58,7 @@ impl SiteSet {
         Ok(())
     }
 
-    /// Puts the sites of a list in.
+    /// Inserts the sites of a list.
     pub fn insert_all(&mut self, sites: &[Site]) -> Result<(), NoMemory>
         ensures { OnOk result ((s : Site) → has_site self.new s ≡ (has_site sites.now s || has_site self.old s)) }
     {

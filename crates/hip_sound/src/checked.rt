@@ -45,7 +45,7 @@ impl Checked {
         Checked { program }
     }
 
-    /// The program, and what holds since it is sound.
+    /// The program, and what holds of it since it is sound.
     pub fn program(&self) -> &Program
         ensures is { result.now ≡ self.now }
         ensures sound { IsSound self.now }
@@ -76,8 +76,8 @@ impl Checked {
         address(&self.program, base, global)
     }
 
-    /// The bytes that the region has before a run, from a base on: those of the initialisers, each where its global
-    /// lies, with zeros between them.
+    /// The bytes of the region before a run, from a base on: those of the initialisers, each where its global lies,
+    /// with zeros between them.
     pub fn region_bytes(&self, alloc: Global, base: u64) -> Result<Image, NoMemory>
         requires { IsBase base }
         ensures bytes { IfOk result (λ bytes. bytes ≡ initial.region_bytes self.now base) }
@@ -87,7 +87,7 @@ impl Checked {
         region_bytes(alloc, &self.program, base)
     }
 
-    /// The bytes that the volatile globals have before a run, where the region begins at a base.
+    /// The bytes of the volatile globals before a run, if the region begins at a base.
     pub fn volatile_bytes(&self, alloc: Global, base: u64) -> Result<Image, NoMemory>
         requires { IsBase base }
         ensures bytes { IfOk result (λ bytes. bytes ≡ initial.volatile_bytes self.now base) }

@@ -1,7 +1,7 @@
 use hip_tree::Site;
 use hip_types::Row;
 
-/// Which rule of soundness a program breaks.
+/// The rule of soundness that a program breaks.
 #[derive(Debug, Drop)]
 pub enum TypeFault {
     BadShape,
@@ -9,8 +9,8 @@ pub enum TypeFault {
     Unknown,
     Mismatch,
     NoMain,
-    /// The path is a list of block numbers from the entry block to the block of the use. No assignment of the
-    /// register stands on it before the use.
+    /// The path is a list of block numbers from the entry block to the block of the use. Nothing on it assigns the
+    /// register before the use.
     Unassigned { path: Row<usize> },
     BadExtern,
     BadGlobal,
@@ -38,7 +38,7 @@ pub struct TypeRefusal {
     pub place: Place,
 }
 
-/// The faults that the rules find, all but those of paths and of spelling by one look at a place.
+/// The faults that the checks find: all except those of paths and of spelling.
 #[derive(Clone, Copy)]
 pub enum Fault {
     Duplicate,

@@ -255,14 +255,14 @@ fn spelled_indices(indices: &[Arg]) -> bool
     indices.iter().all(|index| spelled_index(index))
 }
 
-/// Where a load or a store goes, and the alignment that is written there.
+/// The address of a load or a store, and the alignment that is written there.
 fn spelled_access(addr: &Operand, align: &Option<u64>) -> bool
     ensures { result ≡ (spelled_operand Ptr addr.now && spelled_align align.now) }
 {
     spelled_operand(Scalar::Ptr, addr) && spelled_align(align)
 }
 
-/// The type that `getelementptr` goes over, and its indices.
+/// The type that `getelementptr` steps over, and its indices.
 fn spelled_element(ty: &Ty, base: &Operand, indices: &[Arg]) -> bool
     ensures { result ≡ (spelled_type ty.now && (spelled_operand Ptr base.now
         && (not_empty indices.now && list_all spelled_index indices.now))) }
@@ -488,12 +488,12 @@ fn program_keeps_rules(program: &Program) -> bool
         && all_keep_rules(program.functions.as_slice())
 }
 
-/// Whether the program is the one that its canonical text reads as, which is so of every program that some text reads
+/// Whether the program is the one that its canonical text reads as. This holds of every program that some text reads
 /// as.
 ///
 /// It takes no memory, and time linear in the program. Recursion is bounded by the limits of nesting.
 pub fn spelled(program: &Program) -> bool
-    // The rules on the tree alone decide it.
+    // The result is what the rules on the tree alone decide.
     ensures rules { result ≡ spelled_program program.now }
     ensures read_back { IsTrue result ↔ IsSpelled program.now }
     // Every program that some text reads as is spelled.

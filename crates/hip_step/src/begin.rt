@@ -9,7 +9,7 @@ use hip_sound::Checked;
 use hip_types::NoMemory;
 use std::alloc::Global;
 
-/// What begins with a sound program and a valid input.
+/// A value that begins with a sound program and a valid input.
 pub trait Begin<'a>: Sized {
     /// Before the first step.
     fn new(alloc: Global, checked: &'a Checked, input: &'a Input) -> Result<Self, NoMemory>
@@ -29,7 +29,7 @@ impl<'a> Begin<'a> for Runner<'a> {
 }
 
 impl<'a> Begin<'a> for Machine<'a> {
-    /// A machine before its first step, in time and memory as a runner.
+    /// A machine before its first step, in the time and memory of a runner.
     fn new(alloc: Global, checked: &'a Checked, input: &'a Input) -> Result<Machine<'a>, NoMemory>
         requires { IsValid checked.now input.now }
         ensures { IfOk result (λ m. m ≡ record { program = checked.now; input = input.now; taken = 0 }) }

@@ -1,4 +1,4 @@
-//! What each call of a storage does is the action of a run, where the storage is that of the run.
+//! What each call of a storage does is the action of a run, if the storage is that of the run.
 
 ghost use Rattle.std.specs.Prelude.{◌≡◌, ℕ, ◌%◌, ◌≤◌, ◌∷◌, true, false, cond, List, Option, Some};
 ghost use Rattle.hip_types.specs.Bytes.{bytes_of, little_endian};
@@ -15,8 +15,8 @@ ghost use Rattle.hip_storage.specs.Calls.{HasLoaded, HasPushed, HasStored, Shows
 ghost use Rattle.hip_storage.specs.Contents.{Contents, after_pop, block_trap, lies_in_region, range_trap};
 ghost use Rattle.hip_storage.specs.Standing.{Access, Does, Stand, accessed_at, flushing_at, trap_at};
 
-/// A load assigns the number that the bytes of the run's memory give, modulo whatever the register's type asks. It is
-/// refused exactly where the run traps, for the same cause.
+/// A load assigns the number of the bytes in the run's memory, modulo what the register's type requires. It is refused
+/// exactly if the run traps, for the same cause.
 pub fn loads_are_those_of_the_run()
     ensures done { (at : Stand) → (x : Access) → (value : ℕ) → (dest : Option (List ℕ)) → (m : ℕ)
         → HasLoaded at.contents x.addr x.size x.align value →
@@ -27,7 +27,7 @@ pub fn loads_are_those_of_the_run()
         Does at at.contents (events.End (Trap kind)) (accessed_at at x go) (Traps kind) }
 {}
 
-/// A store is that of the run. It is refused exactly where the run traps, for the same cause.
+/// A store is that of the run. It is refused exactly if the run traps, for the same cause.
 pub fn stores_are_those_of_the_run()
     ensures done { (at : Stand) → (x : Access) → (new : Contents) → (event : Event) → (value : ℕ)
         → HasStored at.contents new event x.addr x.size x.align value →
@@ -38,8 +38,8 @@ pub fn stores_are_those_of_the_run()
         (Traps kind) }
 {}
 
-/// A block on the stack is that of the run's `alloca`, refused exactly where the run traps. A return sets the stack's
-/// mark back to what it was at the call.
+/// A block on the stack is that of the run's `alloca`, and is refused exactly if the run traps. A return sets the
+/// stack's mark back to what it was at the call.
 pub fn blocks_are_those_of_the_run()
     ensures done { (at : Stand) → (new : Contents) → (block size align : ℕ) → (dest : List ℕ)
         → HasPushed at.contents new block size align →
@@ -65,7 +65,7 @@ pub fn flushes_are_those_of_the_run()
     ensures fenced { (at : Stand) → Does at at.contents events.Fence Fences Fences }
 {}
 
-/// A range is checked in the run where it lies in the region; elsewhere the run traps.
+/// A range is checked in the run if it lies in the region; else the run traps.
 pub fn asserts_are_those_of_the_run()
     ensures done { (at : Stand) → (addr size : ℕ) → lies_in_region at.contents addr size ≡ true →
         Does at at.contents (events.Assert addr size)

@@ -5,6 +5,6 @@ use hip_runs::TrapKind;
 pub enum StorageRefusal {
     /// The run ends here with this trap.
     Trap(TrapKind),
-    /// No memory was left.
+    /// Memory ran out.
     NoMemory,
 }

@@ -13,7 +13,7 @@ use hip_mem::{MemTrap, Ram, StoreRefusal};
 use hip_runs::{Event, TrapKind};
 use hip_types::LINE_SIZE;
 
-/// The trap of a run that a refusal of the memory is.
+/// The trap of a run for each trap of the memory.
 #[inline(always)]
 pub fn kind_of(trap: MemTrap) -> TrapKind
     ensures { result ≡ kind_of trap }
@@ -95,7 +95,7 @@ pub fn first_line(base: u64, offset: u64) -> u64
     base + LINE_SIZE * (offset / LINE_SIZE)
 }
 
-/// How many bytes the cache lines have that have a byte of a range.
+/// How many bytes the cache lines with a byte of a range have.
 #[inline(always)]
 pub fn lines_size(offset: u64, len: u64) -> u64
     requires some { 0 < len }

@@ -13,8 +13,8 @@ use hip_types::{LINE_SIZE, NoMemory};
 use std::alloc::Global;
 use std::marker::Model;
 
-/// The memory of a run, which contracts see as the bytes that are valid. It knows where the region lies, and shows what
-/// is stored into it and flushed; cache lines are not kept here.
+/// The memory of a run; contracts see the bytes that are valid. It knows where the region lies, and shows what is
+/// stored into it and flushed; it keeps no cache lines.
 #[derive(Drop)]
 pub struct Storage {
     // Where the region begins, and how many bytes it has.
@@ -40,7 +40,7 @@ impl Storage {
     ghost use Rattle.hip_storage.specs.Contents.{initial, lies_in_region, access_trap, block_trap, range_trap, after_pop};
     ghost use Rattle.hip_storage.specs.Standing.{HoldsState};
 
-    /// The storage before the first step of a run. The time is that of the initial bytes.
+    /// The storage before the first step of a run. The time is linear in the initial bytes.
     pub fn new(alloc: Global, checked: &Checked, input: &Input) -> Result<Storage, NoMemory>
         requires { IsValid checked.now input.now }
         ensures initial { IfOk result (λ storage. storage ≡ initial checked.now input.now) }
@@ -135,7 +135,7 @@ impl Storage {
         self.ram.pop_stack(mark);
     }
 
-    /// What a flush of the cache line of an address shows: no line where it lies outside the region.
+    /// The event of a flush of the cache line of an address. It flushes no line if the address lies outside the region.
     #[inline(always)]
     pub fn flush(&self, addr: u64) -> Result<Event, TrapKind>
         ensures ok { IfOk result (λ event. ShowsFlush self.now event addr 1) }
@@ -154,7 +154,8 @@ impl Storage {
         Err(TrapKind::Address)
     }
 
-    /// What a flush of the cache lines of a range shows: no line where it has no bytes, or lies outside the region.
+    /// The event of a flush of the cache lines of a range. It flushes no line if the range has no bytes or lies outside
+    /// the region.
     pub fn flush_range(&self, addr: u64, size: u64) -> Result<Event, TrapKind>
         ensures ok { IfOk result (λ event. ShowsFlush self.now event addr size) }
         ensures trap { IfErr result (λ kind. range_trap self.now addr size ≡ Some kind) }
@@ -172,7 +173,7 @@ impl Storage {
         Err(TrapKind::Address)
     }
 
-    /// What a flush of the cache lines of a range with a fence after it shows: the fence alone where no line is flushed.
+    /// The event of a flush of the cache lines of a range with a fence after it: the fence alone if no line is flushed.
     pub fn persist(&self, addr: u64, size: u64) -> Result<Event, TrapKind>
         ensures ok { IfOk result (λ event. ShowsPersist self.now event addr size) }
         ensures trap { IfErr result (λ kind. range_trap self.now addr size ≡ Some kind) }

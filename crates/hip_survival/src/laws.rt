@@ -33,8 +33,8 @@ pub fn durable_bytes_survive()
         b < length I.image → ¬ IsLooseAt (run P I n) b → Survives P I (run P I n) b }
 {}
 
-/// No crash image loses a durable part of a store: each byte that the part covers has in the image the value of that part,
-/// or of a later part of its line. The same holds of a part that was flushed and then fenced.
+/// No crash image loses a durable part of a store: in each image, a byte that the part covers has the value of that
+/// part, or of a later part of its line. The same holds of a part that was flushed and then fenced.
 pub fn durable_stores_are_in_each_image()
     ensures durable { (P : Program) → (I : Input) → (n : ℕ) → (line : ℕ) → (place : ℕ) → (part : StorePart) →
         IsDurableAt (run P I n) line place part →
@@ -46,7 +46,7 @@ pub fn durable_stores_are_in_each_image()
         IsFromPartOn (run P I n) line place content b }
 {}
 
-/// Some crash image has at each byte what the durable parts alone give. So a byte survives only where the durable parts
+/// In some crash image each byte is what the durable parts alone give. So a byte survives only if the durable parts
 /// give its value in working memory.
 pub fn what_is_not_durable_may_be_lost()
     ensures image { (P : Program) → (I : Input) → IsValid P I → (n : ℕ) →
@@ -59,7 +59,7 @@ pub fn what_is_not_durable_may_be_lost()
         × (slice_index content b ≢ working_byte P I (run P I n) b) }
 {}
 
-/// A byte of the region is loose exactly if the cache lines show it loose, as `Lines::not_durable` yields it.
+/// A byte of the region is loose exactly if `Lines::not_durable` yields it for the cache lines of the run.
 pub fn lines_tell_loose_bytes()
     ensures told { (P : Program) → (I : Input) → (n : ℕ) → (b : ℕ) → IsLooseAt (run P I n) b →
         (x : LooseByte) × In x (loose_bytes (run P I n) b 1) }
@@ -67,7 +67,7 @@ pub fn lines_tell_loose_bytes()
         In x (loose_bytes (run P I n) b 1) → IsLooseAt (run P I n) b }
 {}
 
-/// A check reports nothing exactly where no byte of its range is loose, and its range lies in the region.
+/// A check reports nothing exactly if no byte of its range is loose, and its range lies in the region.
 pub fn checks_tell_loose_bytes()
     ensures none { (P : Program) → (I : Input) → (n : ℕ) → (range : Range) →
         check_reports (run P I n) (Some range) ≡ [] →
@@ -79,20 +79,21 @@ pub fn checks_tell_loose_bytes()
         next_check P I (run P I n) ≡ Some range → range.offset + range.size ≤ length I.image }
 {}
 
-/// Each report of a check is of a byte of the checked range that some crash image has as it was before the report's store.
+/// Each report of a check is of a byte of the checked range that has, in some crash image, the value before the
+/// report's store.
 pub fn reports_are_of_bytes_that_may_be_lost()
     ensures { (P : Program) → IsSound P → (I : Input) → IsValid P I → (n : ℕ) → (range : Range) → (r : Report) →
         In r (check_reports (run P I n) (Some range)) → IsOfByte P I (run P I n) range r }
 {}
 
-/// Where a check reports nothing, each byte that it checks survives a crash.
+/// If a check reports nothing, each byte that it checks survives a crash.
 pub fn what_is_checked_survives()
     ensures { (P : Program) → IsSound P → (I : Input) → IsValid P I → (n : ℕ) → (range : Range) →
         next_check P I (run P I n) ≡ Some range → check_reports (run P I n) (Some range) ≡ [] →
         (b : ℕ) → range.offset ≤ b → b < range.offset + range.size → Survives P I (run P I n) b }
 {}
 
-/// Where a run stops with nothing to report at its stop, working memory is the only crash image after the stop.
+/// If a run stops with nothing to report at its stop, working memory is the only crash image after the stop.
 pub fn a_clean_stop_leaves_one_image()
     ensures { (P : Program) → IsSound P → (I : Input) → IsValid P I → (n : ℕ) → (code : ℤ) →
         has_ended (run P I n) ≡ false → event P I (run P I n) ≡ events.End (Stop code) →

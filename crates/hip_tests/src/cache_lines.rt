@@ -7,7 +7,7 @@ use hip_lines::{Lines, LooseByte};
 use std::alloc::Global;
 use std::process::Abort;
 
-/// Bytes side by side that are not durable, all of one store.
+/// Consecutive bytes that are not durable, all of one store.
 struct Bytes {
     from: u64,
     count: u64,
@@ -234,7 +234,8 @@ const LAST_STORE: &[Bytes] = &[Bytes {
     is_flushed: false,
 }];
 
-/// A region of a million lines: each of 50,000 fences costs one line, and each check those that hold something.
+/// A region of a million lines: each of 50,000 fences takes the time of one line, and each check that of the lines that
+/// hold something.
 #[test]
 fn many_lines(rt: HostRuntime) {
     let mut lines = Lines::new(rt.alloc(), 67_108_864).expect(&rt, AMPLE);

@@ -146,7 +146,7 @@ fn chain(rt: &impl Abort, alloc: Global, count: usize) -> Row<Row<usize>> {
     graph
 }
 
-/// Where no path is there, none is searched for: 20,000 answers by a walk through the graph would take minutes.
+/// If no path exists, none is searched for: 20,000 answers by a walk through the graph would take minutes.
 #[test]
 fn long_chain(rt: HostRuntime) {
     let alloc = rt.alloc();

@@ -125,7 +125,7 @@ fn none_of_large(rt: &impl Abort, alloc: Global) -> Ty {
     array(rt, alloc, 0, two)
 }
 
-/// Whether a type fits. The type is taken.
+/// Whether a type fits; it takes the type.
 fn type_fits(ty: Ty) -> bool {
     fits(&ty)
 }

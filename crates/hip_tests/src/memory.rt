@@ -61,7 +61,7 @@ fn has_popped(ram: &mut Ram, mark: u64) -> bool {
     reaches
 }
 
-/// Makes a call, and gives whether the answer is the one that it names.
+/// Makes a call, and answers whether it gave what is expected.
 fn has_answered(ram: &mut Ram, call: Call) -> bool {
     match call {
         Call::Load {
@@ -245,7 +245,7 @@ const TWO_PAGES: &[Call] = &[
         len: 8192,
         answer: false,
     },
-    // The last bytes that there are addresses for, and beyond.
+    // The last bytes that have addresses, and beyond.
     Call::ValidRange {
         addr: BASE,
         len: u64::MAX,
@@ -358,7 +358,7 @@ const FULL_STACK: &[Call] = &[
     },
 ];
 
-/// What it leaves.
+/// What the full stack has left.
 const LEFT: &[Call] = &[
     Call::Load {
         addr: 285_212_664,

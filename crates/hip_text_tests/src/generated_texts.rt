@@ -1,4 +1,4 @@
-//! Generated programs: their texts, and that each is read and sound.
+//! Generated programs: their texts, and that each reads as a sound program.
 
 use hip_gen::{LARGEST_SIZE, SEED_END, generate};
 use hip_parse::parse;
@@ -39,7 +39,7 @@ struct Text {
     checksum: u32,
 }
 
-/// Worked out by a program in another language, from the lines of each kind of group.
+/// Computed by a program in another language, from the lines of each kind of group.
 const TEXTS: &[Text] = &[
     Text {
         seed: 0,

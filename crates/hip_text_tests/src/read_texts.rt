@@ -1,8 +1,8 @@
-//! Texts that are read: those that nearly leave the language.
+//! Texts that are read though they are close to the limits of the language.
 
 use hip_parse::parse;
 
-/// Empty texts, dropped items, words that say nothing, and numbers at the ends of their ranges.
+/// Empty texts, dropped items, words without an effect, and numbers at the ends of their ranges.
 const TEXTS: &[&str] = &[
     "",
     "; only a comment",

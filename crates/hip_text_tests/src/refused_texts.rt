@@ -1,4 +1,4 @@
-//! Texts that are read as no program, with the line of the first token that leaves the language.
+//! Texts that read as no program, with the line of the first token that leaves the language.
 
 use hip_parse::{ParseRefusal, parse};
 use std::alloc::Global;
@@ -327,7 +327,7 @@ fn unsupported_forms(rt: HostRuntime) {
     assert_all_refused(&rt, rt.alloc(), UNSUPPORTED);
 }
 
-/// Words of LLVM's text that are no words of the language.
+/// Words of LLVM's text that are not in the language.
 const UNSUPPORTED_WORDS: &str =
     "half bfloat float double fp128 x86_fp80 ppc_fp128 metadata label token vector undef poison \
     freeze c none fadd fsub fmul fdiv frem fneg fcmp fptoui fptosi uitofp sitofp fpext fptrunc \

@@ -1,4 +1,4 @@
-//! Entries of traces, read however the bytes are cut, and written.
+//! Entries of traces, written, and read in chunks of any size.
 
 ghost use Rattle.std.specs.Prelude.{◌≤◌};
 
@@ -239,7 +239,7 @@ const MALFORMED_TEXTS: &[&str] = &[
     "IMAGE;0x40;00",
 ];
 
-/// An entry, a text and a separator after it.
+/// An entry, then a text, then a separator.
 fn behind_an_entry(rt: &impl Abort, alloc: Global, text: &str) -> Vec<u8> {
     let mut bytes = Vec::new(alloc);
     bytes.extend_from_slice(b"CUT|").expect(rt, AMPLE);

@@ -27,7 +27,7 @@ pub fn number(width: Width) -> Operand {
     Operand::Fixed(Const::Int(Bits::new(width, 1)))
 }
 
-/// A global like `@x = global i64 0, section ".pm"`, with an alignment on demand.
+/// A global like `@x = global i64 0, section ".pm"`, with an alignment if one is given.
 pub fn global(rt: &impl Abort, alloc: Global, text: &str, align: Option<u64>) -> GlobalVar {
     GlobalVar {
         name: name(rt, alloc, text),

@@ -12,8 +12,8 @@ ghost use Rattle.hip_sound.specs.Sound.{IsSound};
 use hip_levels::low_stores_are_quiet;
 use hip_repair_answers::plans_cure;
 
-/// The program that is repaired for what a run found, whose clones do not flush the low stores, does no harm, is clean
-/// on the run's input, has its hoisted calls covered, is sound, and its canonical text reads as it.
+/// The program that is repaired for what a run found, and whose clones do not flush the low stores, does no harm, is
+/// clean on the run's input, has its hoisted calls covered, is sound, and its canonical text reads as that program.
 pub fn thins_cure()
     ensures { (P : Program) → (I : Input) → (found : Findings) → IsSound P → IsValid P I
         → IsFound P I found →
@@ -23,9 +23,9 @@ pub fn thins_cure()
     low_stores_are_quiet();
 }
 
-/// Where the files are known, two answers of `thin` on them are the same, unless one of them is a read fault; where the
-/// trace's file is current after a read fault, and is not the program's, its bytes that were taken show no misfit; and
-/// where the one file has a program and the other is the trace of a run of it, there is an answer by which `thin` is
+/// If the files are known, two answers of `thin` on them are the same, unless one of them is a read fault. If the
+/// trace's file is current after a read fault, and is not the program's, the bytes that were taken from it show no
+/// misfit. If one file has a program and the other is the trace of a run of it, there is an answer by which `thin` is
 /// carried out.
 pub fn thins_are_one()
     ensures one { GivesOne HasThinned }

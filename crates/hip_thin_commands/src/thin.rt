@@ -35,7 +35,7 @@ fn put_thin_counts<N: Sink>(
     put_count(put, notes, b"spared", spared)
 }
 
-/// Writes the repaired program; then the counts go to notes.
+/// Writes the repaired program, and then the counts to notes.
 fn put_thinned<S: Sink, N: Sink>(
     checked: &Checked,
     replayed: &Replayed,
@@ -89,8 +89,8 @@ fn thin_findings<S: Sink, N: Sink>(
     }
 }
 
-/// Repairs the program of a file for the run whose trace another has, by clones that do not flush the low stores. All
-/// memory that it needs is taken before the first byte is written.
+/// Repairs the program of a file for the run whose trace another file has, with clones that do not flush the low
+/// stores. It takes all its memory before it writes the first byte.
 #[inline(never)]
 pub fn thin_file<C: Cabinet, S: Sink, N: Sink>(
     alloc: Global,

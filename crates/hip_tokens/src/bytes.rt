@@ -35,7 +35,7 @@ fn all_go_on_name(bytes: &[u8]) -> bool
     bytes.iter().all(|b| goes_on_name(*b))
 }
 
-/// Whether the text is what a name is: a letter, `$`, `.` or `_`, and then such bytes, digits and `-`.
+/// Whether the text has the form of a name: a letter, `$`, `.` or `_`, and then such bytes, digits and `-`.
 pub fn is_name(text: &[u8]) -> bool
     ensures { result ≡ is_name text.now }
 {

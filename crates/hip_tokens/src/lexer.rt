@@ -113,7 +113,7 @@ fn string_at(rest: &[u8]) -> (Token, usize)
     }
 }
 
-/// The longest token at the front, and how many bytes it has after its first.
+/// The longest token at the front, and how many bytes it has after its first byte.
 #[tactic(auto, unfolding(crate::specs::Tokens::piece_at))]
 fn token_at<'a>(bytes: &'a [u8], b: u8, rest: &'a [u8]) -> (Token<'a>, usize)
     requires { bytes.now ≡ b ∷ rest.now }
@@ -139,7 +139,7 @@ fn token_at<'a>(bytes: &'a [u8], b: u8, rest: &'a [u8]) -> (Token<'a>, usize)
     }
 }
 
-/// What is left of a text, and the line that it begins on.
+/// The rest of a text, and the line on which it begins.
 #[derive(Drop)]
 pub struct Lexer<'a> {
     pub rest: &'a [u8],
@@ -180,7 +180,7 @@ impl<'a> Lexer<'a> {
     }
 }
 
-/// The token that is taken at a place is spelled there, and no token that begins there is longer.
+/// The bytes at a place spell the token that is taken there, and no token that begins there is longer.
 pub fn tokens_are_longest()
     ensures { (b : ℕ) (bs : List ℕ) → IsLongest b bs (piece_at b bs) }
 {}

@@ -19,7 +19,7 @@ use hip_words::{
 use std::alloc::Global;
 
 /// Carries out the command that the words give. The words come without the program's name. `check`, `repair`, `many`,
-/// `thin` and `demo` take all their memory before the first byte is written; the others write while a run takes its
+/// `thin` and `demo` take all their memory before they write the first byte; the others write while a run takes its
 /// steps. Each command delivers its output before it writes to the notes.
 pub fn hippo<C: Cabinet, S: Sink, N: Sink>(
     alloc: Global,

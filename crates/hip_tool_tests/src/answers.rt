@@ -22,7 +22,7 @@ usage: hippo run PROGRAM [--limit N] [NUMBERS...]
        hippo thin PROGRAM TRACE
 ";
 
-/// Words that are no command, or that name a file which is not there.
+/// Words that are no command, or that name a missing file.
 struct Words {
     words: &'static [&'static str],
     code: u8,
@@ -177,7 +177,7 @@ fn missing_files(rt: HostRuntime) {
     assert_refused(&rt, rt.alloc(), NO_FILES);
 }
 
-/// Commands with the first ten bytes of what they write to the output, which has no more room.
+/// Commands with the first ten bytes of their output, which has no more room.
 const CUT_SHORT: &[(&[&str], &str)] = &[
     (&["repair", "a", "b"], "@x = globa"),
     (&["thin", "a", "b"], "@x = globa"),

@@ -1,4 +1,4 @@
-//! Commands whose output is held back: each delivers it, and answers a write fault where that fails.
+//! Commands whose output is held back: each delivers it, and answers a write fault if that fails.
 
 ghost use Rattle.std.specs.Prelude.{◌≡◌, ◌≤◌};
 ghost use Rattle.hip_io.specs.Counts.{Rose};

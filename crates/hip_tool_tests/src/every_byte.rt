@@ -1,4 +1,4 @@
-//! Files that fail at each byte, sinks that have room for each number of bytes, and programs that are cut anywhere.
+//! Files that fail at each byte, sinks that have room for each number of bytes, and programs that are cut at each byte.
 
 use crate::commands::{
     assert_outcome, outcome_in_chunks, outcome_in_room, outcome_of_bytes, outcome_of_fault,
@@ -58,7 +58,7 @@ fn trace_fails_at_each_byte(rt: HostRuntime) {
 const DIFFERS_AT_BYTE_68: &str =
     "START;1000000000|REGISTER;0x100000000;0x40|STORE;0x100000000;0x6;0x8|STOP;0";
 
-/// A misfit is answered as soon as the entry's end is read, and a fault before it comes first.
+/// A misfit is answered as soon as the entry's end is read; a fault before that is answered instead.
 #[test]
 fn fault_before_and_behind_a_misfit(rt: HostRuntime) {
     let files = &[("a", ONE_STORE), ("b", DIFFERS_AT_BYTE_68)];
@@ -100,7 +100,7 @@ fn output_has_room_for_some_bytes(rt: HostRuntime) {
     }
 }
 
-/// The output is whole where the notes have too little room.
+/// The output is whole if the notes have too little room.
 #[test]
 fn notes_have_room_for_some_bytes(rt: HostRuntime) {
     let notes = COUNTS.as_bytes();
@@ -119,7 +119,7 @@ fn notes_have_room_for_some_bytes(rt: HostRuntime) {
     }
 }
 
-/// The refusal stands where its line has no room.
+/// The refusal is answered if its line has no room.
 #[test]
 fn line_of_a_refusal_has_room_for_some_bytes(rt: HostRuntime) {
     let files = &[("a", ONE_STORE), ("b", "")];
@@ -139,7 +139,7 @@ fn line_of_a_refusal_has_room_for_some_bytes(rt: HostRuntime) {
     }
 }
 
-/// A trace of the program of one store, and the first entry that is none of the run.
+/// A trace of the program of one store, and the first entry that differs from the run's.
 const BAD_ENTRIES: &[(&str, &str)] = &[
     ("|", "hippo: trace entry 1: malformed\n"),
     (

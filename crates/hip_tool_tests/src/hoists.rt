@@ -36,7 +36,7 @@ entry:
 }
 ";
 
-/// The store and its call serve persistent memory alike.
+/// The store and its call have equal scores.
 const TIE: &str = "@p = global i64 0, section \".pm\"
 @q = global i64 9
 define void @copy(ptr %dst, ptr %src) {
@@ -52,7 +52,7 @@ entry:
 }
 ";
 
-/// The same, repaired at the innermost place.
+/// The same, repaired at the innermost site.
 const TIE_REPAIRED: &str = "@p = global i64 0, section \".pm\"
 @q = global i64 9
 declare void @llvm.x86.clwb(ptr)

@@ -2,7 +2,7 @@
 
 use crate::commands::{Case, assert_cases};
 
-/// Which of two stores is taken, the first number says.
+/// The first number decides which of two stores is made.
 const TWO_BRANCHES: &str = "@x = global i64 0, section \".pm\"
 @y = global i64 0, section \".pm\", align 64
 declare i64 @read_i64()

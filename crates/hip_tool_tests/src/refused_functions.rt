@@ -9,7 +9,7 @@ use hip_typing::check;
 use std::alloc::Global;
 use std::process::Abort;
 
-/// What stands before each function.
+/// What comes before each function.
 const CALLEES: &str = "@x = global i64 0
 declare i64 @read_i64()
 declare void @print_i64(i64)
@@ -211,7 +211,7 @@ const USES_ON_PATHS: &[RefusedProgram] = &[
             a:\n  %r = add i32 1, 1\n  br label %b\nb:\n  ret i32 %r\n}\n",
         why: "unassigned at function 1 block 2 end",
     },
-    // The use in a phi stands at the end of the predecessor.
+    // The use in a phi is at the end of the predecessor.
     RefusedProgram {
         program: "define i32 @f(i1 %n) {\nentry:\n  br i1 %n, label %a, label %b\n\
             a:\n  %r = add i32 1, 1\n  br label %b\n\
@@ -239,7 +239,7 @@ b:
 }
 ";
 
-/// The same where the branches are blocks of their own, and meet in block 3.
+/// The same, with the branches as blocks of their own that meet in block 3.
 const TWO_BRANCHES: &str = "define i32 @main() {
 entry:
   br i1 true, label %a, label %b
@@ -254,7 +254,7 @@ c:
 }
 ";
 
-/// A program is refused since it uses a register there that is not assigned on this path.
+/// Asserts that a program is refused because it uses a register that is not assigned on this path.
 fn assert_unassigned(rt: &impl Abort, alloc: Global, text: &str, at: Place, on: &[usize]) {
     let program = parse(alloc, text.as_bytes()).expect(rt, "the text is read");
     match check(alloc, program) {

@@ -28,7 +28,7 @@ pub fn assert_refused(rt: &impl Abort, alloc: Global, program: &str, why: &str) 
     assert_outcome(rt, &outcome, 5, "", notes.as_str(), program);
 }
 
-/// Asserts the refusal of each program where these items stand before it, and a `main` that does nothing after it.
+/// Asserts the refusal of each program, with these items before it and a `main` that does nothing after it.
 pub fn assert_refused_before_main(
     rt: &impl Abort,
     alloc: Global,
@@ -206,7 +206,7 @@ fn globals_and_externs(rt: HostRuntime) {
 }
 
 const TWO_FAULTS: &[RefusedProgram] = &[
-    // An initialiser is looked at before the externs, and the externs before the sizes.
+    // The check of initialisers comes before that of externs, and that of externs before that of sizes.
     RefusedProgram {
         program: "@x = global ptr @y\ndeclare void @f()\n",
         why: "unknown at global 0",
@@ -228,7 +228,7 @@ const TWO_FAULTS: &[RefusedProgram] = &[
             define void @g() {\nentry:\n  ret i32 0\n}\n",
         why: "mismatch at function 1 block 0 end",
     },
-    // Of two faults of one kind the first place has it.
+    // Of two faults of the same kind, the first place is answered.
     RefusedProgram {
         program: "@x = global i64 0\n\
             define void @f() {\nentry:\n  store i8 0, ptr @y\n  br label %b\n}\n",

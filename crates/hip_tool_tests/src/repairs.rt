@@ -1,4 +1,4 @@
-//! `repair`: a flush after a store, a fence after a flush, and where nothing is to be repaired.
+//! `repair`: a flush after a store, a fence after a flush, and programs without anything to repair.
 
 use crate::commands::{Case, assert_cases};
 use hip_examples::{
@@ -23,7 +23,7 @@ hoists 0
 clones 0
 ";
 
-/// `FENCE_WITHOUT_FLUSH` repaired: the fence that stands serves.
+/// `FENCE_WITHOUT_FLUSH` repaired: its own fence is used.
 const FENCE_WITHOUT_FLUSH_REPAIRED: &str = "@x = global i64 0, section \".pm\"
 declare void @llvm.x86.sse.sfence()
 declare void @llvm.x86.clwb(ptr)
@@ -36,7 +36,7 @@ entry:
 }
 ";
 
-/// `OVERWRITTEN` repaired: the first store needs nothing.
+/// `OVERWRITTEN` repaired: the first store needs no flush.
 const OVERWRITTEN_REPAIRED: &str = "@x = global i64 0, section \".pm\"
 declare void @llvm.x86.clwb(ptr)
 declare void @llvm.x86.sse.sfence()

@@ -4,7 +4,7 @@ use crate::commands::{Case, assert_cases, assert_outcome, outcome_in_room, outco
 use hip_examples::{DIVIDE_BY_ZERO, ENDLESS_LOOP, KEY_VALUE_LOG, ONE_STORE, SUM_OF_NUMBERS};
 use hip_io::FailAt;
 
-/// Three numbers are printed, each on a line of two bytes or more, and a negative number is returned.
+/// It prints three numbers, each on a line of two bytes or more, and returns a negative number.
 const THREE_LINES: &str = "declare void @print_i64(i64)
 define i32 @main() {
 entry:
@@ -149,7 +149,7 @@ fn refused_before_a_run(rt: HostRuntime) {
     assert_cases(&rt, rt.alloc(), REFUSED);
 }
 
-/// How many bytes of the text of three lines there is room for, and what is there after a write has failed.
+/// How many bytes of the text of three lines there is room for, and what is written when a write has failed.
 const ROOMS: &[(u64, &str)] = &[
     (0, ""),
     (1, "7"),
@@ -169,7 +169,7 @@ fn output_is_cut_where_it_fails(rt: HostRuntime) {
     }
 }
 
-/// The output is whole and the notes are not: the line of the write fault is tried after them.
+/// The output is whole and the notes are not: the command tries to write the line of the write fault after them.
 #[test]
 fn notes_are_cut_where_they_fail(rt: HostRuntime) {
     let files = &[("a", THREE_LINES)];

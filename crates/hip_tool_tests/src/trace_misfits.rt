@@ -1,11 +1,11 @@
-//! The first entry of a trace that is none of the run.
+//! The first entry of a trace that differs from the run's.
 
 use crate::commands::{assert_outcome, outcome_in_chunks};
 use hip_examples::{AMPLE, ONE_STORE};
 use std::alloc::Global;
 use std::process::Abort;
 
-/// A trace that is none of the run of the program of one store, with the misfit.
+/// A trace that is not that of the run of the program of one store, with the misfit.
 struct Misfit {
     trace: &'static str,
     misfit: &'static str,

@@ -1,7 +1,7 @@
 ghost use Rattle.std.specs.Prelude.{◌≡◌, ◌↔◌, IsTrue};
 ghost use Rattle.hip_trace.specs.Entries.{trap_text};
 
-/// The word for the reason why a run trapped.
+/// The word for the kind of a trap.
 #[derive(Clone, Copy, PartialEq, Eq)]
 pub enum TrapWord {
     DivZero,
@@ -43,7 +43,7 @@ pub enum Entry {
 }
 
 impl TrapWord {
-    /// The word as it stands in a trace.
+    /// The word as a trace has it.
     pub(crate) fn text(self) -> &'static [u8]
         ensures { result.now ≡ trap_text self }
     {

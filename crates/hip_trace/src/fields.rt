@@ -9,7 +9,7 @@ ghost use Rattle.hip_trace.specs.Seen.{fields_after, pair_seen, triple_seen};
 
 use hip_num::read_hex;
 
-/// How many bytes stand before the first semicolon.
+/// How many bytes come before the first semicolon.
 fn field_len(text: &[u8]) -> usize
     ensures value { result ≡ prefix_len (λ b. not (b == byte ";")) text.now }
     ensures within { result ≤ length text.now }

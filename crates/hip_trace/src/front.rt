@@ -1,4 +1,4 @@
-//! What stands first in the bytes that a reader holds.
+//! What comes first in the bytes that a reader holds.
 
 ghost use Rattle.std.specs.Prelude.{IsTrue};
 ghost use Rattle.hip_trace.specs.Fronts.{FindsFront};
@@ -6,7 +6,7 @@ ghost use Rattle.hip_trace.specs.Fronts.{FindsFront};
 use crate::held::Held;
 use hip_io::{Cabinet, Taken};
 
-/// What stands first in the bytes that a reader holds.
+/// What comes first in the bytes that a reader holds.
 #[derive(Clone, Copy)]
 pub(crate) enum Front {
     /// A piece of this many bytes, with a separator after it.
@@ -19,8 +19,8 @@ pub(crate) enum Front {
     Failed,
 }
 
-/// Takes bytes of the current file until what stands first is known. No byte is taken while a separator or more than
-/// 256 bytes are held.
+/// Takes bytes of the current file until it is known what comes first. It takes no byte while it holds a separator or
+/// more than 256 bytes.
 pub(crate) fn find_front<C: Cabinet>(held: &mut Held, cabinet: &mut C) -> Front
     requires { IsTrue (C.state cabinet.old).is_current }
     ensures { FindsFront held.old held.new (C.state cabinet.old) (C.state cabinet.new) result }

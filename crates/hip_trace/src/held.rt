@@ -8,7 +8,7 @@ ghost use Rattle.hip_trace.specs.Fronts.{HasTakenMore};
 use hip_io::{Cabinet, Taken};
 use std::marker::Model;
 
-/// Bytes that were taken from a file and stand ahead of the reader, with room for more.
+/// Bytes that were taken from a file and that the reader has not read yet, with room for more.
 #[derive(Drop)]
 pub(crate) struct Held {
     bytes: [u8; 4096],
@@ -49,7 +49,7 @@ impl Held {
         self.end - self.start
     }
 
-    /// Where the first separator stands.
+    /// The place of the first separator.
     pub(crate) fn separator(&self) -> Option<usize>
         ensures { result ≡ position is_separator self.now }
     {
@@ -82,7 +82,7 @@ impl Held {
     }
 }
 
-/// Copies the bytes from one place to another one to the front.
+/// Moves a range of bytes to the front.
 fn move_down(bytes: &mut [u8], start: usize, end: usize)
     requires ordered { start ≤ end }
     requires within { end ≤ length bytes.old }

@@ -9,7 +9,7 @@ ghost use Rattle.hip_trace.specs.Pieces.{is_separator, spelled};
 ghost use Rattle.hip_trace.specs.Texts.{lines_of};
 ghost use Rattle.hip_trace.specs.declared.entry.Entry.{Entry};
 
-/// Where some text spells an entry, its canonical text spells it.
+/// If some text spells an entry, its canonical text spells it.
 pub fn canonical_texts_spell()
     ensures { CanonicalTextsSpell }
 {}
@@ -31,7 +31,7 @@ pub fn written_entries_are_read_back()
     ensures { (es : List Entry) → All ValuesFit es → spelled true (lines_of es) ≡ map (λ e. Some e) es }
 {}
 
-/// The first piece of a file, or of a front of one, is what stands before its first separator.
+/// The first piece of a file, or of a front of one, is what comes before its first separator.
 pub fn pieces_are_told_one_by_one()
     ensures { (whole : Bool) → (piece : List ℕ) → (separator : ℕ) → (rest : List ℕ) →
         list_any is_separator piece ≡ false → is_separator separator ≡ true →

@@ -1,5 +1,5 @@
-//! The line that stands first in some bytes, read in one pass where it has one of the usual entries in its canonical
-//! text. All others are left to `spelled`.
+//! The line that comes first in some bytes, read in one pass if it has one of the usual entries in its canonical text.
+//! All others are left to `spelled`.
 
 ghost use Rattle.std.specs.Prelude.{◌≡◌, ◌<◌, ◌++◌, codes, IfSome};
 ghost use Rattle.std.specs.Char.{digit_value};
@@ -40,7 +40,7 @@ impl Usual {
     }
 }
 
-// For each byte the digit that it writes to base 16, in lower case, or 16 where it writes none.
+// For each byte, the digit that it is to base 16, in lower case, or 16 if it is none.
 static DIGITS: [u8; 256] = [
     16, 16, 16, 16, 16, 16, 16, 16, 16, 16, 16, 16, 16, 16, 16, 16, 16, 16, 16, 16, 16, 16, 16, 16,
     16, 16, 16, 16, 16, 16, 16, 16, 16, 16, 16, 16, 16, 16, 16, 16, 16, 16, 16, 16, 16, 16, 16, 16,
@@ -55,7 +55,7 @@ static DIGITS: [u8; 256] = [
     16, 16, 16, 16, 16, 16, 16, 16, 16, 16, 16, 16, 16, 16,
 ];
 
-// The digit that a byte writes to base 16, in lower case.
+// The digit that a byte is to base 16, in lower case.
 #[inline(always)]
 fn digit_of(byte: u8) -> Option<u64>
     ensures value { IfSome result (λ digit. digit ≡ digit_value byte) }
@@ -69,7 +69,7 @@ fn digit_of(byte: u8) -> Option<u64>
     }
 }
 
-// The number of at most 16 digits that stand first, where 16 bytes or more are there.
+// The number of at most 16 digits that come first, if there are 16 bytes or more.
 #[inline(always)]
 fn first_number(bytes: &[u8]) -> Option<(u64, &[u8])>
     ensures { IfSome result (λ r. HasDigits bytes.now r.0 r.1.now) }
@@ -92,7 +92,7 @@ fn first_number(bytes: &[u8]) -> Option<(u64, &[u8])>
     Some((number, &bytes[at..]))
 }
 
-// What stands after a word.
+// What comes after a word.
 #[inline(always)]
 fn after_word<'a>(bytes: &'a [u8], word: &[u8]) -> Option<&'a [u8]>
     ensures { IfSome result (λ rest. bytes.now ≡ word.now ++ rest.now) }
@@ -100,7 +100,7 @@ fn after_word<'a>(bytes: &'a [u8], word: &[u8]) -> Option<&'a [u8]>
     bytes.strip_prefix(word)
 }
 
-// The hexadecimal number of the field that stands first, after its semicolon.
+// The hexadecimal number of the field that comes first, after its semicolon.
 #[inline(always)]
 fn first_field(bytes: &[u8]) -> Option<(u64, &[u8])>
     ensures { IfSome result (λ r. HasField bytes.now r.0 r.1.now) }
@@ -170,8 +170,8 @@ fn flush_or_fence(bytes: &[u8]) -> Option<(Usual, &[u8])>
     }
 }
 
-/// The line that stands first, if it is STORE, FLUSH, FENCE, PERSIST or ASSERT in its canonical text, and 16 bytes or
-/// more are there for the digits of each number.
+/// The line that comes first, if it is STORE, FLUSH, FENCE, PERSIST or ASSERT in its canonical text, and there are 16
+/// bytes or more for the digits of each number.
 pub(crate) fn first_line(bytes: &[u8]) -> Option<Line>
     ensures { IfSome result (λ line. IsFirstLine bytes.now line) }
 {

@@ -31,7 +31,7 @@ impl Model for Reader {
 }
 
 impl Reader {
-    /// A reader at the first byte of what is left of the current file.
+    /// A reader at the first byte of the rest of the current file.
     pub fn new() -> Reader
         ensures { result ≡ record { held = []; count = 0; progress = Reading } }
     {
@@ -42,7 +42,7 @@ impl Reader {
         }
     }
 
-    /// How many texts of entries were begun, or 2^128 - 1 where there are more.
+    /// How many texts of entries the reader has begun; 2^128 - 1 if there are more.
     pub fn count(&self) -> u128
         ensures { result ≡ self.now.count }
     {
@@ -64,7 +64,7 @@ impl Reader {
         }
     }
 
-    // Reads a whole line that is held at once; `read_on` does all else.
+    // Reads a whole line that is held already; `read_on` reads all else.
     fn read_first<C: Cabinet>(&mut self, cabinet: &mut C) -> Result<Option<Entry>, TraceRefusal>
         requires current { IsTrue (C.state cabinet.old).is_current }
         requires reading { self.old.progress ≡ Reading }

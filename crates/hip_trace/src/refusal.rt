@@ -7,7 +7,7 @@ pub enum TraceRefusal {
     ReadFault,
 }
 
-/// Whether a reader reads on, or answers the same for good.
+/// Whether a reader reads on, or always answers the same from now on.
 #[derive(Clone, Copy, PartialEq, Eq)]
 pub enum Progress {
     Reading,

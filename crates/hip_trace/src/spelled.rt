@@ -66,7 +66,7 @@ fn image(rest: Option<&[u8]>) -> Option<Entry>
     image_at(addr, line_bytes(digits))
 }
 
-/// The size of a store, where there are stores of that size and the value has no more bytes.
+/// The size of a store, if stores have that size and the value has no more bytes.
 pub(crate) fn store_size(value: u64, size: u64) -> Option<u32>
     ensures { result ≡ (if is_sized value size then Some size else None) }
 {
@@ -79,7 +79,7 @@ pub(crate) fn store_size(value: u64, size: u64) -> Option<u32>
     }
 }
 
-/// A store of a size that there is, with a value of that size.
+/// A store, if stores have that size and the value has no more bytes.
 fn sized_store(addr: u64, value: u64, size: u64) -> Option<Entry>
     ensures { result ≡ sized_store addr value size }
 {

@@ -163,7 +163,7 @@ impl EntryLine {
     }
 }
 
-/// Puts a piece before a place, over what stood there.
+/// Puts a piece before a place.
 fn copy_before(bytes: &mut [u8; 256], end: usize, piece: &[u8])
     requires inside { end ≤ 256 }
     requires room { length piece.now ≤ end }

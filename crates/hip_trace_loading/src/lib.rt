@@ -1,4 +1,4 @@
-//! Traces in files: fetched, and replayed beside the program.
+//! Traces in files: fetched, and compared with the run of the program.
 #![tactic(auto)]
 
 mod run;

@@ -10,7 +10,7 @@ use hip_runs::Input;
 use hip_sound::Checked;
 use std::alloc::Global;
 
-/// Writes the trace of a run as it runs; then how the run has ended goes to notes.
+/// Writes the trace of a run as it runs; then it writes to notes how the run has ended.
 pub fn put_trace<S: Sink, N: Sink>(
     alloc: Global,
     checked: &Checked,

@@ -1,7 +1,7 @@
 use crate::instr::{Arg, Instr, Operand};
 use hip_types::{Bits, Name, Row, Scalar, Width};
 
-/// What a phi instruction takes where control comes from one block.
+/// What a phi instruction takes if control comes from one block.
 #[derive(Drop)]
 pub struct Edge {
     pub value: Operand,

@@ -1,6 +1,6 @@
 use hip_types::{Bits, Link, Name, Row, Ty};
 
-/// A constant. The type beside it decides which forms it may have.
+/// A constant. The type before it decides which forms it may have.
 #[cycle(constant)]
 #[derive(Drop)]
 pub enum Const {

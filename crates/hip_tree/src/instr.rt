@@ -40,8 +40,8 @@ pub struct Flags {
     pub exact: bool,
 }
 
-/// An instruction that neither stands at the head of a block nor ends it. `dest` is the register that
-/// it assigns, `align` the alignment that is written, in bytes.
+/// An instruction that is neither a phi nor the end of a block. `dest` is the register that it assigns, `align` the
+/// alignment that is written, in bytes.
 pub enum Instr {
     Binary {
         dest: Name,

@@ -29,7 +29,7 @@ impl Drop for GlobalVar {
     }
 }
 
-/// A declared function, which the machine knows by its name.
+/// A declaration of an external function.
 #[derive(Drop)]
 pub struct Extern {
     /// The type of its result; none for `void`.

@@ -1,4 +1,4 @@
-/// The address from which the volatile globals lie.
+/// The first address of the volatile globals.
 pub const VOLATILE_START: u64 = 65_536;
 
 /// The first address of the stack.

@@ -16,7 +16,7 @@ pub const LARGEST_VOLATILE: u64 = 16_777_216;
 /// The largest alignment. The alignments are the powers of two from 1 on that divide it.
 pub const LARGEST_ALIGNMENT: u64 = 4_096;
 
-/// What the base of the persistent region is a multiple of, so that every alignment divides it.
+/// The number of which the base of the persistent region is a multiple, so that every alignment divides it.
 pub const BASE_ALIGNMENT: u64 = 4_096;
 
 /// The lowest base of the persistent region, 2^32.

@@ -18,7 +18,7 @@ pub enum Ty {
     Struct(Row<Ty>),
 }
 
-/// A type of its own that is equal to the given one.
+/// A new type that is equal to the given one.
 #[cycle(copy)]
 pub fn copy_ty(alloc: Global, ty: &Ty) -> Result<Ty, NoMemory>
     ensures { IfOk result (λ t. t ≡ ty.now) }

@@ -27,11 +27,10 @@ fn find_fault(alloc: Global, program: &Program) -> Result<(), TypeRefusal>
     }
 }
 
-/// The program, if it is sound; it is dropped on a refusal. The refusal is the first rule that the program breaks,
-/// at the first place, in this order: it is one that some text reads as; names of globals, externs and functions
-/// differ; types and initialisers of globals; externs; sizes; `main`; names inside functions; names, types, cases and
-/// edges at each place; each use of a register is assigned on every path. Out of memory is a refusal at the whole
-/// program.
+/// The program, if it is sound; it is dropped on a refusal. The refusal is the first rule that the program breaks, at
+/// the first place, in this order: some text reads as the program; names of globals, externs and functions differ;
+/// types and initialisers of globals; externs; sizes; `main`; names inside functions; names, types, cases and edges at
+/// each place; each use of a register is assigned on every path. Out of memory is a refusal at the whole program.
 ///
 /// The time is little more than linear in the program, and so is the memory that it takes for a while.
 pub fn check(alloc: Global, program: Program) -> Result<Checked, TypeRefusal>

@@ -20,7 +20,7 @@ fn fault_of(fault: Fault) -> TypeFault
     }
 }
 
-/// The refusal of a program for which a check stopped so. Out of memory has no place of its own.
+/// The refusal of a program for a check that stopped. Out of memory has no place of its own.
 pub fn refusal_of(refused: Refused) -> TypeRefusal
     ensures { result ≡ refusal_of refused }
 {

@@ -7,7 +7,7 @@ use std::io::{ErrorKind, IsTerminal};
 use std::process::ExitCode;
 use std::{env, io};
 
-/// The words after the program's name. There are none where one of them is not text.
+/// The words after the program's name. There are none if one of them is not text.
 #[inline(never)]
 fn words(rt: &HostRuntime) -> Result<Vec<String>, io::Error> {
     let mut words = Vec::new(rt.alloc());

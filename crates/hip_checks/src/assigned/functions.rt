@@ -30,7 +30,7 @@ fn check_edge(body: &Body<'_>, place: Place, ty: Scalar, edge: &Edge) -> Result<
     }
 }
 
-/// The operands of a phi are assigned so.
+/// The operands of a phi are assigned in this way.
 fn check_phi(body: &Body<'_>, place: Place, phi: &Phi) -> Result<(), NotAssigned>
     requires { Describes body.now.function.now body.now.names.now.names body.now.names.now.values body.now.paths.now }
     ensures { AnswersUses body.now.function.now result (phi_register_uses body.now.function.now.blocks place phi.now) }
@@ -45,7 +45,7 @@ fn check_phi(body: &Body<'_>, place: Place, phi: &Phi) -> Result<(), NotAssigned
     Ok(())
 }
 
-/// The operands of a block's phis are assigned so.
+/// The operands of a block's phis are assigned in this way.
 fn check_phis(
     body: &Body<'_>,
     function: usize,
@@ -91,7 +91,7 @@ fn check_instr(body: &Body<'_>, site: Site, instr: &Instr) -> Result<(), NotAssi
     )
 }
 
-/// What the instructions of a block use is assigned so.
+/// What the instructions of a block use is assigned in this way.
 fn check_instrs(
     body: &Body<'_>,
     function: usize,
@@ -136,7 +136,7 @@ fn check_end(body: &Body<'_>, function: usize, block: usize, end: &End) -> Resul
     )
 }
 
-/// What a block uses is assigned so: its phis, its instructions, its end.
+/// What a block uses is assigned in this way: by its phis, its instructions, its end.
 fn check_block(
     body: &Body<'_>,
     function: usize,
@@ -158,7 +158,7 @@ fn check_block(
     check_end(body, function, number, &block.end)
 }
 
-/// What a function uses is assigned so, block by block.
+/// What a function uses is assigned in this way, block by block.
 fn check_blocks(body: &Body<'_>, function: usize) -> Result<(), NotAssigned>
     requires { Describes body.now.function.now body.now.names.now.names body.now.names.now.values body.now.paths.now }
     ensures { AnswersUses body.now.function.now result (register_uses function body.now.function.now) }
@@ -173,7 +173,7 @@ fn check_blocks(body: &Body<'_>, function: usize) -> Result<(), NotAssigned>
     Ok(())
 }
 
-/// What a function uses is assigned so, by its names and its graph.
+/// What a function uses is assigned in this way, by its names and its graph.
 fn check_on_graph(
     alloc: Global,
     number: usize,

@@ -8,7 +8,7 @@ use hip_globals::index;
 use hip_tree::{Const, ConstGep, TypedConst};
 use hip_types::{Bits, Ty, Width, same_ty};
 
-/// Whether two types are one.
+/// Whether two types are equal.
 pub fn is_same_type(a: &Ty, b: &Ty) -> bool
     ensures { result ≡ same_type a.now b.now }
 {

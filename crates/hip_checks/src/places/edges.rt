@@ -29,7 +29,7 @@ fn carries(first: Option<&Operand>, operand: &Operand) -> bool
     }
 }
 
-/// The operand of each label; none where two edges of one label carry different ones.
+/// The operand of each label; none if two edges with the same label carry different ones.
 fn operands_by_label(alloc: Global, edges: &[Edge]) -> Result<Option<OperandTable<'_>>, NoMemory>
     ensures { IfOk result (λ found. CarriesWhere edges.now found) }
 {

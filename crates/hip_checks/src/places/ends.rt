@@ -35,7 +35,7 @@ fn end_agrees(ret: Option<Scalar>, end: &End) -> bool
     }
 }
 
-/// Whether the values of cases differ, the width of a value being part of it.
+/// Whether the values of cases differ, in number or in width.
 fn cases_differ(alloc: Global, cases: &[Case]) -> Result<bool, NoMemory>
     ensures { IfOk result (λ differ. differ ≡ places.cases_differ cases.now) }
 {

@@ -99,7 +99,7 @@ pub fn gep_agrees(ty: &Ty, indices: &[Arg]) -> bool
     }
 }
 
-/// Whether a call whose result is not there has no register.
+/// Whether the register of a call agrees with its result: a call without a result has none.
 pub fn register_agrees(dest: &Option<Name>, ret: Option<Scalar>) -> bool
     ensures { result ≡ spec.register_agrees dest.now ret }
 {
@@ -109,7 +109,7 @@ pub fn register_agrees(dest: &Option<Name>, ret: Option<Scalar>) -> bool
     }
 }
 
-/// Whether arguments have the types of parameters, one after another.
+/// Whether arguments have the types of the parameters, in order.
 fn params_are(params: Params<'_>, args: &[Arg]) -> bool
     ensures { result ≡ all_pass (map same_scalar (params_seen params.entry)) (map (λ a. a.ty) args.now) }
 {
@@ -147,7 +147,7 @@ fn named_are(params: &[Param], args: &[Arg]) -> bool
     true
 }
 
-/// Whether a call agrees with what it names in the result's type and in the number and the types of arguments.
+/// Whether a call agrees with its callee in the result's type and in the number and the types of arguments.
 fn call_agrees(callee: Option<Callee<'_>>, ret: Option<Scalar>, args: &[Arg]) -> bool
     ensures { result ≡ spec.signature_agrees ret args.now (option_map callee_seen callee.entry) }
 {
@@ -177,7 +177,7 @@ pub fn instr_agrees(callees: &CalleeTable<'_>, instr: &Instr) -> bool
     }
 }
 
-/// Whether what a call names exists.
+/// Whether the callee of a call exists.
 pub fn callee_known(callees: &CalleeTable<'_>, instr: &Instr) -> bool
     ensures { result ≡ callee_known_in callees.now.names callees.now.values instr.now }
 {
@@ -187,7 +187,7 @@ pub fn callee_known(callees: &CalleeTable<'_>, instr: &Instr) -> bool
     }
 }
 
-/// Whether the type fits that an instruction writes.
+/// Whether the type that an instruction writes fits.
 pub fn written_fits(instr: &Instr) -> bool
     ensures { result ≡ seen.written_fits instr.now }
 {

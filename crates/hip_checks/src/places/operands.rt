@@ -91,7 +91,7 @@ fn args_fit(args: &[Arg]) -> bool
     true
 }
 
-/// Whether all types fit that are written in the constants.
+/// Whether all types that are written in the constants fit.
 pub fn uses_fit(uses: &Uses<'_>) -> bool
     ensures { result ≡ operands_fit (uses_seen uses.now) }
 {
@@ -162,7 +162,7 @@ pub fn edges_known(registers: &RegisterTable<'_>, globals: &NameSet<'_>, phi: &P
     true
 }
 
-/// Whether all types fit that are written in a phi's constants.
+/// Whether all types that are written in a phi's constants fit.
 pub fn edges_fit(phi: &Phi) -> bool
     ensures { result ≡ operands_fit (phi_uses phi.now) }
 {

@@ -18,7 +18,7 @@ pub struct Predecessors<'a> {
 }
 
 impl<'a> Predecessors<'a> {
-    /// The labels of the blocks whose end names the label; none where no end names it.
+    /// The labels of the blocks whose end names the label; none if no end names it.
     fn get(&self, label: &[u8]) -> Option<&NameSet<'a>>
         ensures { option_copied result ≡ found_at self.now.sets label.now }
     {
@@ -33,7 +33,7 @@ impl<'a> Predecessors<'a> {
         self.get(label).unwrap_or(nobody)
     }
 
-    /// Adds a block that nothing else leads to the label from.
+    /// Adds the first block that leads to the label.
     fn add_first(&mut self, alloc: Global, label: &'a [u8], from: &'a [u8]) -> Result<(), NoMemory>
         requires { found_at self.old.sets label.now ≡ None }
         ensures { OnOk result (Arrives self.old.sets self.new.sets (label.now ∷ []) from.now) }

@@ -74,15 +74,12 @@ number_of-rows (x ∷ xs) ys name =
     ∙ first (bytes_eq name x) (length xs) (number_of xs name) (number_of ys name)
     ∙ ap (λ o. or_after (suc (length xs)) o (number_of ys name)) (sym (number_of-cons x xs name))
 
--- the same for references
-pub number-rows : (few more : List (Bor (List ℕ))) (name : List ℕ)
-    → number_of (pointed (few ++ more)) name
-    ≡ or_after (length few) (number_of (pointed few) name) (position (λ k. bytes_eq name k.now) more)
+-- the same where the first list is one of references
+pub number-rows : (few : List (Bor (List ℕ))) (more : List (List ℕ)) (name : List ℕ)
+    → number_of (pointed few ++ more) name ≡ or_after (length few) (number_of (pointed few) name) (number_of more name)
 number-rows few more name =
-    ap (λ names. number_of names name) (map-append (λ n. n.now) few more)
-    ∙ number_of-rows (pointed few) (pointed more) name
-    ∙ ap (λ n. or_after n (number_of (pointed few) name) (number_of (pointed more) name)) (length-map few (λ k. k.now))
-    ∙ ap (or_after (length few) (number_of (pointed few) name)) (sym (number-pointed name more))
+    number_of-rows (pointed few) more name
+    ∙ ap (λ n. or_after n (number_of (pointed few) name) (number_of more name)) (length-map few (λ k. k.now))
 
 -- a name is among others if it has a number there
 suc_some : (o : Option ℕ) → is_some (option_map suc o) ≡ is_some o
@@ -99,11 +96,7 @@ numbered-among (x ∷ xs) name =
     ap is_some (number_of-cons x xs name) ∙ by_first (bytes_eq name x) (number_of xs name)
     ∙ ap (λ b. bytes_eq name x || b) (numbered-among xs name)
 
-pub among-rows : (few more : List (Bor (List ℕ))) (name : List ℕ)
-    → is_among (pointed (few ++ more)) name
-    ≡ (is_some (number_of (pointed few) name) || list_any (λ k. bytes_eq name k.now) more)
+pub among-rows : (few more : List (List ℕ)) (name : List ℕ)
+    → is_among (few ++ more) name ≡ (is_some (number_of few name) || is_among more name)
 among-rows few more name =
-    ap (λ names. is_among names name) (map-append (λ n. n.now) few more)
-    ∙ list_any-append (bytes_eq name) (pointed few) (pointed more)
-    ∙ ap (λ b. b || is_among (pointed more) name) (sym (numbered-among (pointed few) name))
-    ∙ ap (λ b. is_some (number_of (pointed few) name) || b) (sym (among-pointed name more))
+    list_any-append (bytes_eq name) few more ∙ ap (λ b. b || is_among more name) (sym (numbered-among few name))

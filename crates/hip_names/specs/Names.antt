@@ -1,5 +1,6 @@
 -- Lists of names: which names are among them, and at which place.
-use Rattle.std.specs.Prelude.{ℕ, ◌≡◌, ◌<◌, ◌≤◌, ◌^◌, ◌⊎◌, Bool, List, [], ◌∷◌, length, Option, position}
+use Rattle.std.specs.Prelude.{ℕ, ◌≡◌, ◌<◌, ◌≤◌, ◌⊎◌, Bool, List, [], ◌∷◌, length, Option, Some, None, map, position}
+use Rattle.std.specs.Borrow.{Bor}
 use Rattle.std.specs.List.{list_any}
 use Rattle.std.specs.Str.{bytes_eq}
 
@@ -25,8 +26,12 @@ Knows known names = (name : List ℕ) → is_among known name ≡ is_among names
 abbrev pub number_of : List (List ℕ) → List ℕ → Option ℕ
 number_of names name = position (bytes_eq name) names
 
--- a first list of at most four items, and a second one that is empty until the first is full, and has room for one more
-pub record IsFilled {A : Type 0} (few more : List A) : Type 0 where
+-- the names of a table of references to them, none without a table
+abbrev pub names_in : {A : Type 0} → (A → List (Bor (List ℕ))) → Option A → List (List ℕ)
+names_in keys None = []
+names_in keys (Some table) = map (λ name. name.now) (keys table)
+
+-- a first list of at most four items, and a second one that is empty until the first is full
+pub record IsFilled {A B : Type 0} (few : List A) (more : List B) : Type 0 where
   pub few_fit : length few ≤ 4
   pub in_order : length few < 4 → more ≡ []
-  pub more_fit : length more ≤ 2 ^ 62

@@ -2,25 +2,22 @@ ghost use Rattle.std.specs.Prelude.{◌≡◌, ◌<◌, ◌^◌, [], ◌∷◌, 
 ghost use Rattle.std.specs.List.{list_all};
 ghost use Rattle.hip_names.specs.Names.{is_among, number_of};
 
+use crate::hashed::HashedNames;
 use hip_types::{NoMemory, Row};
-use indexmap::IndexSet;
 use std::alloc::Global;
 use std::marker::Model;
 
-/// Up to this number of names, a list takes a tenth of the memory of a hash table, and a search in it takes no more
-/// time.
+/// Up to this number of names, a set takes memory only for the references to them.
 const FEW: usize = 4;
-
-/// No machine has the memory for more names.
-const MOST: usize = 1 << 62;
 
 /// Names that differ, numbered from 0 in the order of insertion.
 #[derive(Drop)]
 pub struct NameSet<'a> {
+    alloc: Global,
     /// The first names, at most `FEW`.
     few: Row<&'a [u8]>,
-    /// The names after them. It takes no memory without names.
-    more: IndexSet<&'a [u8]>,
+    /// The names after them.
+    more: HashedNames<'a>,
 }
 
 impl<'a> Model for NameSet<'a> {
@@ -29,9 +26,9 @@ impl<'a> Model for NameSet<'a> {
 
     ghost Value = { List (List ℕ) };
 
-    ghost view = { λ s. map (λ name. name.now) (s.few ++ s.more.keys) };
+    ghost view = { λ s. map (λ name. name.now) s.few ++ s.more };
 
-    ghost invariant = { λ s. IsFilled s.few s.more.keys };
+    ghost invariant = { λ s. IsFilled s.few s.more };
 }
 
 /// The number of the first of these names that is this one.
@@ -64,8 +61,9 @@ impl<'a> NameSet<'a> {
         ensures { result ≡ [] }
     {
         NameSet {
+            alloc,
             few: Row::new(alloc),
-            more: IndexSet::new(alloc),
+            more: HashedNames::new(),
         }
     }
 
@@ -83,13 +81,7 @@ impl<'a> NameSet<'a> {
             self.few.push(name)?;
             return Ok(true);
         }
-        if self.more.len() >= MOST {
-            return Err(NoMemory);
-        }
-        match self.more.insert(name) {
-            Ok(is_new) => Ok(is_new),
-            Err(_) => Err(NoMemory),
-        }
+        self.more.insert(self.alloc, name)
     }
 
     /// The number of names.
@@ -97,7 +89,7 @@ impl<'a> NameSet<'a> {
         ensures length { result ≡ length self.now }
         ensures small { result < 2 ^ 63 }
     {
-        self.few.len() + self.more.len()
+        self.few.len() + self.more.as_slice().len()
     }
 
     /// Whether a name is one of these.
@@ -114,7 +106,7 @@ impl<'a> NameSet<'a> {
         match number_in(self.few.as_slice(), name) {
             Some(number) => Some(number),
             None => {
-                let number = self.more.get_index_of(name)?;
+                let number = self.more.number_of(name)?;
                 Some(self.few.len() + number)
             }
         }

@@ -1,4 +1,5 @@
 -- The moves that phis and arguments become, and where edges and calls lead.
+use Rattle.std.specs.List.Sorted.{IsNonDecreasingBy}
 use Rattle.std.specs.Prelude.{ℕ, ◌≡◌, cond, List, [], ◌∷◌, length, Option, Some, None, slice_get}
 use Rattle.std.specs.Str.{bytes_eq}
 use Rattle.hip_tree.specs.declared.block.Case as named_case
@@ -13,10 +14,12 @@ use Rattle.hip_tree.specs.declared.program.Program.{Program}
 use Rattle.hip_names.specs.Names.{number_of}
 use Rattle.hip_sound.specs.Numbering.{function_number}
 use Rattle.hip_runs.specs.declared.input.Input.{Input}
+use Rattle.hip_runs.specs.Actions.{case_label}
 use Rattle.hip_runs.specs.Places.{blocks_of, block_at, block_number, phis_of, label_of}
 use Rattle.hip_code.specs.Entries.{StandsAt}
 use Rattle.hip_code.specs.Frames.{names_at}
 use Rattle.hip_code.specs.Numbers.{Tables, entries_of, HasSpan}
+use Rattle.hip_code.specs.Ops.{case_edge}
 use Rattle.hip_code.specs.Resolved.{IsOperand, is_result}
 use Rattle.hip_code.specs.declared.op.Call.{Call}
 use Rattle.hip_code.specs.declared.op.Case.{Case}
@@ -70,13 +73,15 @@ pub record IsEdge (P : Program) (I : Input) (f b : ℕ) (tables : Tables) (numbe
   pub moves : are_moves P.globals I.base (names_at P f) tables.constants (label_of (block_at P f b))
       (entries_of edge.moves tables.moves) (phis_of (block_at P f edge.block))
 
--- the cases are those of a switch, in order
-abbrev pub are_cases : Program → Input → ℕ → ℕ → Tables → List Case → List named_case.Case → Type 0
-are_cases P I f b tables [] [] = Unit {0}
-are_cases P I f b tables (c ∷ cs) (d ∷ ds) =
-    (c.value ≡ d.value.value) × IsEdge P I f b tables c.edge d.label × are_cases P I f b tables cs ds
-are_cases P I f b tables [] (d ∷ ds) = ⊥
-are_cases P I f b tables (c ∷ cs) [] = ⊥
+-- The cases are those of a switch, in ascending order of value. Each has an edge of the block, and for each value they
+-- give an edge to the label to which the switch goes, whichever label it goes to where no case has the value.
+pub record AreCases (P : Program) (I : Input) (f b : ℕ) (tables : Tables) (cs : List Case)
+    (ds : List named_case.Case) : Type 0 where
+  pub ascend : IsNonDecreasingBy (λ c. c.value) cs
+  pub each : (k : ℕ) (c : Case) → slice_get cs k ≡ Some c
+      → (label : List ℕ) × IsEdge P I f b tables c.edge label
+  pub taken : (v other : ℕ) (label : List ℕ) → IsEdge P I f b tables other label
+      → IsEdge P I f b tables (case_edge v cs other) (case_label v ds label)
 
 -- the call is that of a defined function
 pub record IsCall (P : Program) (I : Input) (f : ℕ) (tables : Tables) (call : Call) (callee : List ℕ)

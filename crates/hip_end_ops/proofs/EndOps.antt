@@ -1,7 +1,7 @@
 -- What the ops of ends do.
-use Rattle.std.proofs.Common.{◌≡◌, ℕ, zero, suc, ◌+◌, ◌<◌, ◌≤◌, List, [], ◌∷◌, ◌++◌, length, take, drop, map, get_or, Some, slice_get, refl, sym, ap, ap₂, ◌∙◌, subst, inl, inr, arith, append_assoc, add-one, None}
+use Rattle.std.proofs.Common.{◌≡◌, ℕ, zero, suc, ◌+◌, ◌<◌, ◌≤◌, List, [], ◌∷◌, ◌++◌, length, take, drop, map, get_or, Some, slice_get, refl, sym, ap, ap₂, ◌∙◌, subst, inl, inr, arith, add-one, None}
 use Rattle.std.specs.Prelude.{slice_range}
-use Rattle.std.proofs.lemmas.List.{append-nil, length-append}
+use Rattle.std.proofs.lemmas.List.{length-append}
 use Rattle.std.proofs.Math.Seq.{drop-append_seam}
 use Rattle.hip_types.specs.declared.number.Width.{Width}
 use Rattle.hip_tree.specs.declared.block.Case as named_case
@@ -12,7 +12,7 @@ use Rattle.hip_tree.specs.declared.instr.Operand as named
 use Rattle.hip_names.specs.Names.{IsAmong}
 use Rattle.hip_runs.specs.declared.input.Input.{Input}
 use Rattle.hip_runs.specs.Places.{block_at, label_of, phis_of}
-use Rattle.hip_code.specs.Edges.{IsEdge, are_cases, are_moves}
+use Rattle.hip_code.specs.Edges.{AreCases, IsEdge, are_moves}
 use Rattle.hip_code.specs.Entries.{StandsAt}
 use Rattle.hip_code.specs.Laws.EndLaws.{resolves_br, resolves_cond, resolves_return, resolves_switch, resolves_return_nothing, resolves_unreachable}
 use Rattle.hip_code.specs.Numbers.{Tables, entries_of}
@@ -23,16 +23,18 @@ use Rattle.hip_code.specs.declared.op.Go.TheVariants as goes
 use Rattle.hip_code.specs.declared.op.Op.{Op}
 use Rattle.hip_code.specs.declared.op.Op.TheVariants as ops
 use Rattle.hip_code.specs.declared.op.Operand.{Operand}
+use Rattle.hip_code.specs.declared.op.Span.{Span}
 use Rattle.hip_end_ops.specs.Edged.{HasEdge, LeadFrom, LeadsTo, IsSource}
 use Rattle.hip_scope.specs.Growth.{Grows, Makes}
 use Rattle.hip_scope.specs.Scopes.{Ends, StandsFor, names_of, Describes}
-use Rattle.hip_end_ops.specs.Switched.{EndsHere, HasCases, are_cases_of}
+use Rattle.hip_end_ops.specs.Switched.{EndsHere, HasCases, PutsCases, are_cases}
 use Rattle.hip_end_ops.specs.declared.edges.Source.{Source}
 use Rattle.hip_scope.specs.declared.scope.Scope.{Scope}
 use Rattle.hip_scope.proofs.Growth.{extends_by, extends_same, grows_on, makes_also, makes_both, makes_same, span_is, span_within}
 use Rattle.hip_scope.proofs.Constants.{on_base}
 use Rattle.hip_scope.specs.Known.{EndKnown}
 use Rattle.hip_scope.proofs.Sound.{end_known}
+use Rattle.hip_end_ops.proofs.CaseOrder.{cases_also, sorted_are}
 use Rattle.hip_end_ops.proofs.EdgeOps.{is_at}
 
 -- ---- edges from a block
@@ -85,15 +87,15 @@ module _ (s : Scope) (source : Source) where
 
   -- ---- cases
 
-  pub cases_none : (t : Tables) → LeadFrom s source.number source.first t → HasCases s t t source []
-  cases_none t l = record { cases = []; are = sym (append-nil t.cases); makes = makes_same t (λ v. Unit {0}) (λ v. tt); lead = l }
+  pub cases_none : (t : Tables) → LeadFrom s source.number source.first t → HasCases s t t source [] []
+  cases_none t l = record { makes = makes_same t (λ v. Unit {0}) (λ v. tt); lead = l }
 
-  cases_more : (t : Tables) (cs : List Case) (ds : List named_case.Case) (c : Case) (d : named_case.Case) → are_cases_of s t source.number cs ds → c.value ≡ d.value.value → LeadsTo s t source.number c.edge d.label →
-      are_cases_of s t source.number (cs ++ c ∷ []) (ds ++ d ∷ [])
-  cases_more t [] [] c d a v l = (v, l, tt)
-  cases_more t [] (y ∷ ds) c d a v l = absurd a
-  cases_more t (x ∷ cs) [] c d a v l = absurd a
-  cases_more t (x ∷ cs) (y ∷ ds) c d a v l = (a.0, a.1, cases_more t cs ds c d a.2 v l)
+  cases_more : (Leads : ℕ → List ℕ → Type 0) (cs : List Case) (ds : List named_case.Case) (c : Case) (d : named_case.Case) → are_cases Leads cs ds → c.value ≡ d.value.value → Leads c.edge d.label →
+      are_cases Leads (cs ++ c ∷ []) (ds ++ d ∷ [])
+  cases_more Leads [] [] c d a v l = (v, l, tt)
+  cases_more Leads [] (y ∷ ds) c d a v l = absurd a
+  cases_more Leads (x ∷ cs) [] c d a v l = absurd a
+  cases_more Leads (x ∷ cs) (y ∷ ds) c d a v l = (a.0, a.1, cases_more Leads cs ds c d a.2 v l)
 
   grows_cases : (t : Tables) (more cases : List Case) → cases ≡ t.cases ++ more → Grows t (record t { cases = cases })
   grows_cases t more cases e = record {
@@ -109,24 +111,22 @@ module _ (s : Scope) (source : Source) where
   taken (y ∷ xs) zero x lt is = ap (λ z. z ∷ []) (sym is)
   taken (y ∷ xs) (suc k) x lt is = ap (λ l. y ∷ l) (taken xs k x (omega (arith, lt)) is)
 
-  pub cases_on : (t u v : Tables) (cases : List Case) (ds : List named_case.Case) (k number value : ℕ) (d : named_case.Case) → HasCases s t u source (take k ds) → HasEdge s u v source number d.label → value ≡ d.value.value →
-      cases ≡ v.cases ++ record { value = value; edge = number } ∷ [] → k < length ds → d ≡ get_or ds k d → HasCases s t (record v { cases = cases }) source (take (k + 1) ds)
-  cases_on t u v cases ds k number value d h edge value_is e lt is = record {
-    cases = h.cases ++ record { value = value; edge = number } ∷ [];
-    are = e ∙ ap (λ l. l ++ record { value = value; edge = number } ∷ []) (edge.cases ∙ h.are) ∙ append_assoc t.cases h.cases _;
+  pub cases_on : (t u v : Tables) (cs more : List Case) (ds : List named_case.Case) (k : ℕ) (c : Case) (d : named_case.Case) → HasCases s t u source cs (take k ds) → HasEdge s u v source c.edge d.label → c.value ≡ d.value.value →
+      more ≡ cs ++ c ∷ [] → k < length ds → d ≡ get_or ds k d → HasCases s t v source more (take (k + 1) ds)
+  cases_on t u v cs more ds k c d h edge value_is e lt is = record {
     makes = record {
-      grows = grows_on h.makes.grows (grows_on edge.makes.grows (grows_cases v _ cases e));
+      grows = grows_on h.makes.grows edge.makes.grows;
       lasts = λ w g.
-          let far = grows_on (grows_cases v _ cases e) g in
           let one : take (k + 1) ds ≡ take k ds ++ d ∷ [] = rw add-one (taken ds k d lt is) in
-          subst (λ xs. are_cases_of s w source.number (h.cases ++ record { value = value; edge = number } ∷ []) xs) (sym one)
-          (cases_more w h.cases (take k ds) (record { value = value; edge = number }) d (h.makes.lasts w (grows_on edge.makes.grows far)) value_is (edge.makes.lasts w far));
+          subst (λ xs. are_cases (LeadsTo s w source.number) more xs) (sym one)
+          (subst (λ xs. are_cases (LeadsTo s w source.number) xs (take k ds ++ d ∷ [])) (sym e)
+          (cases_more (LeadsTo s w source.number) cs (take k ds) c d (h.makes.lasts w (grows_on edge.makes.grows g)) value_is (edge.makes.lasts w g)));
     };
-    lead = lead_kept s source.number source.first v (record v { cases = cases }) edge.lead (grows_cases v _ cases e) refl;
+    lead = edge.lead;
   }
 
-  pub cases_all : (t u : Tables) (ds : List named_case.Case) (k : ℕ) → length ds ≤ k → HasCases s t u source (take k ds) → HasCases s t u source ds
-  cases_all t u ds k le h = subst (HasCases s t u source) (all ds k le) h
+  pub cases_all : (t u : Tables) (cs : List Case) (ds : List named_case.Case) (k : ℕ) → length ds ≤ k → HasCases s t u source cs (take k ds) → HasCases s t u source cs ds
+  cases_all t u cs ds k le h = subst (HasCases s t u source cs) (all ds k le) h
     where
       all : (xs : List named_case.Case) (k : ℕ) → length xs ≤ k → take k xs ≡ xs
       all [] zero le = refl
@@ -134,41 +134,42 @@ module _ (s : Scope) (source : Source) where
       all (x ∷ xs) zero le = absurd (let q : ⊥ = omega (arith, le) in q)
       all (x ∷ xs) (suc k) le = ap (λ l. x ∷ l) (all xs k (omega (arith, le)))
 
-  cases_long : (t : Tables) (cs : List Case) (ds : List named_case.Case) → are_cases_of s t source.number cs ds → length cs ≡ length ds
-  cases_long t [] [] a = refl
-  cases_long t [] (d ∷ ds) a = absurd a
-  cases_long t (c ∷ cs) [] a = absurd a
-  cases_long t (c ∷ cs) (d ∷ ds) a = ap suc (cases_long t cs ds a.2)
+  pub lead_cases : (t u : Tables) (cs : List Case) (span : Span) → LeadFrom s source.number source.first t → PutsCases t u cs span → LeadFrom s source.number source.first u
+  lead_cases t u cs span l p = subst (LeadFrom s source.number source.first) (sym p.are) (lead_kept s source.number source.first t _ l (grows_cases t p.sorted _ refl) refl)
 
-  cases_are : (t : Tables) (I : Input) → I.base ≡ s.base → (cs : List Case) (ds : List named_case.Case) → are_cases_of s t source.number cs ds → are_cases s.program.now I s.number source.number t cs ds
-  cases_are t I e [] [] a = tt
-  cases_are t I e [] (d ∷ ds) a = absurd a
-  cases_are t I e (c ∷ cs) [] a = absurd a
-  cases_are t I e (c ∷ cs) (d ∷ ds) a = (a.0, is_edge s t source.number c.edge d.label I e a.1, cases_are t I e cs ds a.2)
-
-  pub ends_switch : (t u v w : Tables) (width : Width) (o : Operand) (x : named.Operand) (from count other : ℕ) (label : List ℕ) (ds : List named_case.Case) → source.block.now.«end» ≡ ends.Switch width x label ds → Makes t u (λ z. StandsFor s z o x) →
-      HasCases s u v source ds → HasEdge s v w source other label → from ≡ length u.cases → count ≡ length ds → EndsHere s t w source (ops.Control (controls.Go (goes.Switch o (record { from = from; count = count }) other)))
-  ends_switch t u v w width o x from count other label ds q m h k f n = record {
+  pub ends_switch : (t u v w z : Tables) (width : Width) (o : Operand) (x : named.Operand) (cs : List Case) (span : Span) (other : ℕ) (label : List ℕ) (ds : List named_case.Case) → source.block.now.«end» ≡ ends.Switch width x label ds → Makes t u (λ y. StandsFor s y o x) →
+      HasCases s u v source cs ds → PutsCases v w cs span → HasEdge s w z source other label → EndsHere s t z source (ops.Control (controls.Go (goes.Switch o span other)))
+  ends_switch t u v w z width o x cs span other label ds q m h p k = record {
     end_is = refl;
     makes = record {
-      grows = grows_on m.grows (grows_on h.makes.grows k.makes.grows);
-      lasts = λ z g.
+      grows = grows_on m.grows (grows_on h.makes.grows (grows_on put k.makes.grows));
+      lasts = λ y g.
           let far = grows_on k.makes.grows g in
-          let made = h.makes.lasts z far in
-          let l = ap length h.are in
-          let j = length-append u.cases h.cases in
-          let i = cases_long z h.cases ds made in
-          let whole : from + count ≡ length v.cases = omega (arith, l, j, i, f, n) in
-          let entries : slice_range z.cases from (from + count) ≡ h.cases = span_is from count far.cases whole ∙ ap₂ (λ p (cs : List Case). drop p cs) f h.are ∙ drop-append_seam u.cases h.cases in
-          at_end z _ _ q
+          let made = h.makes.lasts y (grows_on put far) in
+          let l = ap length table in
+          let j = length-append v.cases p.sorted in
+          let f = p.from in
+          let n = p.count in
+          let whole : span.from + span.count ≡ length w.cases = omega (arith, l, j, f, n) in
+          let entries : slice_range y.cases span.from (span.from + span.count) ≡ p.sorted = span_is span.from span.count far.cases whole ∙ ap₂ (λ i (xs : List Case). drop i xs) f table ∙ drop-append_seam v.cases p.sorted in
+          at_end y _ _ q
           (record {
             on = λ I e.
-                resolves_switch s.program.now I s.number source.number z width o x (record { from = from; count = count }) ds other label (on_base e (m.lasts z (grows_on h.makes.grows far)))
-                (span_within from count far.cases whole) (subst (λ cs. are_cases s.program.now I s.number source.number z cs ds) (sym entries) (cases_are z I e h.cases ds made))
-                (is_edge s z source.number other label I e (k.makes.lasts z g));
+                let Edged = IsEdge s.program.now I s.number source.number y in
+                resolves_switch s.program.now I s.number source.number y width o x span ds other label (on_base e (m.lasts y (grows_on h.makes.grows (grows_on put far))))
+                (span_within span.from span.count far.cases whole)
+                (subst (λ xs. AreCases s.program.now I s.number source.number y xs ds) (sym entries)
+                (sorted_are s.program.now I s.number source.number y cs p.sorted ds p.is (cases_also (LeadsTo s y source.number) Edged (λ n label l. is_edge s y source.number n label I e l) cs ds made)))
+                (is_edge s y source.number other label I e (k.makes.lasts y g));
           });
     };
   }
+    where
+      table : w.cases ≡ v.cases ++ p.sorted
+      table = ap (λ (r : Tables). r.cases) p.are
+
+      put : Grows v w
+      put = subst (Grows v) (sym p.are) (grows_cases v p.sorted _ refl)
 
 -- ---- labels that an end names
 

@@ -1,2 +1,3 @@
+pub mod CaseOrder
 pub mod EdgeOps
 pub mod EndOps

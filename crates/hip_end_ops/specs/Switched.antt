@@ -1,12 +1,14 @@
 -- The ends of blocks.
-use Rattle.std.specs.Prelude.{ℕ, ◌≡◌, ◌++◌, true, List, [], ◌∷◌, Some, slice_get}
+use Rattle.std.specs.List.Sorted.{IsNonDecreasingBy, IsPermutation}
+use Rattle.std.specs.Prelude.{ℕ, ◌≡◌, ◌++◌, true, List, [], ◌∷◌, Some, length, slice_get}
 use Rattle.hip_tree.specs.declared.block.Case as named_case
 use Rattle.hip_names.specs.Names.{IsAmong}
 use Rattle.hip_sound.specs.Registers.{end_labels}
 use Rattle.hip_code.specs.Numbers.{Tables}
-use Rattle.hip_code.specs.Ops.{is_end}
+use Rattle.hip_code.specs.Ops.{case_edge, is_end}
 use Rattle.hip_code.specs.declared.op.Case.{Case}
 use Rattle.hip_code.specs.declared.op.Op.{Op}
+use Rattle.hip_code.specs.declared.op.Span.{Span}
 use Rattle.hip_end_ops.specs.Edged.{LeadFrom, LeadsTo}
 use Rattle.hip_scope.specs.Growth.{Makes}
 use Rattle.hip_scope.specs.Scopes.{Ends}
@@ -18,20 +20,32 @@ pub record EndsHere (s : Scope) (t u : Tables) (source : Source) (o : Op) : Type
   pub end_is : is_end o ≡ true
   pub makes : Makes t u (λ v. Ends s.program.now s.base s.number source.number v o source.block.now.«end»)
 
--- each case has its value and its edge
-abbrev pub are_cases_of : Scope → Tables → ℕ → List Case → List named_case.Case → Type 0
-are_cases_of s t b [] [] = Unit {0}
-are_cases_of s t b [] (d ∷ ds) = ⊥
-are_cases_of s t b (c ∷ cs) [] = ⊥
-are_cases_of s t b (c ∷ cs) (d ∷ ds) =
-    (c.value ≡ d.value.value) × LeadsTo s t b c.edge d.label × are_cases_of s t b cs ds
+-- the cases are those of the program, in its order, each with its value and an edge that leads to its label
+abbrev pub are_cases : (ℕ → List ℕ → Type 0) → List Case → List named_case.Case → Type 0
+are_cases Leads [] [] = Unit {0}
+are_cases Leads [] (d ∷ ds) = ⊥
+are_cases Leads (c ∷ cs) [] = ⊥
+are_cases Leads (c ∷ cs) (d ∷ ds) = (c.value ≡ d.value.value) × Leads c.edge d.label × are_cases Leads cs ds
 
--- cases are put into the table
-pub record HasCases (s : Scope) (t u : Tables) (source : Source) (ds : List named_case.Case) : Type 0 where
-  pub cases : List Case
-  pub are : u.cases ≡ t.cases ++ cases
-  pub makes : Makes t u (λ v. are_cases_of s v source.number cases ds)
+-- each case has an edge
+pub record HasCases (s : Scope) (t u : Tables) (source : Source) (cs : List Case)
+    (ds : List named_case.Case) : Type 0 where
+  pub makes : Makes t u (λ v. are_cases (LeadsTo s v source.number) cs ds)
   pub lead : LeadFrom s source.number source.first u
+
+-- the same cases in ascending order of value; of those with the same value the first one stays the first
+pub record IsSorted (cs sorted : List Case) : Type 0 where
+  pub ascend : IsNonDecreasingBy (λ c. c.value) sorted
+  pub same : IsPermutation cs sorted
+  pub first : (v other : ℕ) → case_edge v sorted other ≡ case_edge v cs other
+
+-- the cases are put at the end of the table, in ascending order of value
+pub record PutsCases (t u : Tables) (cs : List Case) (span : Span) : Type 0 where
+  pub sorted : List Case
+  pub is : IsSorted cs sorted
+  pub are : u ≡ record t { cases = t.cases ++ sorted }
+  pub from : span.from ≡ length t.cases
+  pub count : span.count ≡ length sorted
 
 -- the block's end names the labels of the cases
 pub record CasesNamed (source : Source) (ds : List named_case.Case) : Type 0 where

@@ -5,7 +5,7 @@ ghost use Rattle.hip_end_ops.specs.Edged.{IsSource, LeadFrom};
 ghost use Rattle.hip_scope.specs.Grown.{grown};
 ghost use Rattle.hip_scope.specs.Known.{OperandKnown};
 ghost use Rattle.hip_scope.specs.Scopes.{Describes, names_of};
-ghost use Rattle.hip_end_ops.specs.Switched.{CasesNamed, EndsHere, HasCases};
+ghost use Rattle.hip_end_ops.specs.Switched.{CasesNamed, EndsHere, HasCases, IsSorted, PutsCases};
 
 use crate::edges::{Source, edge};
 use hip_code::{Case, Control, Exit, Go, Op, Span};
@@ -65,26 +65,50 @@ pub fn branch_on(
     Ok(Op::Control(Control::Go(Go::Cond { test, yes, no })))
 }
 
+// The cases in the order of the program, with the numbers of their edges.
 fn cases_of(
     scope: &Scope<'_, '_>,
     tables: &mut Growing,
     made: &mut Row<u32>,
     source: &Source<'_>,
     cases: &[hip_tree::Case],
-) -> Result<(), NoMemory>
+) -> Result<Row<Case>, NoMemory>
     requires scope { Describes scope.now }
     requires source { IsSource scope.now source.now }
     requires lead { LeadFrom scope.now source.now.number source.now.first (grown tables.old) }
     requires named { CasesNamed source.now cases.now }
-    ensures { IfOk result (λ _. HasCases scope.now (grown tables.old) (grown tables.new) source.now cases.now) }
+    ensures { IfOk result (λ cs. HasCases scope.now (grown tables.old) (grown tables.new) source.now cs cases.now) }
 {
+    let mut found = Row::new(scope.alloc);
     'switching: for index in 0..cases.len() {
         let case = &cases[index];
         let edge = edge(scope, tables, made, source, &case.label)?;
         let value = case.value.value;
-        tables.cases.push(Case { value, edge })?;
+        found.push(Case { value, edge })?;
     }
-    Ok(())
+    Ok(found)
+}
+
+// The cases by their values, the least first. Those with one value stay in their order.
+fn sorted(cases: Row<Case>) -> Result<Row<Case>, NoMemory>
+    ensures { IfOk result (λ sorted. IsSorted cases sorted) }
+{
+    let mut cases = cases.into_vec();
+    match cases.sort_by_key(|case| case.value) {
+        Ok(()) => Ok(Row::from_vec(cases)),
+        Err(_) => Err(NoMemory),
+    }
+}
+
+// Puts the cases of a switch into the table by their values, so that a run finds one by halves.
+fn put_cases(tables: &mut Growing, cases: Row<Case>) -> Result<Span, NoMemory>
+    ensures { IfOk result (λ span. PutsCases (grown tables.old) (grown tables.new) cases span) }
+{
+    let from = place(tables.cases.len())?;
+    let count = place(cases.len())?;
+    let cases = sorted(cases)?;
+    tables.cases.append(cases)?;
+    Ok(Span { from, count })
 }
 
 pub fn switch(
@@ -104,13 +128,12 @@ pub fn switch(
     ensures { IfOk result (λ o. EndsHere scope.now (grown tables.old) (grown tables.new) source.now o) }
 {
     let value = operand(scope, tables, value)?;
-    let from = place(tables.cases.len())?;
-    let count = place(targets.cases.len())?;
-    cases_of(scope, tables, made, source, targets.cases)?;
+    let cases = cases_of(scope, tables, made, source, targets.cases)?;
+    let cases = put_cases(tables, cases)?;
     let other = edge(scope, tables, made, source, targets.other)?;
     Ok(Op::Control(Control::Go(Go::Switch {
         value,
-        cases: Span { from, count },
+        cases,
         other,
     })))
 }

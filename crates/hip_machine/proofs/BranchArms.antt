@@ -1,5 +1,8 @@
 -- What the code of a branch does to what the machine stands for.
-use Rattle.std.proofs.Common.{◌≡◌, ℕ, suc, ◌+◌, ◌≤◌, Bool, true, false, cond, nat_eq, length, List, [], ◌∷◌, Some, slice_get, refl, sym, ◌∙◌, subst, arith, add-zero}
+use Rattle.std.proofs.Common.{◌≡◌, ℕ, zero, suc, ◌+◌, ◌<◌, ◌≤◌, Bool, true, false, cond, nat_eq, length, List, [], ◌∷◌, Some, get_or, slice_get, refl, sym, ap, ◌∙◌, subst, arith, add-zero}
+use Rattle.std.proofs.lemmas.Bool.Decides.{nat_tests}
+use Rattle.std.specs.List.Sorted.{IsNonDecreasingBy}
+use Rattle.std.specs.Prelude.{ltb, option_to_list}
 use Rattle.hip_runs.specs.declared.event.Event.{Event}
 use Rattle.hip_runs.specs.declared.event.Event.TheVariants as events
 use Rattle.hip_runs.specs.State.{Frame}
@@ -31,11 +34,41 @@ pub record EdgeIs (n : Numbers) (edge : Edge) : Type 0 where
 
 pub case_within : (n : Numbers) (v : ℕ) (cs : List Case) (other : ℕ) → CasesWithin n cs → EdgeWithin n other → EdgeWithin n (case_edge v cs other)
 case_within n v [] other c w = w
-case_within n v (x ∷ cs) other c w = go (nat_eq x.value v) (case_within n v cs other (record { at = λ k y e. c.at (suc k) y e }) w)
+case_within n v (x ∷ cs) other c w =
+    go (nat_eq x.value v) (case_within n v cs other (record { ascend = λ i j d le lt. c.ascend (suc i) (suc j) d (omega (arith, le)) (omega (arith, lt)); at = λ k y e. c.at (suc k) y e }) w)
   where
     go : (b : Bool) → EdgeWithin n (case_edge v cs other) → EdgeWithin n (cond b x.edge (case_edge v cs other))
     go true later = c.at 0 x refl
     go false later = later
+
+-- the first case whose value is not below the one that is looked for decides
+pub case_found : (v : ℕ) (cs : List Case) (other i : ℕ) → IsNonDecreasingBy (λ c. c.value) cs
+    → ((k : ℕ) (d : Case) → k < i → k < length cs → ltb (get_or cs k d).value v ≡ true)
+    → ((k : ℕ) (d : Case) → i ≤ k → k < length cs → ltb (get_or cs k d).value v ≡ false)
+    → case_edge v cs other ≡ case_edge v (option_to_list (slice_get cs i)) other
+case_found v [] other i up low high = refl
+case_found v (x ∷ cs) other zero up low high = go (nat_eq x.value v) refl
+  where
+    least : v ≤ x.value
+    least = let e = high 0 x (omega arith) (omega arith) in grind (arith, nat_tests)
+
+    above : (xs : List Case) → ((k : ℕ) (d : Case) → k < length xs → v < (get_or xs k d).value) → case_edge v xs other ≡ other
+    above [] far = refl
+    above (y ∷ ys) far =
+        let apart : nat_eq y.value v ≡ false = (let far_y = far 0 y (omega arith) in grind (arith, nat_tests)) in
+        ap (λ t. cond t y.edge (case_edge v ys other)) apart ∙ above ys (λ k d lt. far (suc k) d (omega (arith, lt)))
+
+    go : (t : Bool) → nat_eq x.value v ≡ t → cond t x.edge (case_edge v cs other) ≡ cond t x.edge other
+    go true e = refl
+    go false e =
+        let over : v < x.value = (let r = least in grind (arith, nat_tests)) in
+        above cs (λ k d lt. let rise = up 0 (suc k) d (omega arith) (omega (arith, lt)) in omega (arith, rise, over))
+case_found v (x ∷ cs) other (suc i) up low high =
+    let apart : nat_eq x.value v ≡ false = (let e = low 0 x (omega arith) (omega arith) in grind (arith, nat_tests)) in
+    ap (λ t. cond t x.edge (case_edge v cs other)) apart
+    ∙ case_found v cs other i (λ a b d le lt. up (suc a) (suc b) d (omega (arith, le)) (omega (arith, lt)))
+    (λ k d lt within. low (suc k) d (omega (arith, lt)) (omega (arith, within)))
+    (λ k d le within. high (suc k) d (omega (arith, le)) (omega (arith, within)))
 
 -- control goes along an edge, whose moves are made
 pub follows : {code : Code} {old new : Core} {number : ℕ} (mid : Core) (edge : Edge) → slice_get code.edges.items number ≡ Some edge →

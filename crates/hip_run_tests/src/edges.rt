@@ -207,6 +207,77 @@ last:
         printed: "1\n2\n3\n0\n",
         ending: Ending::Stop(5),
     },
+    Run {
+        name: "switches whose cases stand in no order, and of one case and of none",
+        program: "declare void @print_i64(i64)
+define i64 @kind(i64 %x) {
+entry:
+  switch i64 %x, label %other [ i64 7, label %a i64 -3, label %b i64 0, label %c i64 -9223372036854775808, label %d
+      i64 300, label %e i64 -1, label %f i64 6, label %a ]
+a:
+  ret i64 10
+b:
+  ret i64 20
+c:
+  ret i64 30
+d:
+  ret i64 40
+e:
+  ret i64 50
+f:
+  ret i64 60
+other:
+  ret i64 70
+}
+define i64 @one(i64 %x) {
+entry:
+  switch i64 %x, label %other [ i64 5, label %five ]
+five:
+  ret i64 1
+other:
+  ret i64 0
+}
+define i64 @none(i64 %x) {
+entry:
+  switch i64 %x, label %other [ ]
+other:
+  ret i64 2
+}
+define void @show(i64 %x) {
+entry:
+  %k = call i64 @kind(i64 %x)
+  call void @print_i64(i64 %k)
+  ret void
+}
+define i32 @main() {
+entry:
+  call void @show(i64 7)
+  call void @show(i64 6)
+  call void @show(i64 -3)
+  call void @show(i64 0)
+  call void @show(i64 -9223372036854775808)
+  call void @show(i64 300)
+  call void @show(i64 -1)
+  call void @show(i64 8)
+  call void @show(i64 1)
+  call void @show(i64 -2)
+  call void @show(i64 9223372036854775807)
+  %a = call i64 @one(i64 5)
+  call void @print_i64(i64 %a)
+  %b = call i64 @one(i64 4)
+  call void @print_i64(i64 %b)
+  %c = call i64 @one(i64 6)
+  call void @print_i64(i64 %c)
+  %d = call i64 @none(i64 0)
+  call void @print_i64(i64 %d)
+  ret i32 0
+}
+",
+        numbers: &[],
+        limit: 200,
+        printed: "10\n10\n20\n30\n40\n50\n60\n70\n70\n70\n70\n1\n0\n0\n2\n",
+        ending: Ending::Stop(0),
+    },
 ];
 
 #[test]

@@ -1,6 +1,6 @@
 -- The laws of the ends of blocks.
-use Rattle.std.specs.Prelude.{ℕ, ◌≡◌, Bool, true, false, cond, nat_eq, List, [], ◌∷◌, Some, None, slice_get}
-use Rattle.std.proofs.Common.{zero, suc, refl, sym, ap, ap₂, ◌∙◌, subst}
+use Rattle.std.specs.Prelude.{ℕ, ◌≡◌, Bool, true, false, cond, nat_eq, List, Some, None, slice_get}
+use Rattle.std.proofs.Common.{refl, sym, ap, ap₂, ◌∙◌, subst}
 use Rattle.hip_types.specs.declared.number.Scalar.{Scalar}
 use Rattle.hip_types.specs.declared.number.Width.{Width}
 use Rattle.hip_tree.specs.declared.block.Case as named_case
@@ -12,7 +12,7 @@ use Rattle.hip_runs.specs.Actions.{Jumps, Returns, after_phis, case_label, end_a
 use Rattle.hip_runs.specs.Operands.{value_of}
 use Rattle.hip_runs.specs.Places.{blocks_of, block_at, block_number, phis_of, label_of}
 use Rattle.hip_runs.specs.State.{Registers, Frame, World}
-use Rattle.hip_code.specs.Edges.{IsEdge, are_cases}
+use Rattle.hip_code.specs.Edges.{AreCases, IsEdge}
 use Rattle.hip_code.specs.Frames.{HoldsFrame, names_at}
 use Rattle.hip_code.specs.Numbers.{Tables, entries_of, HasSpan}
 use Rattle.hip_code.specs.Ops.{CasesWithin, EdgeWithin, GoWithin, case_edge, edge_action, edge_taken}
@@ -126,37 +126,18 @@ module _ (P : Program) (I : Input) (f b : ℕ) (tables : Tables) where
         (sym test.same) (chosen (nat_eq v 1) one other first second p q));
   }
 
-  case_taken : (v : ℕ) (cs : List Case) (ds : List named_case.Case) (other : ℕ) (label : List ℕ)
-      → are_cases P I f b tables cs ds → IsEdge P I f b tables other label
-      → IsEdge P I f b tables (case_edge v cs other) (case_label v ds label)
-  case_taken v [] [] other label a e = e
-  case_taken v [] (d ∷ ds) other label a e = absurd a
-  case_taken v (c ∷ cs) [] other label a e = absurd a
-  case_taken v (c ∷ cs) (d ∷ ds) other label a e =
-      subst (λ u. IsEdge P I f b tables (cond (nat_eq u v) c.edge (case_edge v cs other))
-      (cond (nat_eq d.value.value v) d.label (case_label v ds label))) (sym a.0)
-      (chosen (nat_eq d.value.value v) c.edge (case_edge v cs other) d.label (case_label v ds label) a.1
-      (case_taken v cs ds other label a.2 e))
-
   cases_within : (slots : List ℕ) (base : ℕ) (rs : Registers) (cs : List Case) (ds : List named_case.Case)
-      → HoldsFrame names slots base rs → are_cases P I f b tables cs ds
+      → HoldsFrame names slots base rs → AreCases P I f b tables cs ds
       → CasesWithin (numbers_at tables slots base) cs
-  cases_within slots base rs [] ds h a = record { at = λ k c e. absurd (let z : ⊥ = cc in z) }
-  cases_within slots base rs (c ∷ cs) [] h a = absurd a
-  cases_within slots base rs (c ∷ cs) (d ∷ ds) h a =
-      let later = cases_within slots base rs cs ds h a.2 in record { at = λ k x e. at later k x e }
-    where
-      at : CasesWithin (numbers_at tables slots base) cs → (k : ℕ) (x : Case) → slice_get (c ∷ cs) k ≡ Some x
-          → EdgeWithin (numbers_at tables slots base) x.edge
-      at later zero x e =
-          let same : c ≡ x = cc in subst (λ (y : Case). EdgeWithin (numbers_at tables slots base) y.edge) same
-          (edge_within slots base rs c.edge d.label h a.1)
-      at later (suc k) x e = later.at k x e
+  cases_within slots base rs cs ds h a = record {
+    ascend = a.ascend;
+    at = λ k c e. let edge = a.each k c e in edge_within slots base rs c.edge edge.0 h edge.1;
+  }
 
   pub resolves_switch : (width : Width) (t : Operand) (x : named.Operand) (cases : Span) (ds : List named_case.Case)
       (other : ℕ) (label : List ℕ) →
       IsOperandIn P I.base f tables t x → HasSpan cases tables.cases
-      → are_cases P I f b tables (entries_of cases tables.cases) ds
+      → AreCases P I f b tables (entries_of cases tables.cases) ds
       → IsEdge P I f b tables other label →
       EndResolves P I f b tables (ops.Control (controls.Go (goes.Switch t cases other))) (ends.Switch width x label ds)
   unfolding end_action
@@ -172,7 +153,7 @@ module _ (P : Program) (I : Input) (f b : ℕ) (tables : Tables) where
           edge_within slots base g.registers other label h e,
         )
         (subst (λ u. IsEdge P I f b tables (case_edge u (entries_of cases tables.cases) other) (case_label v ds label))
-        (sym test.same) (case_taken v (entries_of cases tables.cases) ds other label a e));
+        (sym test.same) (a.taken v other label e));
   }
 
   -- ---- returns

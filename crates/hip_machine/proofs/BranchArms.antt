@@ -1,4 +1,4 @@
--- What the code of a branch does to what the machine stands for.
+-- What the code of a branch does to the state that the machine represents.
 use Rattle.std.proofs.Common.{◌≡◌, ℕ, suc, ◌+◌, ◌≤◌, Bool, true, false, cond, nat_eq, length, List, [], ◌∷◌, Some, slice_get, refl, sym, ◌∙◌, subst, arith, add-zero}
 use Rattle.hip_runs.specs.declared.event.Event.{Event}
 use Rattle.hip_runs.specs.declared.event.Event.TheVariants as events

@@ -1,4 +1,4 @@
--- Reachable callees and fresh names are what they are said to be.
+-- Reachable callees and fresh names meet their definitions.
 use Rattle.std.proofs.Common.{◌≡◌, true, ◌++◌, take, map, Some, option_map, refl, sym, ap, ◌∙◌, subst}
 use Rattle.std.proofs.lemmas.Bool.Decides.{Decides-eqb}
 use Rattle.std.proofs.lemmas.List.{length-map}

@@ -29,7 +29,7 @@ again_seen : (first : Option (Bor Operand)) (o : Operand) → carries_again firs
 again_seen None o = refl
 again_seen (Some first) o = refl
 
--- an edge that carries what an earlier one does is like all that are like that one
+-- an edge that carries the same as an earlier one is like all edges that are like that one
 alike : (y z x : Edge) → bytes_eq y.label x.label ≡ true → same_operand y.value x.value ≡ true → carry_alike y z ≡ true → carry_alike z x ≡ true
 alike y z x label same other = by_test (bytes_eq z.label x.label) refl
   where
@@ -48,7 +48,7 @@ all_alike y (z ∷ zs) x label same others =
     let both = and_parts (carry_alike y z) (list_all (carry_alike y) zs) others in
     ap (λ b. b && list_all (λ w. carry_alike w x) zs) (alike y z x label same both.0) ∙ all_alike y zs x label same both.1
 
--- of edges that agree the first of a label decides
+-- if edges agree, the first one of a label decides
 first_decides : (ys : List Edge) (x : Edge) → repeats_agree ys ≡ true → list_all (λ y. carry_alike y x) ys ≡ again (value_of (map edge_entry ys) x.label) x.value
 first_decides [] x agree = refl
 first_decides (y ∷ ys) x agree = by_test (first_decides ys x both.1) (bytes_eq y.label x.label) refl

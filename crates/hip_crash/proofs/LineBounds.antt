@@ -1,4 +1,4 @@
--- What is seen of a line stands for the line of the run.
+-- What is seen of a line represents the line of the run.
 use Rattle.std.proofs.Common.{◌≡◌, ◌≢◌, ℕ, ◌+◌, ◌-◌, ◌*◌, ◌^◌, ◌<◌, ◌≤◌, List, [], length, take, drop, Some, None, slice_get, slice_index, refl, sym, ap, ap₂, ◌∙◌, subst, arith, length-drop}
 use Rattle.std.proofs.lemmas.List.{length-take-le}
 use Rattle.hip_lines.specs.Image.{byte_after}

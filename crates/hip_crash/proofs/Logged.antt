@@ -1,4 +1,4 @@
--- A log that notes a step stands for the next state.
+-- A log that notes a step represents the next state.
 use Rattle.std.proofs.Common.{◌≡◌, ℕ, suc, ◌+◌, zero, ◌/◌, ◌^◌, ◌<◌, ◌%◌, Bool, true, false, cond, List, length, Some, is_some, slice_get, sym, ap, ◌∙◌, subst, arith}
 use Rattle.hip_tree.specs.declared.program.Program.{Program}
 use Rattle.hip_lines.specs.Line.{Line, fresh_line, fresh_lines}

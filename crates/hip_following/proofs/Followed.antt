@@ -1,4 +1,4 @@
--- A machine beside a trace.
+-- A machine that follows a trace.
 use Rattle.std.proofs.Common.{◌≡◌, ℕ, [], ◌∷◌, ◌++◌, length, Option, is_some, refl, sym, ap, ◌∙◌, subst}
 use Rattle.hip_io.specs.Cabinets.{CabinetState}
 use Rattle.hip_tree.specs.declared.program.Program.{Program}
@@ -45,6 +45,6 @@ replayed_by P start r0 r s0 s begun followed h f = record {
   progress = f.over.progress;
 }
 
--- there was no memory, once the file was read to its end
+-- memory ran out, after the file was read to its end
 pub stopped_over : (P : Program) (I : Input) (start : CabinetState) (n : ℕ) (r : ReaderState) (s : CabinetState) (entries : ℕ) (ending : Ending) → HasFollowed P I start n r s entries ending → HasStoppedReplay start s
 stopped_over P I start n r s entries ending h = record { reading = h.reading }

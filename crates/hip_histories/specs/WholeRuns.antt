@@ -9,7 +9,8 @@ use Rattle.hip_runs.specs.declared.input.Input.{Input}
 
 -- After n steps the run has ended with this ending, this output and this working memory: its initial bytes and all
 -- writes in order, which give each byte its value.
-pub record HasEnded (P : Program) (I : Input) (n : ℕ) (ending : Ending) (output : List ℕ) (memory : Memory) : Type 0 where
+pub record HasEnded (P : Program) (I : Input) (n : ℕ) (ending : Ending) (output : List ℕ)
+    (memory : Memory) : Type 0 where
   pub ended : (run P I n).world.ending ≡ Some ending
   pub printed : (run P I n).world.output ≡ output
   pub working : memory_of P I (run P I n).world ≡ memory

@@ -14,7 +14,7 @@ pub both_pieces : (xs ys : List ℕ) (old mid new : Option (List ℕ)) → old �
 both_pieces xs ys old mid None p q = p ∙ ap (option_map (λ rest. xs ++ rest)) q
 both_pieces xs ys old mid (Some rest) p q = p ∙ ap (option_map (λ rest. xs ++ rest)) q ∙ ap (λ (zs : List ℕ). Some zs) (sym (append_assoc xs ys rest))
 
--- no memory was left for the piece that came last
+-- memory ran out for the piece that came last
 pub stopped : (old mid new : CabinetState) (limit n : ℕ) (bytes buffer : List ℕ) → HasTakenAll old mid bytes → HasGot mid new buffer n → length bytes + n ≤ limit + 1 → HasStopped old new limit
 stopped old mid new limit n bytes buffer h k le = record {
   part = record {

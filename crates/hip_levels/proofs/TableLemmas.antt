@@ -1,4 +1,4 @@
--- Tables of rules and of levels: what they stand for.
+-- What tables of rules and of levels represent.
 use Rattle.std.proofs.Common.{◌≡◌, ⊎_elim, inl, inr, ℕ, zero, suc, ◌+◌, ◌<◌, ◌≤◌, Bool, true, false, cond, nat_eq, nat_lt, List, [], ◌∷◌, ◌++◌, length, map, Option, Some, None, slice_get, refl, sym, ap, ◌∙◌, subst, arith, ltb-true}
 use Rattle.std.specs.Prelude.{unwrap_or, is_some, position, option_map, not}
 use Rattle.std.specs.Cmp.{IsEquivalence}

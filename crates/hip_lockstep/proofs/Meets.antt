@@ -1,4 +1,4 @@
--- What follows from one step of a run beside a trace.
+-- What follows from one step of a run that follows a trace.
 use Rattle.std.proofs.Common.{◌≡◌, ℕ, suc, ◌+◌, ◌^◌, ◌<◌, true, List, [], ◌∷◌, ◌++◌, length, Option, Some, None, is_some, Err, refl, sym, ap, ◌∙◌, subst, arith, append-nil, append_assoc, length-append}
 use Rattle.hip_io.specs.Cabinets.{CabinetState}
 use Rattle.hip_tree.specs.declared.program.Program.{Program}

@@ -1,4 +1,4 @@
--- What the code of an op that ends the run, gives a value or returns does to what the machine stands for.
+-- What the code of an op that ends the run, gives a value or returns does to the state that the machine represents.
 use Rattle.std.proofs.Common.{◌≡◌, ℕ, suc, ◌+◌, ◌≤◌, true, cond, length, List, [], ◌∷◌, ◌++◌, take, reverse, Some, Ok, Err, slice_set, refl, sym, ap, ◌∙◌, subst, arith, add-one}
 use Rattle.std.proofs.Math.Seq.{take-append_seam}
 use Rattle.std.proofs.lemmas.List.{same_from_push}

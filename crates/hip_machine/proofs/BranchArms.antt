@@ -1,4 +1,4 @@
--- What the code of a branch does to what the machine stands for.
+-- What the code of a branch does to the state that the machine represents.
 use Rattle.std.proofs.Common.{◌≡◌, ℕ, zero, suc, ◌+◌, ◌<◌, ◌≤◌, Bool, true, false, cond, nat_eq, length, List, [], ◌∷◌, Some, get_or, slice_get, refl, sym, ap, ◌∙◌, subst, arith, add-zero}
 use Rattle.std.proofs.lemmas.Bool.Decides.{nat_tests}
 use Rattle.std.specs.List.Sorted.{IsNonDecreasingBy}

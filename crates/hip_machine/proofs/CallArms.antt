@@ -1,4 +1,4 @@
--- What the code of a call does to what the machine stands for.
+-- What the code of a call does to the state that the machine represents.
 use Rattle.std.proofs.Common.{◌≡◌, OnErr, ℕ, ◌+◌, ◌-◌, ◌<◌, ◌≤◌, true, false, cond, nat_lt, lt-ltb, le-ltb, length, map, List, [], ◌∷◌, ◌++◌, Option, Some, None, Result, Ok, Err, refl, sym, ap, ap₂, ◌∙◌, subst, arith, add-zero}
 use Rattle.std.proofs.lemmas.List.{append-nil}
 use Rattle.hip_mem.specs.Areas.{mark_of}

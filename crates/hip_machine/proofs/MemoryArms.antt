@@ -1,4 +1,4 @@
--- What the code of an op on memory, on cache lines or on the outside does to what the machine stands for.
+-- What the code of an op on memory, on cache lines or on the outside does to the state that the machine represents.
 use Rattle.std.proofs.Common.{◌≡◌, inl, inr, ℕ, suc, ◌+◌, ◌-◌, ◌%◌, ◌<◌, ◌≤◌, Bool, true, false, cond, length, List, [], ◌∷◌, ◌++◌, drop, reverse, Option, Some, slice_set, ℤ, refl, sym, ap, ap₂, ◌∙◌, subst, arith, append_assoc}
 use Rattle.std.proofs.lemmas.List.{reverse-append, take_at}
 use Rattle.std.proofs.lemmas.List.Elements.{All-weaker}

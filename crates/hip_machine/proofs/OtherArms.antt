@@ -1,4 +1,4 @@
--- What the code of an op on cache lines or on the outside does to what the machine stands for.
+-- What the code of an op on cache lines or on the outside does to the state that the machine represents.
 use Rattle.std.proofs.Common.{◌≡◌, ℕ, zero, suc, ◌+◌, ◌<◌, ◌≤◌, Bool, true, false, cond, length, List, [], ◌∷◌, drop, get_or, Option, Some, ℤ, refl, sym, ap, ◌∙◌, subst, arith, add-one, drop-cons}
 use Rattle.hip_types.specs.Numbers.{signed, wrapped}
 use Rattle.hip_types.specs.declared.number.Width.TheVariants.{W64}

@@ -62,7 +62,7 @@ fill-more start i j xs old m m' h k f g a =
     ∙ sym (written-append start (take i xs) (slice_range xs i j) a (page_byte old a))
     ∙ ap (λ (ys : List ℕ). byte_written (record { addr = start; bytes = ys }) a (page_byte old a)) (take-range i j xs h k)
 
--- beyond what was written there are zeros yet
+-- beyond what was written there are still zeros
 pub fill-zeros : (start i : ℕ) (xs : List ℕ) (old m : Pages) → i ≤ length xs → ((a : ℕ) → start ≤ a → a < start + length xs → page_byte old a ≡ 0) → ((a : ℕ) → page_byte m a ≡ byte_written (record { addr = start; bytes = take i xs }) a (page_byte old a)) → (a : ℕ) → start + i ≤ a → a < start + length xs → page_byte m a ≡ 0
 fill-zeros start i xs old m h z f a low high = f a ∙ not_written (record { addr = start; bytes = take i xs }) a (page_byte old a) (inr (omega (arith, low, length-take-le i xs h))) ∙ z a (omega arith) high
 

@@ -46,7 +46,7 @@ of_call (l ∷ ls) k b e = go (λ q. of_call ls k b q) (three k (length (births_
 is_here : (b : ℕ) (ls : List Level) (l : Level) → In l ls → l.birth ≡ b → list_any (λ s. nat_eq s.birth b) ls ≡ true
 is_here b ls l i e = in_any (λ s. nat_eq s.birth b) ls l i (grind (arith, nat_tests))
 
--- a call that none stands for is not at its depth
+-- a call that is not among the open ones is not at its depth
 not_standing : (standing : List Level) (v : Level) (d : ℕ) → is_open standing v ≡ false → is_birth v.birth (slice_get (births_of standing) d) ≡ false
 not_standing standing v d h = go (slice_get (births_of standing) d) refl
   where

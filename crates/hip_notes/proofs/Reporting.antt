@@ -1,4 +1,4 @@
--- The reports of a check are those that the loose bytes and the notes tell.
+-- The reports of a check are those that the loose bytes and the notes give.
 use Rattle.std.proofs.Common.{◌≡◌, inl, inr, ℕ, suc, ◌+◌, ◌<◌, ◌≤◌, Bool, true, false, ◌||◌, ◌/◌, nat_eq, nat_lt, List, [], ◌∷◌, ◌++◌, Option, Some, None, option_map, map, slice_get, refl, sym, ap, ap₂, ◌∙◌, subst, arith}
 use Rattle.std.proofs.lemmas.Bool.Decides.{nat_tests}
 use Rattle.std.proofs.lemmas.Cmp.{nat_cmp_total, ranked}
@@ -94,7 +94,7 @@ module _ (P : Program) (I : Input) (n header : ℕ) (notes : List StoreNote) (li
   abbrev Parts : List LoosePart
   Parts = loose_parts o len (run P I n).lines tag
 
-  -- ---- the first flushes of the parts are those that the bytes tell
+  -- ---- the first flushes of the parts are those that the bytes give
 
   told_flush : (b k : ℕ) (x : StorePart) → IsLooseAt (run P I n).lines b k x → (c : LooseByte) → c.offset ≡ b → c.tag ≡ x.step
       → option_map flush_of (told.flush_told lines c) ≡ x.first_flush

@@ -97,12 +97,12 @@ first_placed step (x ∷ xs) (suc i) low high = first_placed step xs i (λ k d l
     before : nat_lt step x.step ≡ false
     before = let e = low 0 x (omega arith) (omega arith) in grind (arith, nat_tests)
 
--- ---- what a note at the place tells
+-- ---- what a note at the place gives
 
 abbrev none_of : (A : Type 0) → Option A
 none_of A = None
 
--- the item at a place, from what `get` tells
+-- the item at a place, from what `get` gives
 pub got : {A : Type 0} (xs : List A) (k : ℕ) (x : A) → k < length xs → x ≡ get_or xs k x → slice_get xs k ≡ Some x
 got [] k x lt e = absurd (omega (arith, lt))
 got (y ∷ xs) zero x lt e = ap Some (sym e)

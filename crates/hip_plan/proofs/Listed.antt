@@ -57,7 +57,7 @@ pub record HasAsked (P : Program) (test : Site → Bool) (list : List Site) : Ty
 abbrev pub asked_by : (Report → Site → Bool) → List Report → Site → Bool
 asked_by asks reports s = list_any (λ r. asks r s) reports
 
--- The list has the program's sites that all these reports ask for, but for those that the reports left ask for.
+-- The list has the program's sites that all these reports ask for, except those that the reports left ask for.
 pub record HasAllBut (P : Program) (asks : Report → Site → Bool) (all left : List Report) (list : List Site) : Type 0 where
   pub has : (s : Site) → (asked_by asks left s && is_there P s) || has_site list s ≡ asked_by asks all s && is_there P s
 

@@ -1,4 +1,4 @@
--- What stands for an operand.
+-- The resolved form of an operand.
 use Rattle.std.proofs.Common.{◌≡◌, ℕ, List, Some, sym, ap, ◌∙◌, subst}
 use Rattle.hip_tree.specs.declared.instr.Operand as named
 use Rattle.hip_tree.specs.declared.instr.Operand.TheVariants.{Fixed}

@@ -102,7 +102,8 @@ module _ (Texts : Program → Input → Findings → Answer → Type 0) (files :
   untraced_carried : (a b : Answer) → Untraced files p t a → Carried Texts files p t b → ⊥
   untraced_carried a b u d =
       let programs_are = one.programs d.program u.program d.loaded u.loaded in
-      never_both files t u.program u.why d.input u.cause (subst (λ Q. IsTraceFile files t Q d.input) programs_are d.traced)
+      never_both files t u.program u.why d.input u.cause
+      (subst (λ Q. IsTraceFile files t Q d.input) programs_are d.traced)
 
   module _ (alike : (P : Program) (I : Input) (found : Findings) (a b : Answer) → Texts P I found a
       → Texts P I found b → a ≡ b) where

@@ -204,11 +204,17 @@ main-is body =
     ++ (((flat_map line body ++ (codes "  ret i32 " ++ (c ++ codes "\n"))) ++ []) ++ codes "}\n"))
     (int-is (bits W32 0) ∙ decimal_digit 0 (omega arith))
 
+-- the declaration of the flush, and the function `put`
+abbrev put_text : List ℕ
+put_text =
+    codes "declare void @llvm.x86.clwb(ptr)\ndefine void @put(ptr %p, i64 %v) {\n"
+    ++ codes "entry:\n  store i64 %v, ptr %p\n  ret void\n}\n"
+
 -- the text between the number of elements and the groups
 abbrev middle : List ℕ
 middle =
-    codes
-    " x i64] zeroinitializer, section \".pm\"\n@temp = global [8 x i64] zeroinitializer\ndeclare void @llvm.x86.clwb(ptr)\ndefine void @put(ptr %p, i64 %v) {\nentry:\n  store i64 %v, ptr %p\n  ret void\n}\ndefine i32 @main() {\nentry:\n"
+    codes " x i64] zeroinitializer, section \".pm\"\n@temp = global [8 x i64] zeroinitializer\n"
+    ++ (put_text ++ codes "define i32 @main() {\nentry:\n")
 
 five : (a b c d e : List ℕ) → (((a ++ b) ++ c) ++ d) ++ e ≡ a ++ (b ++ (c ++ (d ++ e)))
 five a b c d e = simp append_assoc
@@ -220,8 +226,7 @@ last_joined groups r c = append-nil _ ∙ ap (λ t. t ++ c) (append-nil (groups 
 all_joined : (d groups : List ℕ) →
     ((codes "@data = global [" ++ ((d ++ codes " x i64]") ++ codes " zeroinitializer, section \".pm\"\n"))
     ++ codes "@temp = global [8 x i64] zeroinitializer\n")
-    ++ (codes
-    "declare void @llvm.x86.clwb(ptr)\ndefine void @put(ptr %p, i64 %v) {\nentry:\n  store i64 %v, ptr %p\n  ret void\n}\n"
+    ++ (put_text
     ++ ((codes "define i32 @main() {\nentry:\n" ++ (((groups ++ codes "  ret i32 0\n") ++ []) ++ codes "}\n"))
     ++ [])) ≡
     (codes "@data = global [" ++ (d ++ middle)) ++ (groups ++ last_lines)
@@ -236,9 +241,7 @@ program-is : (size : ℕ) (body : List Instr)
     → show (program_of size body) ≡ first_lines size ++ (flat_map line body ++ last_lines)
 program-is size body =
     ap₂
-    (λ (g m : List ℕ). g
-    ++ (codes
-    "declare void @llvm.x86.clwb(ptr)\ndefine void @put(ptr %p, i64 %v) {\nentry:\n  store i64 %v, ptr %p\n  ret void\n}\n" ++ (m ++ [])))
+    (λ (g m : List ℕ). g ++ (put_text ++ (m ++ [])))
     (ap₂ (λ (a b : List ℕ). a ++ (b ++ [])) (data-is size) temp-is) (main-is body)
     ∙ all_joined (decimal size) (flat_map line body)
 

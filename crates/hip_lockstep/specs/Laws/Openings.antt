@@ -507,4 +507,5 @@ image_within {P} {start} {r} {s} {given} {lockstep} h =
 
 pub stopped_after_header : {P : Program} {start : CabinetState} {r : ReaderState} {s : CabinetState} {given : Input}
     {lockstep : Lockstep} → HasAllGiven P start r s given lockstep → HasStoppedReplay start s
-stopped_after_header {P} {start} {r} {s} {given} {lockstep} h = stopped_after start r s (h.entries ++ lockstep.next ∷ []) h.read
+stopped_after_header {P} {start} {r} {s} {given} {lockstep} h =
+    stopped_after start r s (h.entries ++ lockstep.next ∷ []) h.read

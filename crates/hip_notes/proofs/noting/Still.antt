@@ -1,4 +1,4 @@
--- The notes after a step of which nothing is to be noted but that it was taken.
+-- The notes after a step of which nothing is noted except that it was taken.
 use Rattle.std.proofs.Common.{◌≡◌, ℕ, suc, ◌+◌, ◌-◌, true, false, cond, nat_eq, nat_lt, List, [], ◌∷◌, ◌++◌, length, map, drop, take, Option, Some, None, refl, sym, ap, ap₂, ◌∙◌, subst, arith}
 use Rattle.std.proofs.lemmas.Bool.Decides.{nat_tests}
 use Rattle.hip_types.specs.Distinct.{met}
@@ -100,7 +100,7 @@ nothing_hit events.Fence s P I hs = refl
 nothing_hit (events.Assert a n) s P I hs = refl
 nothing_hit (events.End x) s P I hs = refl
 
--- a step of which nothing is seen but what it prints has no entry
+-- a step that shows nothing except what it prints has no entry
 pub still_counted : (e : Event) → is_still e ≡ true → (c : Notes)
     → record c { steps = c.steps + 1 } ≡ record c { steps = c.steps + 1; entries = cond (has_entry e) (c.entries + 1) c.entries; fence = cond (fences e) (Some c.steps) c.fence }
 still_counted events.Quiet s c = refl

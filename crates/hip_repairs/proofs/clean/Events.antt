@@ -155,7 +155,7 @@ module _ (P : Program) (plan : Plan) (skip : Site → Bool) (I : Input) (good : 
     abbrev event_by' : Option End → List Instr → Event
     event_by' o is = event_at I w fs' (deed_of (repaired P plan skip) I w (length fs') frame' o is)
 
-    -- what is wanted of an event of the repaired program, where it stands at an inserted instruction or not
+    -- how an event of the repaired program relates to the program's, at an inserted instruction and elsewhere
     abbrev Suits : Bool → Event → Event → Type 0
     Suits inserted x x' = (inserted ≡ true → checked_by I x' ≡ None) × (inserted ≡ false → x' ≡ x)
 

@@ -1,4 +1,4 @@
--- What stands for a function in the repaired program is a copy of it with flushes and fences inserted.
+-- What takes a function's place in the repaired program is a copy of it with flushes and fences inserted.
 use Rattle.std.proofs.Common.{◌≡◌, ℕ, suc, ◌≤◌, Bool, true, false, cond, not, ◌&&◌, ◌||◌, List, [], ◌∷◌, ◌++◌, length, Option, Some, slice_get, refl}
 use Rattle.hip_types.specs.declared.number.Scalar.{Scalar}
 use Rattle.hip_tree.specs.declared.block.Block.{Block}

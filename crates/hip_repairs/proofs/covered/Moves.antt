@@ -128,7 +128,7 @@ pub data Moves (Q : Program) (f : Frame) (fs : List Frame) : List Frame → Opti
   enters : {o : Option Ending} (h : Frame) → IsCallOf Q h.function (instr_here Q f) → h.place ≡ 0 → Moves Q f fs (h ∷ next f ∷ fs) o
   returns : {o : Option Ending} (g : Frame) (gs : List Frame) (dest : Option (List ℕ)) (v : ℕ) → fs ≡ g ∷ gs → Moves Q f fs (with_register dest v g ∷ gs) o
 
--- the lines had this part before, perhaps not yet met by a flush or a fence
+-- the lines had this part before, though a flush or a fence may have met it since
 pub record IsOld (ls : Lines) (x : StorePart) : Type 0 where
   pub part : StorePart
   pub there : PartOf ls part

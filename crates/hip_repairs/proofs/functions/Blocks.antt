@@ -1,4 +1,5 @@
--- The blocks of a function, and of what stands for it in the repaired program: the same labels, phis and ends, and the repaired body.
+-- The blocks of a function, and of what takes its place in the repaired program: the same labels, phis and ends, and
+-- the repaired body.
 use Rattle.std.proofs.Common.{◌≡◌, ℕ, zero, suc, ◌+◌, Bool, List, [], ◌∷◌, map, Option, Some, None, slice_get, option_map, refl, ap, ap₂, ◌∙◌, arith}
 use Rattle.hip_tree.specs.declared.block.Block.{Block}
 use Rattle.hip_tree.specs.declared.block.End.{End}

@@ -1,4 +1,4 @@
--- Functions of a program and what stands for them in the repaired program.
+-- Functions of a program and what takes their place in the repaired program.
 use Rattle.std.proofs.Common.{◌≡◌, ℕ, ◌+◌, ◌<◌, Bool, true, false, List, length, Some, None, slice_get}
 use Rattle.hip_tree.specs.declared.program.Function.{Function}
 use Rattle.hip_tree.specs.declared.program.Program.{Program}

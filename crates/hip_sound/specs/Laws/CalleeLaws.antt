@@ -23,7 +23,9 @@ number_free P s callee g named = go (slice_get P.functions g) refl
     go : (o : Option Function) → slice_get P.functions g ≡ o → call_of callee ≡ None
     go None e =
         absurd
-        (let no : None ≡ Some callee = sym (ap (option_map (λ (f : Function). f.name)) e) ∙ there in let z : ⊥ = cc in z)
+        (let no : None ≡ Some callee = sym (ap (option_map (λ (f : Function). f.name)) e) ∙ there in
+        let z : ⊥ = cc in
+        z)
     go (Some f) e =
         let same : f.name ≡ callee = same_Some _ _ (sym (ap (option_map (λ (h : Function). h.name)) e) ∙ there) in
         subst (λ n. call_of n ≡ None) same

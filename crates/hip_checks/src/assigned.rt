@@ -46,9 +46,9 @@ fn is_there(point: Point, after: usize) -> bool
 
 /// A function with the names in it and the paths through it.
 #[derive(Clone, Copy)]
-pub struct Body<'a> {
+pub struct Body<'a, 'n> {
     pub function: &'a Function,
-    pub names: &'a InnerTable<'a>,
+    pub names: &'a InnerTable<'n>,
     pub paths: &'a Paths<'a>,
     pub alloc: Global,
 }
@@ -79,7 +79,7 @@ fn to_pass(count: usize, block: usize, point: Point, inner: Option<Inner>) -> Op
 
 /// The use of a register at a point of a block is assigned on every path.
 fn check_use(
-    body: &Body<'_>,
+    body: &Body<'_, '_>,
     place: Place,
     block: usize,
     point: Point,
@@ -102,7 +102,7 @@ fn check_use(
 
 /// The register of an operand is assigned on every path to the point.
 pub fn check_operand(
-    body: &Body<'_>,
+    body: &Body<'_, '_>,
     place: Place,
     block: usize,
     point: Point,
@@ -122,7 +122,7 @@ pub fn check_operand(
 
 /// The same for an operand, if the place has one.
 fn check_one(
-    body: &Body<'_>,
+    body: &Body<'_, '_>,
     place: Place,
     block: usize,
     point: Point,
@@ -142,7 +142,7 @@ fn check_one(
 
 /// The same for arguments.
 fn check_args(
-    body: &Body<'_>,
+    body: &Body<'_, '_>,
     place: Place,
     block: usize,
     point: Point,
@@ -165,7 +165,7 @@ fn check_args(
 
 /// The same for all that a place uses.
 pub fn check_uses(
-    body: &Body<'_>,
+    body: &Body<'_, '_>,
     place: Place,
     block: usize,
     point: Point,

@@ -74,12 +74,12 @@ fn stores_by(volatile: &NameSet<'_>, allocated: &NameSet<'_>, instr: &Instr) -> 
 /// The test for such stores: the volatile globals, and the registers that the `alloca` instructions of one function
 /// assign.
 #[derive(Clone, Copy)]
-struct DirectTest<'a> {
-    volatile: &'a NameSet<'a>,
-    allocated: &'a NameSet<'a>,
+struct DirectTest<'a, 'g, 'r> {
+    volatile: &'a NameSet<'g>,
+    allocated: &'a NameSet<'r>,
 }
 
-impl InstrTest for DirectTest<'_> {
+impl InstrTest for DirectTest<'_, '_, '_> {
     ghost test = { λ t i. stores_by t.volatile.now t.allocated.now i };
 
     ghost takes = { λ t i. Unit {0} };

@@ -19,7 +19,7 @@ use hip_types::{Row, Scalar};
 use std::alloc::Global;
 
 /// The operand of a phi's edge is assigned on every path to the end of the predecessor.
-fn check_edge(body: &Body<'_>, place: Place, ty: Scalar, edge: &Edge) -> Result<(), NotAssigned>
+fn check_edge(body: &Body<'_, '_>, place: Place, ty: Scalar, edge: &Edge) -> Result<(), NotAssigned>
     requires { Describes body.now.function.now body.now.names.now.names body.now.names.now.values body.now.paths.now }
     ensures { AnswersUses body.now.function.now result
         (edge_register_uses body.now.function.now.blocks place ty edge.now) }
@@ -31,7 +31,7 @@ fn check_edge(body: &Body<'_>, place: Place, ty: Scalar, edge: &Edge) -> Result<
 }
 
 /// The operands of a phi are assigned in this way.
-fn check_phi(body: &Body<'_>, place: Place, phi: &Phi) -> Result<(), NotAssigned>
+fn check_phi(body: &Body<'_, '_>, place: Place, phi: &Phi) -> Result<(), NotAssigned>
     requires { Describes body.now.function.now body.now.names.now.names body.now.names.now.values body.now.paths.now }
     ensures { AnswersUses body.now.function.now result (phi_register_uses body.now.function.now.blocks place phi.now) }
 {
@@ -47,7 +47,7 @@ fn check_phi(body: &Body<'_>, place: Place, phi: &Phi) -> Result<(), NotAssigned
 
 /// The operands of a block's phis are assigned in this way.
 fn check_phis(
-    body: &Body<'_>,
+    body: &Body<'_, '_>,
     function: usize,
     block: usize,
     phis: &Row<Phi>,
@@ -74,7 +74,7 @@ fn check_phis(
 }
 
 /// What an instruction uses is assigned on every path to it.
-fn check_instr(body: &Body<'_>, site: Site, instr: &Instr) -> Result<(), NotAssigned>
+fn check_instr(body: &Body<'_, '_>, site: Site, instr: &Instr) -> Result<(), NotAssigned>
     requires body { Describes body.now.function.now
         body.now.names.now.names body.now.names.now.values body.now.paths.now }
     requires block { site.block < length body.now.function.now.blocks }
@@ -93,7 +93,7 @@ fn check_instr(body: &Body<'_>, site: Site, instr: &Instr) -> Result<(), NotAssi
 
 /// What the instructions of a block use is assigned in this way.
 fn check_instrs(
-    body: &Body<'_>,
+    body: &Body<'_, '_>,
     function: usize,
     block: usize,
     instrs: &Row<Instr>,
@@ -120,7 +120,12 @@ fn check_instrs(
 }
 
 /// What the end of a block uses is assigned on every path to it.
-fn check_end(body: &Body<'_>, function: usize, block: usize, end: &End) -> Result<(), NotAssigned>
+fn check_end(
+    body: &Body<'_, '_>,
+    function: usize,
+    block: usize,
+    end: &End,
+) -> Result<(), NotAssigned>
     requires body { Describes body.now.function.now
         body.now.names.now.names body.now.names.now.values body.now.paths.now }
     requires block { block < length body.now.function.now.blocks }
@@ -138,7 +143,7 @@ fn check_end(body: &Body<'_>, function: usize, block: usize, end: &End) -> Resul
 
 /// What a block uses is assigned in this way: by its phis, its instructions, its end.
 fn check_block(
-    body: &Body<'_>,
+    body: &Body<'_, '_>,
     function: usize,
     number: usize,
     block: &Block,
@@ -159,7 +164,7 @@ fn check_block(
 }
 
 /// What a function uses is assigned in this way, block by block.
-fn check_blocks(body: &Body<'_>, function: usize) -> Result<(), NotAssigned>
+fn check_blocks(body: &Body<'_, '_>, function: usize) -> Result<(), NotAssigned>
     requires { Describes body.now.function.now body.now.names.now.names body.now.names.now.values body.now.paths.now }
     ensures { AnswersUses body.now.function.now result (register_uses function body.now.function.now) }
 {

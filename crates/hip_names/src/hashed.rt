@@ -12,7 +12,7 @@ const MOST: usize = 1 << 62;
 /// Names that differ, numbered from 0 in the order of insertion and found by their hashes.
 #[derive(Drop)]
 pub struct HashedNames<'a> {
-    // None without names: an empty hash table takes 112 bytes, and this takes 16.
+    // None until it holds names, or room for them: an empty hash table takes 112 bytes, and this takes 16.
     names: Option<Box<IndexSet<&'a [u8]>>>,
 }
 
@@ -41,6 +41,28 @@ fn insert_into<'a>(names: &mut IndexSet<&'a [u8]>, name: &'a [u8]) -> Result<boo
     }
     match names.insert(name) {
         Ok(is_new) => Ok(is_new),
+        Err(_) => Err(NoMemory),
+    }
+}
+
+// Takes the memory that further names need.
+fn reserve_in(names: &mut IndexSet<&[u8]>, more: usize) -> Result<(), NoMemory>
+    ensures { names.new.keys ≡ names.old.keys }
+{
+    match names.reserve(more) {
+        Ok(()) => Ok(()),
+        Err(_) => Err(NoMemory),
+    }
+}
+
+// A set of no names with the memory that some need.
+fn room_for<'a>(alloc: Global, count: usize) -> Result<Box<IndexSet<&'a [u8]>>, NoMemory>
+    ensures { IfOk result (λ names. names.value.keys ≡ []) }
+{
+    let mut names = IndexSet::new(alloc);
+    reserve_in(&mut names, count)?;
+    match Box::new(alloc, names) {
+        Ok(names) => Ok(names),
         Err(_) => Err(NoMemory),
     }
 }
@@ -77,6 +99,19 @@ impl<'a> HashedNames<'a> {
             None => {
                 self.names = Some(set_of(alloc, name)?);
                 Ok(true)
+            }
+        }
+    }
+
+    /// Takes the memory that `more` further names need. The names stay as they are.
+    pub(crate) fn reserve(&mut self, alloc: Global, more: usize) -> Result<(), NoMemory>
+        ensures { self.new ≡ self.old }
+    {
+        match &mut self.names {
+            Some(names) => reserve_in(names, more),
+            None => {
+                self.names = Some(room_for(alloc, more)?);
+                Ok(())
             }
         }
     }

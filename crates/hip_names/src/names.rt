@@ -84,6 +84,16 @@ impl<'a> NameSet<'a> {
         self.more.insert(self.alloc, name)
     }
 
+    /// Takes the memory that `more` further names need. The names stay as they are.
+    pub fn reserve(&mut self, more: usize) -> Result<(), NoMemory>
+        ensures { self.new ≡ self.old }
+    {
+        if more <= FEW {
+            return Ok(());
+        }
+        self.more.reserve(self.alloc, more)
+    }
+
     /// The number of names.
     pub fn len(&self) -> usize
         ensures length { result ≡ length self.now }

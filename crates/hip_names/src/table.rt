@@ -25,6 +25,15 @@ impl<'a, V> NameTable<'a, V> {
 }
 
 impl<'a, V: Copy> NameTable<'a, V> {
+    /// Takes the memory that `more` further names need. The table stays as it is.
+    pub fn reserve(&mut self, more: usize) -> Result<(), NoMemory>
+        ensures names { self.new.names ≡ self.old.names }
+        ensures values { self.new.values ≡ self.old.values }
+    {
+        self.values.reserve(more)?;
+        self.names.reserve(more)
+    }
+
     /// The value of a name.
     pub fn get(&self, name: &[u8]) -> Option<V>
         ensures { result ≡ value_beside self.now.names self.now.values name.now }

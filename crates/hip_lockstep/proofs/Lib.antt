@@ -3,3 +3,4 @@ pub mod Meets
 pub mod Going
 pub mod Rooms
 pub mod Quietly
+pub mod StepEntries

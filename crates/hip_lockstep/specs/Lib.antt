@@ -5,3 +5,4 @@ pub mod Opening
 pub mod Reading
 pub mod Refusals
 pub mod Laws
+pub mod Usuals

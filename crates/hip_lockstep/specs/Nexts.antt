@@ -35,6 +35,13 @@ ReadsEntry count r r' s s' (Err (refusals.Misfit entry Extra)) = ⊥
 ReadsEntry count r r' s s' (Err refusals.ReadFault) = HasFailed r r' s s'
 ReadsEntry count r r' s s' (Err refusals.NoMemory) = ⊥
 
+-- an entry after n others, which is kept, or the cause why there is none
+abbrev pub KeepsEntry : ℕ → ReaderState → ReaderState → CabinetState → CabinetState → Entry
+    → Result (Unit {0}) ReplayRefusal
+    → Type 0
+KeepsEntry count r r' s s' kept (Ok _) = HasNext r r' s s' kept
+KeepsEntry count r r' s s' kept (Err refusal) = ReadsEntry count r r' s s' (Err refusal)
+
 -- some entry was read where the file should have ended
 abbrev pub HasMore : ReaderState → ReaderState → CabinetState → CabinetState → Type 0
 HasMore r r' s s' = (e : Entry) × HasNext r r' s s' e

@@ -4,11 +4,12 @@ ghost use Rattle.std.specs.Prelude.{◌≡◌, IfOk, length};
 ghost use Rattle.hip_io.specs.Sinks.{Wrote};
 ghost use Rattle.hip_run_traces.specs.Traces.{entry_list, entry_of_ending, entry_of_event, trap_word};
 ghost use Rattle.hip_runs.specs.Outputs.{ending_by};
-ghost use Rattle.hip_trace.specs.Texts.{lines_of};
+ghost use Rattle.hip_trace.specs.Texts.{line_of, lines_of};
+ghost use Rattle.hip_lockstep.specs.Usuals.{usual_of};
 
 use hip_io::{Sink, WriteFault};
 use hip_runs::{Ending, Event, TrapKind};
-use hip_trace::{Entry, TrapWord, write_entry};
+use hip_trace::{Entry, TrapWord, Usual, write_entry, write_usual};
 
 /// How the run has ended in a step with this event, if it has.
 #[inline(always)]
@@ -37,7 +38,7 @@ fn trap_word(kind: TrapKind) -> TrapWord
     }
 }
 
-fn entry_of_ending(ending: Ending) -> Entry
+pub(crate) fn entry_of_ending(ending: Ending) -> Entry
     ensures { result ≡ entry_of_ending ending }
 {
     match ending {
@@ -49,19 +50,18 @@ fn entry_of_ending(ending: Ending) -> Entry
     }
 }
 
-// The entry of a step with this event, if it has one.
-pub(crate) fn entry_of_event(event: Event) -> Option<Entry>
-    ensures { result ≡ entry_of_event event }
+// The entry of a step with this event, if it has one and does not end the run.
+#[inline(always)]
+pub(crate) fn usual_of(event: Event) -> Option<Usual>
+    ensures { result ≡ usual_of event }
 {
     match event {
-        Event::Quiet => None,
-        Event::Print(_) => None,
-        Event::Store { addr, value, size } => Some(Entry::Store { addr, value, size }),
-        Event::Flush { line, size } => Some(Entry::Flush { addr: line, size }),
-        Event::Persist { line, size } => Some(Entry::Persist { addr: line, size }),
-        Event::Fence => Some(Entry::Fence),
-        Event::Assert { addr, size } => Some(Entry::Assert { addr, size }),
-        Event::End(ending) => Some(entry_of_ending(ending)),
+        Event::Store { addr, value, size } => Some(Usual::Store { addr, value, size }),
+        Event::Flush { line, size } => Some(Usual::Flush { addr: line, size }),
+        Event::Persist { line, size } => Some(Usual::Persist { addr: line, size }),
+        Event::Fence => Some(Usual::Fence),
+        Event::Assert { addr, size } => Some(Usual::Assert { addr, size }),
+        _ => None,
     }
 }
 
@@ -71,11 +71,25 @@ pub fn put_entry<S: Sink>(event: Event, out: &mut S) -> Result<u128, WriteFault>
     ensures wrote { Wrote (S.state out.old) (S.state out.new) (lines_of (entry_list (entry_of_event event))) result }
     ensures count { IfOk result (λ n. n ≡ length (entry_list (entry_of_event event))) }
 {
-    match entry_of_event(event) {
-        None => Ok(0),
-        Some(entry) => match write_entry(&entry, out) {
+    match usual_of(event) {
+        Some(usual) => match write_usual(usual, out) {
             Ok(()) => Ok(1),
             Err(fault) => Err(fault),
         },
+        None => match ending_of(event) {
+            Some(ending) => put_ending(ending, out),
+            None => Ok(0),
+        },
+    }
+}
+
+// Writes the entry of the step that ends the run.
+fn put_ending<S: Sink>(ending: Ending, out: &mut S) -> Result<u128, WriteFault>
+    ensures wrote { Wrote (S.state out.old) (S.state out.new) (line_of (entry_of_ending ending)) result }
+    ensures count { IfOk result (λ n. n ≡ 1) }
+{
+    match write_entry(&entry_of_ending(ending), out) {
+        Ok(()) => Ok(1),
+        Err(fault) => Err(fault),
     }
 }

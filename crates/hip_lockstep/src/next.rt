@@ -1,13 +1,13 @@
 //! The next entry of a trace.
 
 ghost use Rattle.std.specs.Prelude.{◌≡◌, ◌+◌, ◌<◌, ◌^◌, IsTrue};
-ghost use Rattle.hip_lockstep.specs.Nexts.{EndsHere, FindsEntry, ReadsEnd, ReadsEntry};
+ghost use Rattle.hip_lockstep.specs.Nexts.{EndsHere, FindsEntry, KeepsEntry, ReadsEnd, ReadsEntry};
 ghost use Rattle.hip_trace.specs.declared.refusal.Progress.TheVariants.{Reading};
 
 use crate::refusal::ReplayRefusal;
 use hip_io::Cabinet;
 use hip_run_traces::MisfitKind;
-use hip_trace::{Entry, Reader, TraceRefusal};
+use hip_trace::{Entry, KeptEntry, Reader, TraceRefusal};
 
 // The entry that was read after n others, or why there is none.
 fn found(count: u128, next: Result<Option<Entry>, TraceRefusal>) -> Result<Entry, ReplayRefusal>
@@ -43,6 +43,34 @@ pub(crate) fn next_entry<C: Cabinet>(
 {
     let next = reader.next(cabinet);
     found(count, next)
+}
+
+// Reads the entry after n others, and keeps it.
+pub(crate) fn read_next<C: Cabinet>(
+    count: u128,
+    next: &mut KeptEntry,
+    reader: &mut Reader,
+    cabinet: &mut C,
+) -> Result<(), ReplayRefusal>
+    requires room { count + 1 < 2 ^ 128 }
+    requires current { IsTrue (C.state cabinet.old).is_current }
+    requires reading { reader.old.progress ≡ Reading }
+    ensures read { KeepsEntry count reader.old reader.new (C.state cabinet.old) (C.state cabinet.new) next.new result }
+    ensures current { IsTrue (C.state cabinet.new).is_current }
+{
+    match reader.next_usual() {
+        Some(usual) => {
+            next.set_usual(usual);
+            Ok(())
+        }
+        None => match next_entry(count, reader, cabinet) {
+            Ok(entry) => {
+                next.set(entry);
+                Ok(())
+            }
+            Err(refusal) => Err(refusal),
+        },
+    }
 }
 
 // Whether nothing was read after n entries.

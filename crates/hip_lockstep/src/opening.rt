@@ -19,7 +19,7 @@ use hip_io::Cabinet;
 use hip_run_traces::MisfitKind;
 use hip_runs::{Input, MOST_TURNS};
 use hip_sound::Checked;
-use hip_trace::{Entry, Reader};
+use hip_trace::{Entry, KeptEntry, Reader};
 use hip_types::Row;
 use std::alloc::Global;
 
@@ -131,7 +131,12 @@ fn read_values<C: Cabinet>(
         };
         match given.take(checked, size, &next) {
             Ok(true) => entries += 1,
-            Ok(false) => return Ok(Lockstep { next, entries }),
+            Ok(false) => {
+                return Ok(Lockstep {
+                    next: KeptEntry::new(next),
+                    entries,
+                });
+            }
             Err(_) => return Err(ReplayRefusal::NoMemory),
         }
     }

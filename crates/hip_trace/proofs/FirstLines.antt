@@ -20,7 +20,8 @@ use Rattle.hip_trace.specs.Entries.{fields, entry_by, entry_of, store, flush, pe
 use Rattle.hip_trace.specs.Fronts.{answers_piece}
 use Rattle.hip_trace.specs.Laws.PieceLaws.{cut_at, first_none}
 use Rattle.hip_trace.specs.Laws.TextLaws.{IsPlain, digits_plain, fields_plain, fields_with}
-use Rattle.hip_trace.specs.Lines.{HasDigits, HasField, HasEntry, IsFirstLine, usual_entry}
+use Rattle.hip_trace.specs.Lines.{HasDigits, HasField, HasEntry, IsFirstLine}
+use Rattle.hip_trace.specs.Usuals.{usual_entry}
 use Rattle.hip_trace.specs.Pieces.{is_separator}
 use Rattle.hip_trace.specs.Reads.{ReaderState, ReadsOn, one_more}
 use Rattle.hip_trace.specs.declared.front.Front.TheVariants as fronts

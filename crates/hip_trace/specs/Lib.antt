@@ -7,3 +7,4 @@ pub mod Pieces
 pub mod Reads
 pub mod Seen
 pub mod Texts
+pub mod Usuals

@@ -8,10 +8,8 @@ use Rattle.hip_trace.specs.Entries.{entry_by, entry_of, fields}
 use Rattle.hip_trace.specs.Laws.TextLaws.{IsPlain}
 use Rattle.hip_trace.specs.Pieces.{is_separator}
 use Rattle.hip_trace.specs.declared.entry.Entry.{Entry}
-use Rattle.hip_trace.specs.declared.entry.Entry.TheVariants.{Store, Flush, Fence, Persist, Assert}
 use Rattle.hip_trace.specs.declared.line.Line.{Line}
-use Rattle.hip_trace.specs.declared.line.Usual.{Usual}
-use Rattle.hip_trace.specs.declared.line.Usual.TheVariants as usuals
+use Rattle.hip_trace.specs.Usuals.{usual_entry}
 
 -- Hexadecimal digits of a number come first.
 pub record HasDigits (bytes : List ℕ) (number : ℕ) (rest : List ℕ) : Type 0 where
@@ -34,14 +32,6 @@ pub record HasEntry (bytes : List ℕ) (entry : Entry) (rest : List ℕ) : Type 
   pub whole : bytes ≡ text ++ rest
   pub is : entry_by (fields text) ≡ Some entry
   pub inner : list_any is_separator text ≡ false
-
--- the entry of a usual line
-abbrev pub usual_entry : Usual → Entry
-usual_entry (usuals.Store addr value size) = Store addr value size
-usual_entry (usuals.Flush addr size) = Flush addr size
-usual_entry usuals.Fence = Fence
-usual_entry (usuals.Persist addr size) = Persist addr size
-usual_entry (usuals.Assert addr size) = Assert addr size
 
 -- The piece that comes first spells an entry.
 pub record IsFirstLine (bytes : List ℕ) (line : Line) : Type 0 where

@@ -10,6 +10,8 @@ use Rattle.hip_trace.specs.declared.entry.Entry.{Entry}
 use Rattle.hip_trace.specs.declared.refusal.TraceRefusal.{TraceRefusal}
 use Rattle.hip_trace.specs.declared.refusal.TraceRefusal.TheVariants.{Malformed, ReadFault}
 use Rattle.hip_trace.specs.declared.refusal.Progress.{Progress}
+use Rattle.hip_trace.specs.declared.usual.Usual.{Usual}
+use Rattle.hip_trace.specs.Usuals.{usual_entry}
 use Rattle.hip_trace.specs.declared.refusal.Progress.TheVariants.{Reading, Ended, Refused}
 
 -- The bytes that a reader holds, how many texts of entries it has begun, and whether it has come to an end.
@@ -93,6 +95,10 @@ pub record HasNext (r r' : ReaderState) (s s' : CabinetState) (e : Entry) : Type
   pub entries : entries_left r s ≡ option_map (λ es. Some e ∷ es) (entries_left r' s')
   pub count : r'.count ≡ one_more r.count
   pub progress : r'.progress ≡ Reading
+
+-- The first piece ahead, which was held with its separator, spells a usual entry; no cabinet was called.
+abbrev pub HasUsual : ReaderState → ReaderState → Usual → Type 0
+HasUsual r r' usual = (s : CabinetState) → s.is_current ≡ true → HasNext r r' s s (usual_entry usual)
 
 -- Nothing was ahead, and the current file is read to its end.
 pub record HasNone (r r' : ReaderState) (s s' : CabinetState) : Type 0 where

@@ -11,6 +11,7 @@ mod numbers;
 mod reader;
 mod refusal;
 mod spelled;
+mod usual;
 mod write;
 
 pub use entry::{Entry, TrapWord};
@@ -20,4 +21,5 @@ pub use laws::{
 };
 pub use reader::Reader;
 pub use refusal::TraceRefusal;
-pub use write::write_entry;
+pub use usual::{KeptEntry, Usual};
+pub use write::{write_entry, write_usual};

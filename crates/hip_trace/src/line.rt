@@ -3,41 +3,17 @@
 
 ghost use Rattle.std.specs.Prelude.{◌≡◌, ◌<◌, ◌++◌, codes, IfSome};
 ghost use Rattle.std.specs.Char.{digit_value};
-ghost use Rattle.hip_trace.specs.Lines.{HasDigits, HasEntry, HasField, IsFirstLine, usual_entry};
+ghost use Rattle.hip_trace.specs.Lines.{HasDigits, HasEntry, HasField, IsFirstLine};
+ghost use Rattle.hip_trace.specs.Usuals.{usual_entry};
 
-use crate::entry::Entry;
 use crate::spelled::{some_lines, store_size};
-
-/// An entry of a usual line. It takes less room than any `Entry`, which may be an image.
-#[derive(Clone, Copy)]
-pub(crate) enum Usual {
-    Store { addr: u64, value: u64, size: u32 },
-    Flush { addr: u64, size: u64 },
-    Fence,
-    Persist { addr: u64, size: u64 },
-    Assert { addr: u64, size: u64 },
-}
+use crate::usual::Usual;
 
 /// A usual line: its entry, and how many bytes its text has.
 #[derive(Clone, Copy)]
 pub(crate) struct Line {
     pub usual: Usual,
     pub len: usize,
-}
-
-impl Usual {
-    #[inline(always)]
-    pub(crate) fn entry(self) -> Entry
-        ensures { result ≡ usual_entry self }
-    {
-        match self {
-            Usual::Store { addr, value, size } => Entry::Store { addr, value, size },
-            Usual::Flush { addr, size } => Entry::Flush { addr, size },
-            Usual::Fence => Entry::Fence,
-            Usual::Persist { addr, size } => Entry::Persist { addr, size },
-            Usual::Assert { addr, size } => Entry::Assert { addr, size },
-        }
-    }
 }
 
 // For each byte, the digit that it is to base 16, in lower case, or 16 if it is none.

@@ -1,8 +1,8 @@
 //! The entries of a file, one after the other.
 
-ghost use Rattle.std.specs.Prelude.{◌≡◌, ◌+◌, ◌≤◌, ◌<◌, [], drop, length, IsTrue};
+ghost use Rattle.std.specs.Prelude.{◌≡◌, ◌+◌, ◌≤◌, ◌<◌, [], None, drop, length, IfSome, IsTrue};
 ghost use Rattle.hip_trace.specs.Fronts.{AnswersFront, AnswersPiece, IsFrontOf};
-ghost use Rattle.hip_trace.specs.Reads.{ReadsNext, ReadsOn, TakesAtNeed, one_more};
+ghost use Rattle.hip_trace.specs.Reads.{HasUsual, ReadsNext, ReadsOn, TakesAtNeed, one_more};
 ghost use Rattle.hip_trace.specs.declared.refusal.Progress.TheVariants.{Reading};
 
 use crate::entry::Entry;
@@ -11,6 +11,7 @@ use crate::held::Held;
 use crate::line::first_line;
 use crate::refusal::{Progress, TraceRefusal};
 use crate::spelled::entry_of;
+use crate::usual::Usual;
 use hip_io::Cabinet;
 use std::marker::Model;
 
@@ -64,7 +65,23 @@ impl Reader {
         }
     }
 
-    // Reads a whole line that is held already; `read_on` reads all else.
+    /// The entry of the first line, if the reader holds the whole line and some bytes after it, and the line is the
+    /// canonical text of a usual entry. `next` answers the same entry, and reads all other lines too.
+    pub fn next_usual(&mut self) -> Option<Usual>
+        requires { self.old.progress ≡ Reading }
+        ensures read { IfSome result (λ usual. HasUsual self.old self.new usual) }
+        ensures left { result ≡ None → self.new ≡ self.old }
+    {
+        match first_line(self.held.as_slice()) {
+            Some(line) => {
+                self.pass(line.len);
+                Some(line.usual)
+            }
+            None => None,
+        }
+    }
+
+    // Reads a usual line that is held already; `read_on` reads all else.
     fn read_first<C: Cabinet>(&mut self, cabinet: &mut C) -> Result<Option<Entry>, TraceRefusal>
         requires current { IsTrue (C.state cabinet.old).is_current }
         requires reading { self.old.progress ≡ Reading }
@@ -72,11 +89,8 @@ impl Reader {
         ensures takes { TakesAtNeed self.old.held (C.state cabinet.old) (C.state cabinet.new) }
         ensures current { IsTrue (C.state cabinet.new).is_current }
     {
-        match first_line(self.held.as_slice()) {
-            Some(line) => {
-                self.pass(line.len);
-                Ok(Some(line.usual.entry()))
-            }
+        match self.next_usual() {
+            Some(usual) => Ok(Some(usual.entry())),
             None => self.read_on(cabinet),
         }
     }

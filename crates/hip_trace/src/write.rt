@@ -1,14 +1,16 @@
 //! Entries, written in their canonical texts.
 
-ghost use Rattle.std.specs.Prelude.{◌≡◌, ◌+◌, ◌<◌, ◌≤◌, ◌++◌, ◌∷◌, ℕ, [], codes, decimal, drop, false, length};
+ghost use Rattle.std.specs.Prelude.{◌≡◌, ◌+◌, ◌/◌, ◌%◌, ◌<◌, ◌≤◌, ◌++◌, ◌∷◌, ℕ, [], codes, decimal, drop, false, length};
 ghost use Rattle.std.specs.Fmt.{digit_glyph, digits, signed_decimal};
 ghost use Rattle.hex.specs.Hex.{encode_lower};
 ghost use Rattle.hip_io.specs.Sinks.{Wrote};
 ghost use Rattle.hip_num.specs.Texts.{hexadecimal};
 ghost use Rattle.hip_tokens.specs.Bytes.{byte};
 ghost use Rattle.hip_trace.specs.Texts.{line_of, with_fields};
+ghost use Rattle.hip_trace.specs.Usuals.{usual_entry};
 
 use crate::entry::Entry;
+use crate::usual::Usual;
 use hip_io::{Put, Sink, WriteFault};
 use std::marker::Model;
 
@@ -48,6 +50,7 @@ impl EntryLine {
         &self.bytes[self.start..]
     }
 
+    #[inline(always)]
     fn put(&mut self, piece: &[u8])
         requires { length self.old + length piece.now ≤ 256 }
         ensures { self.new ≡ piece.now ++ self.old }
@@ -140,6 +143,22 @@ impl EntryLine {
         self.put(word);
     }
 
+    /// Writes the canonical text of a usual entry.
+    #[inline(always)]
+    #[tactic(auto, unfolding(crate::specs::Texts::text_of))]
+    fn write_usual(&mut self, usual: Usual)
+        requires { self.old ≡ codes "\n" }
+        ensures { self.new ≡ line_of (usual_entry usual) }
+    {
+        match usual {
+            Usual::Store { addr, value, size } => self.write_store(addr, value, u64::from(size)),
+            Usual::Flush { addr, size } => self.write_numbers(b"FLUSH", addr, size),
+            Usual::Fence => self.put(b"FENCE"),
+            Usual::Persist { addr, size } => self.write_numbers(b"PERSIST", addr, size),
+            Usual::Assert { addr, size } => self.write_numbers(b"ASSERT", addr, size),
+        }
+    }
+
     /// Writes the canonical text of an entry.
     #[tactic(auto, unfolding(crate::specs::Texts::text_of))]
     fn write(&mut self, entry: &Entry)
@@ -164,6 +183,7 @@ impl EntryLine {
 }
 
 /// Puts a piece before a place.
+#[inline(always)]
 fn copy_before(bytes: &mut [u8; 256], end: usize, piece: &[u8])
     requires inside { end ≤ 256 }
     requires room { length piece.now ≤ end }
@@ -183,24 +203,53 @@ fn digits_before(bytes: &mut [u8; 256], end: usize, number: u64) -> usize
 {
     let mut at = end - 1;
     let mut rest = number;
-    while rest >= 16 {
-        bytes[at] = hex_digit(rest % 16);
-        rest /= 16;
-        at -= 1;
+    'pairs: while rest >= 256 {
+        let pair = rest % 256;
+        bytes[at] = low_digit(pair);
+        bytes[at - 1] = high_digit(pair);
+        rest /= 256;
+        at -= 2;
     }
-    bytes[at] = hex_digit(rest);
-    at
+    bytes[at] = low_digit(rest);
+    if rest < 16 {
+        return at;
+    }
+    bytes[at - 1] = high_digit(rest);
+    at - 1
 }
 
-/// The digits to base 16, by their values.
-static HEX_DIGITS: [u8; 16] = *b"0123456789abcdef";
+/// The two digits to base 16 of each byte.
+static HEX_PAIRS: [u8; 512] = *b"000102030405060708090a0b0c0d0e0f\
+    101112131415161718191a1b1c1d1e1f\
+    202122232425262728292a2b2c2d2e2f\
+    303132333435363738393a3b3c3d3e3f\
+    404142434445464748494a4b4c4d4e4f\
+    505152535455565758595a5b5c5d5e5f\
+    606162636465666768696a6b6c6d6e6f\
+    707172737475767778797a7b7c7d7e7f\
+    808182838485868788898a8b8c8d8e8f\
+    909192939495969798999a9b9c9d9e9f\
+    a0a1a2a3a4a5a6a7a8a9aaabacadaeaf\
+    b0b1b2b3b4b5b6b7b8b9babbbcbdbebf\
+    c0c1c2c3c4c5c6c7c8c9cacbcccdcecf\
+    d0d1d2d3d4d5d6d7d8d9dadbdcdddedf\
+    e0e1e2e3e4e5e6e7e8e9eaebecedeeef\
+    f0f1f2f3f4f5f6f7f8f9fafbfcfdfeff";
 
 #[inline(always)]
-fn hex_digit(value: u64) -> u8
-    requires { value < 16 }
-    ensures { result ≡ digit_glyph false value }
+fn high_digit(value: u64) -> u8
+    requires { value < 256 }
+    ensures { result ≡ digit_glyph false (value / 16) }
 {
-    HEX_DIGITS[value as usize]
+    HEX_PAIRS[2 * value as usize]
+}
+
+#[inline(always)]
+fn low_digit(value: u64) -> u8
+    requires { value < 256 }
+    ensures { result ≡ digit_glyph false (value % 16) }
+{
+    HEX_PAIRS[2 * value as usize + 1]
 }
 
 /// The 128 hexadecimal digits of a cache line.
@@ -220,7 +269,29 @@ pub fn write_entry<S: Sink>(entry: &Entry, out: &mut S) -> Result<(), WriteFault
 {
     let mut line = EntryLine::new();
     line.write(entry);
-    match out.put(line.as_slice()) {
+    put_line(line.as_slice(), out)
+}
+
+/// Writes the canonical text of a usual entry, with a line feed after it.
+pub fn write_usual<S: Sink>(usual: Usual, out: &mut S) -> Result<(), WriteFault>
+    ensures { Wrote (S.state out.old) (S.state out.new) (line_of (usual_entry usual)) result }
+{
+    match usual {
+        Usual::Fence => put_line(b"FENCE\n", out),
+        _ => {
+            let mut line = EntryLine::new();
+            line.write_usual(usual);
+            put_line(line.as_slice(), out)
+        }
+    }
+}
+
+/// Writes a line that is made.
+#[inline(always)]
+fn put_line<S: Sink>(line: &[u8], out: &mut S) -> Result<(), WriteFault>
+    ensures { Wrote (S.state out.old) (S.state out.new) line.now result }
+{
+    match out.put(line) {
         Put::Done => Ok(()),
         Put::Failed => Err(WriteFault),
     }

@@ -34,9 +34,10 @@ returns-in-Ok-false-clause-read g c = λ start h.
     let small : region_size c.args.checked.now < 2 ^ 64 = let same = c.requires.size in let fits = c.ranges.size in omega (arith, same, fits) in
     let not : Takes (with_entry c.args.checked.now (input_of c.entries.given) (Some c.in-Ok.next)) (input_of c.entries.given) (input_of c.take.new.self) (Ok false) =
     subst (λ b. Takes (with_entry c.args.checked.now (input_of c.entries.given) (Some c.in-Ok.next)) (input_of c.entries.given) (input_of c.take.new.self) (Ok b)) c.in-Ok-false.field-0-test c.in-Ok-false.ensures in
-    subst (λ given. HasAllGiven c.args.checked.now start c.next_entry.new.reader (g.C.Cabinet.state c.next_entry.new.cabinet) given (record { next = c.in-Ok.next; entries = c.entries.entries })) (sym not.1)
+    subst (λ given. HasAllGiven c.args.checked.now start c.next_entry.new.reader (g.C.Cabinet.state c.next_entry.new.cabinet) given (record { next = c.new.result; entries = c.entries.entries })) (sym not.1)
+    (subst (λ next. HasAllGiven c.args.checked.now start c.next_entry.new.reader (g.C.Cabinet.state c.next_entry.new.cabinet) (input_of c.entries.given) (record { next = next; entries = c.entries.entries })) (sym c.new.ensures)
     (value_refused (c.entries.invariant.so_far start h) (count_room c.entries.invariant small)
-    c.next_entry.new.reader (g.C.Cabinet.state c.next_entry.new.cabinet) c.in-Ok.next c.in-Ok.ensures.read not.0)
+    c.next_entry.new.reader (g.C.Cabinet.state c.next_entry.new.cabinet) c.in-Ok.next c.in-Ok.ensures.read not.0))
 
 pub returns-in-Err-take-clause-read : goal.returns-in-Err-take-clause-read
 returns-in-Err-take-clause-read g c = λ start h.

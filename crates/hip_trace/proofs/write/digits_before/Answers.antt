@@ -1,12 +1,11 @@
-use Rattle.std.proofs.Common.{◌+◌, ◌-◌, ◌/◌, ◌^◌, ◌≡◌, ◌<◌, ◌≤◌, ℕ, drop, subst, sym, arith}
-use Rattle.std.proofs.Math.ListN.{length-set}
-use Rattle.std.proofs.lemmas.List.{length-drop}
-use Rattle.hip_num.proofs.HexDigits.{has_place, one_less}
-use Rattle.hip_trace.proofs.LineDigits.{last_before, next_before, onto_before}
+use Rattle.std.proofs.Common.{◌+◌, ◌-◌, ◌/◌, ◌%◌, ◌^◌, ◌≡◌, ◌<◌, ◌≤◌, ℕ, drop, subst, sym, arith, ap, false, ◌∙◌}
+use Rattle.std.specs.Fmt.{digit_glyph}
+use Rattle.hip_num.proofs.HexDigits.{has_place}
+use Rattle.hip_trace.proofs.LineDigits.{has_places, last_before, last_pair, onto_before, pair_before, two_less}
 use Rattle.hip_trace.proofs.write.digits_before.Goals as goal
 
-pub loop-rest-init : goal.loop-rest-init
-loop-rest-init c =
+pub pairs-init : goal.pairs-init
+pairs-init c =
     let end = c.args.end in
     let k : end - 1 + 16 - end ≡ 15 = omega (arith, c.requires.room) in
     let i : end - 1 + 1 ≡ end = omega (arith, c.requires.room) in
@@ -17,25 +16,41 @@ loop-rest-init c =
       text = rw (k, i) (onto_before c.args.number (drop end c.args.bytes.now) (omega arith));
     }
 
-pub loop-rest-preserved : goal.loop-rest-preserved
-loop-rest-preserved c =
-    let i = c.loop-rest.invariant in
-    let at = c.loop-rest.at in
+pub pairs-preserved : goal.pairs-preserved
+pairs-preserved c =
+    let i = c.pairs.invariant in
+    let at = c.pairs.at in
     let end = c.args.end in
-    let some : 1 ≤ at + 16 - end = has_place (at + 16 - end) c.loop-rest.rest c.loop-rest-test.true i.room in
-    let first : 1 ≤ at = omega (arith, some, c.requires.room, i.low) in
-    let fewer : at - 1 + 16 - end ≡ at + 16 - end - 1 = omega (arith, some, first) in
+    let some : 2 ≤ at + 16 - end = has_places (at + 16 - end) c.pairs.rest c.pairs-test.true i.room in
+    let first : 2 ≤ at = omega (arith, some, c.requires.room, i.low) in
+    let fewer : at - 2 + 16 - end ≡ at + 16 - end - 2 = omega (arith, some, first) in
     record {
       start = omega (arith, i.start);
       low = omega (arith, some, first);
-      room = subst (λ (j : ℕ). c.loop-rest.rest / 16 < 16 ^ (j + 1)) (sym fewer) (one_less (at + 16 - end) c.loop-rest.rest some i.room);
-      text = rw fewer (next_before (at + 16 - end) at c.loop-rest.rest c.hex_digit.result c.loop-rest.bytes _ c.loop-rest-test.true some first (omega arith) c.hex_digit.ensures i.text);
+      room = subst (λ (j : ℕ). c.pairs.rest / 256 < 16 ^ (j + 1)) (sym fewer) (two_less (at + 16 - end) c.pairs.rest some i.room);
+      text = rw fewer (pair_before (at + 16 - end) at c.pairs.rest c.low_digit.result c.high_digit.result c.pairs.bytes _ c.pairs-test.true some first (omega arith) c.low_digit.ensures c.high_digit.ensures i.text);
     }
+
+pub overflow_sub-at-in-pairs : goal.overflow_sub-at-in-pairs
+overflow_sub-at-in-pairs c =
+    let i = c.pairs.invariant in
+    let some = has_places (c.pairs.at + 16 - c.args.end) c.pairs.rest c.pairs-test.true i.room in
+    omega (arith, some, c.requires.room, i.low)
+
+pub returns-then-rest-lt16-clause-text : goal.returns-then-rest-lt16-clause-text
+returns-then-rest-lt16-clause-text c =
+    let at = c.pairs.at in
+    let rest = c.pairs.rest in
+    let whole : rest % 16 ≡ rest = omega (arith, c.if-rest-lt16.true) in
+    last_before (at + 16 - c.args.end) at rest c.low_digit-2.result c.pairs.bytes _ c.if-rest-lt16.true (omega arith) (c.low_digit-2.ensures ∙ ap (digit_glyph false) whole) c.pairs.invariant.text
 
 pub returns-clause-text : goal.returns-clause-text
 returns-clause-text c =
-    let at = c.loop-rest.at in
-    last_before (at + 16 - c.args.end) at c.loop-rest.rest c.hex_digit-2.result c.loop-rest.bytes _ c.loop-rest-test.false (omega arith) c.hex_digit-2.ensures c.loop-rest.invariant.text
-
-pub returns-clause-length : goal.returns-clause-length
-returns-clause-length c = simp (length-drop, length-set) (omega (arith, c.loop-rest.invariant.low, c.loop-rest.invariant.start))
+    let i = c.pairs.invariant in
+    let at = c.pairs.at in
+    let rest = c.pairs.rest in
+    let more : 16 ≤ rest = omega (arith, c.if-rest-lt16.false) in
+    let less : rest < 256 = omega (arith, c.pairs-test.false) in
+    let some : 1 ≤ at + 16 - c.args.end = has_place (at + 16 - c.args.end) rest more i.room in
+    let first : 1 ≤ at = omega (arith, some, c.requires.room, i.low) in
+    last_pair (at + 16 - c.args.end) at rest c.low_digit-2.result c.high_digit-2.result c.pairs.bytes _ more less some first (omega arith) c.low_digit-2.ensures c.high_digit-2.ensures i.text

@@ -1,12 +1,12 @@
 -- What the calls of a `Ram` do, by its pages.
-use Rattle.std.proofs.Common.{◌≡◌, ◌⊎◌, inl, inr, ℕ, zero, suc, ◌+◌, ◌%◌, ◌-◌, ◌^◌, ◌<◌, ◌≤◌, ◌&&◌, Bool, true, false, cond, IsTrue, ◌↔◌, ◌==◌, Option, Some, None, SomeIff, Result, Ok, Err, OnOk, OnErr, nat_le, nat_lt, List, [], ◌∷◌, ◌++◌, length, take, slice_index, refl, sym, ap, ap₂, ◌∙◌, arith}
-use Rattle.std.specs.Int.{next_multiple_of}
+use Rattle.std.proofs.Common.{◌≡◌, ◌⊎◌, inl, inr, ℕ, zero, suc, ◌+◌, ◌%◌, ◌-◌, ◌^◌, ◌<◌, ◌≤◌, ◌&&◌, Bool, true, false, cond, IsTrue, ◌↔◌, ◌==◌, Option, Some, None, SomeIff, Result, Ok, Err, OnOk, OnErr, nat_le, nat_lt, List, [], ◌∷◌, ◌++◌, length, take, replicate, slice_index, refl, sym, ap, ap₂, ◌∙◌, arith}
+use Rattle.std.specs.Int.{next_multiple_of, to_le_bytes, w64}
 use Rattle.hip_mem.specs.declared.refusal.MemTrap.{MemTrap}
 use Rattle.hip_mem.specs.declared.refusal.MemTrap.TheVariants.{Misaligned, BadAddress}
 use Rattle.hip_mem.specs.Memory.{Write, byte_written}
 use Rattle.hip_types.specs.Areas.{volatile_start, stack_start, stack_end}
-use Rattle.hip_types.specs.Bytes.{little_endian, zeros}
-use Rattle.hip_mem.specs.Laws.BytesLaws.{little_endian-take}
+use Rattle.hip_types.specs.Bytes.{bytes_of, little_endian, zeros}
+use Rattle.hip_mem.specs.Laws.BytesLaws.{little_endian-take, take-bytes_of, to_le_bytes-bytes_of}
 use Rattle.hip_mem.specs.Areas.{Areas, mark_of, are_valid, bytes_in, access_trap, or_trap, loaded, block_address, pushed_mark, after_write, after_push, after_pop}
 use Rattle.hip_mem.specs.Laws.AreasLaws.{FitsOne, are_valid-fits, fits-are_valid, not_written}
 use Rattle.hip_mem.specs.declared.ram.Ram.TheInside.{Inside}
@@ -73,6 +73,12 @@ take-page_bytes m (suc n) a [] h f = absurd (omega arith)
 take-page_bytes m (suc n) a (x ∷ xs) h f =
     ap₂ (λ y ys. y ∷ ys) (f 0 (omega arith) ∙ ap (page_byte m) (let e : a + 0 ≡ a = omega arith in e))
     (take-page_bytes m n (suc a) xs (omega arith) (λ i lt. f (suc i) (omega arith) ∙ ap (page_byte m) (let e : a + suc i ≡ suc a + i = omega arith in e)))
+
+-- zeros at each place
+pub zero_index : (n i : ℕ) → slice_index (replicate n 0) i ≡ 0
+zero_index zero i = refl
+zero_index (suc n) zero = refl
+zero_index (suc n) (suc i) = zero_index n i
 
 pub number-of : (m : Pages) (a n : ℕ) (xs : List ℕ) → n ≤ length xs → ((i : ℕ) → i < n → slice_index xs i ≡ page_byte m (a + i)) → ((i : ℕ) → n ≤ i → slice_index xs i ≡ 0) → little_endian xs ≡ little_endian (page_bytes m a n)
 number-of m a n xs h f z = little_endian-take n xs z ∙ ap little_endian (take-page_bytes m n a xs h f)
@@ -175,6 +181,12 @@ pub load-is : (s : Inside) (r : Areas) (a n align v : ℕ) → areas_of s ≡ r 
 load-is s r a n align v e h p t f =
     ap (λ x. Ok x) (f ∙ ap little_endian (sym (bytes_in-pages s n a h (access-fits s r a n align e h p t))) ∙ ap (λ (q : Areas). little_endian (bytes_in q a n)) e)
     ∙ ap (λ o. or_trap o (little_endian (bytes_in r a n))) t
+
+-- the low bytes of a number are written
+pub low-written : (addr size value a old : ℕ) (bytes : List ℕ) → size ≤ 8 → bytes ≡ to_le_bytes w64 value →
+    byte_written (record { addr = addr; bytes = take size bytes }) a old ≡ byte_written (record { addr = addr; bytes = bytes_of size value }) a old
+low-written addr size value a old bytes few is =
+    ap (λ xs. byte_written (record { addr = addr; bytes = xs }) a old) (ap (take size) (is ∙ to_le_bytes-bytes_of value) ∙ take-bytes_of size 8 value few)
 
 pub on_ok_map : {A E P Q : Type 0} (r : Result A E) → (P → Q) → OnOk r P → OnOk r Q
 on_ok_map (Ok x) f p = f p

@@ -1,6 +1,6 @@
 //! Bytes by address, in pages that are made when something is written to them. A byte of a page that was not made is 0.
 
-ghost use Rattle.std.specs.Prelude.{◌≡◌, ◌≢◌, ℕ, ◌+◌, ◌-◌, ◌*◌, ◌/◌, ◌%◌, ◌^◌, ◌<◌, ◌≤◌, ◌&&◌, cond, nat_le, nat_lt, length, slice_index, slice_index_or, true, false, ◌⊎◌, IfOk, OnOk, OnErr};
+ghost use Rattle.std.specs.Prelude.{◌≡◌, ◌≢◌, ℕ, ◌+◌, ◌-◌, ◌*◌, ◌/◌, ◌%◌, ◌^◌, ◌<◌, ◌≤◌, ◌&&◌, cond, nat_le, nat_lt, length, slice_index, slice_index_or, true, false, ◌⊎◌, IfOk, IsTrue, OnOk, OnErr};
 ghost use Rattle.hip_directory.specs.Directories.{number_at};
 ghost use Rattle.hip_mem.specs.Memory.{byte_written};
 ghost use Rattle.hip_mem.specs.Paging.{ArePages, AreClean};
@@ -134,6 +134,18 @@ impl Pages {
         mark(self.dirty.as_mut_slice(), place, is_part(from, to));
     }
 
+    // Whether a page is among the recent ones. These were made.
+    #[inline(always)]
+    fn is_recent(&self, number: u64) -> bool
+        requires { number < 2 ^ 63 }
+        ensures { IsTrue result → IsMade self.now number }
+    {
+        if self.recent.get(number) != 0 {
+            return true;
+        }
+        false
+    }
+
     // Makes a page, if it was not made.
     #[inline(always)]
     fn make_page(&mut self, number: u64) -> Result<(), NoMemory>
@@ -142,7 +154,7 @@ impl Pages {
         ensures kept { (n : ℕ) → IsMade self.old n → IsMade self.new n }
         ensures ok { OnOk result (IsMade self.new number) }
     {
-        if self.recent.get(number) != 0 {
+        if self.is_recent(number) {
             return Ok(());
         }
         self.note_page(number)
@@ -216,8 +228,39 @@ impl Pages {
         requires fits { addr + 8192 < 2 ^ 64 }
         ensures { result ≡ little_endian (page_bytes self.now addr size) }
     {
+        let at = (addr % PAGE_SIZE) as usize;
+        if at + size > PAGE_SIZE as usize {
+            return self.number_in_two(addr, size);
+        }
+        match size {
+            8 => self.number_in_one(addr, 8),
+            4 => self.number_in_one(addr, 4),
+            _ => self.number_in_one(addr, size),
+        }
+    }
+
+    // The same in one page. The bytes of a usual size are in registers, since no call takes their address.
+    #[inline(always)]
+    fn number_in_one(&self, addr: u64, size: usize) -> u64
+        requires few { size ≤ 8 }
+        requires one { addr % PAGE_SIZE + size ≤ PAGE_SIZE }
+        ensures { result ≡ little_endian (page_bytes self.now addr size) }
+    {
         let mut bytes = [0u8; 8];
-        self.read(addr, &mut bytes, size);
+        self.read_one(addr, &mut bytes, size);
+        u64::from_le_bytes(bytes)
+    }
+
+    // The same in two pages.
+    #[inline(never)]
+    fn number_in_two(&self, addr: u64, size: usize) -> u64
+        requires few { size ≤ 8 }
+        requires two { PAGE_SIZE < addr % PAGE_SIZE + size }
+        requires fits { addr + 8192 < 2 ^ 64 }
+        ensures { result ≡ little_endian (page_bytes self.now addr size) }
+    {
+        let mut bytes = [0u8; 8];
+        self.read_two(addr, &mut bytes, size);
         u64::from_le_bytes(bytes)
     }
 
@@ -233,10 +276,22 @@ impl Pages {
     {
         let at = (addr % PAGE_SIZE) as usize;
         if at + size <= PAGE_SIZE as usize {
-            self.read_page(addr / PAGE_SIZE, at, into, size);
+            self.read_one(addr, into, size);
         } else {
             self.read_two(addr, into, size);
         }
+    }
+
+    // Reads bytes of one page.
+    #[inline(always)]
+    fn read_one(&self, addr: u64, into: &mut [u8], size: usize)
+        requires few { size ≤ length into.old }
+        requires one { addr % PAGE_SIZE + size ≤ PAGE_SIZE }
+        ensures len { length into.new ≡ length into.old }
+        ensures low { (i : ℕ) → i < size → slice_index into.new i ≡ page_byte self.now (addr + i) }
+        ensures high { (i : ℕ) → size ≤ i → slice_index into.new i ≡ slice_index into.old i }
+    {
+        self.read_page(addr / PAGE_SIZE, (addr % PAGE_SIZE) as usize, into, size);
     }
 
     // Reads bytes of two pages.
@@ -272,6 +327,29 @@ impl Pages {
         self.make_page(addr / PAGE_SIZE)?;
         self.write_page(addr / PAGE_SIZE, at, bytes);
         Ok(())
+    }
+
+    /// Whether bytes from an address on lie in one page, which is among the recent ones.
+    #[inline(always)]
+    pub fn is_at_hand(&self, addr: u64, size: usize) -> bool
+        requires { size ≤ 8 }
+        ensures { IsTrue result → (addr % PAGE_SIZE + size ≤ PAGE_SIZE) × IsMade self.now (addr / PAGE_SIZE) }
+    {
+        if (addr % PAGE_SIZE) as usize + size > PAGE_SIZE as usize {
+            return false;
+        }
+        self.is_recent(addr / PAGE_SIZE)
+    }
+
+    /// Writes bytes of one page, which was made.
+    #[inline(always)]
+    pub fn write_one(&mut self, addr: u64, bytes: &[u8])
+        requires one { addr % PAGE_SIZE + length bytes.now ≤ PAGE_SIZE }
+        requires made { IsMade self.old (addr / PAGE_SIZE) }
+        ensures { (a : ℕ) → page_byte self.new a
+            ≡ byte_written (record { addr = addr; bytes = bytes.now }) a (page_byte self.old a) }
+    {
+        self.write_page(addr / PAGE_SIZE, (addr % PAGE_SIZE) as usize, bytes);
     }
 
     // Writes bytes of two pages.

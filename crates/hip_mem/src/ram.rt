@@ -1,7 +1,7 @@
 ghost use Rattle.std.specs.Prelude.{◌≡◌, ◌==◌, ℕ, ◌+◌, ◌-◌, ◌*◌, ◌/◌, ◌%◌, ◌^◌, ◌<◌, ◌≤◌, ◌↔◌, [], length, slice_index, IfOk, IfErr, OnOk, OnErr, Some, None, Err, IsTrue};
 ghost use Rattle.hip_mem.specs.Memory.{byte_written};
-ghost use Rattle.hip_types.specs.Bytes.{little_endian};
-ghost use Rattle.hip_mem.specs.Pages.{page_byte, page_bytes};
+ghost use Rattle.hip_types.specs.Bytes.{bytes_of, little_endian};
+ghost use Rattle.hip_mem.specs.Pages.{IsMade, page_byte, page_bytes};
 ghost use Rattle.hip_mem.specs.declared.TheConstants.{PAGE_SIZE};
 
 use crate::pages::Pages;
@@ -104,10 +104,7 @@ impl Ram {
         match self.access_trap(addr, size, align) {
             Some(MemTrap::Misaligned) => Err(StoreRefusal::Misaligned),
             Some(MemTrap::BadAddress) => Err(StoreRefusal::BadAddress),
-            None => {
-                let bytes = value.to_le_bytes();
-                put(&mut self.pages, addr, &bytes[..size as usize])
-            }
+            None => put(&mut self.pages, addr, value, size as usize),
         }
     }
 
@@ -245,16 +242,53 @@ fn put_image(pages: &mut Pages, start: u64, image: &Image) -> Result<(), NoMemor
     pages.fill(start, image.stored())
 }
 
+// Writes the low bytes of a number, the lowest first. Bytes of a usual size that are at hand are in registers, since no
+// call takes their address.
 #[inline(always)]
-fn put(pages: &mut Pages, addr: u64, bytes: &[u8]) -> Result<(), StoreRefusal>
-    requires few { length bytes.now ≤ 8 }
+fn put(pages: &mut Pages, addr: u64, value: u64, size: usize) -> Result<(), StoreRefusal>
+    requires few { size ≤ 8 }
     requires fits { addr + 8192 < 2 ^ 64 }
     ensures ok { OnOk result ((a : ℕ) → page_byte pages.new a
-        ≡ byte_written (record { addr = addr; bytes = bytes.now }) a (page_byte pages.old a)) }
+        ≡ byte_written (record { addr = addr; bytes = bytes_of size value }) a (page_byte pages.old a)) }
     ensures err { OnErr result ((a : ℕ) → page_byte pages.new a ≡ page_byte pages.old a) }
     ensures refusal { IfErr result (λ refusal. refusal ≡ StoreRefusal.NoMemory) }
 {
-    match pages.write(addr, bytes) {
+    if !pages.is_at_hand(addr, size) {
+        return put_anywhere(pages, addr, value, size);
+    }
+    match size {
+        8 => put_one(pages, addr, value, 8),
+        4 => put_one(pages, addr, value, 4),
+        _ => put_one(pages, addr, value, size),
+    }
+    Ok(())
+}
+
+// The same in one page, which was made.
+#[inline(always)]
+fn put_one(pages: &mut Pages, addr: u64, value: u64, size: usize)
+    requires few { size ≤ 8 }
+    requires one { addr % PAGE_SIZE + size ≤ PAGE_SIZE }
+    requires made { IsMade pages.old (addr / PAGE_SIZE) }
+    ensures { (a : ℕ) → page_byte pages.new a
+        ≡ byte_written (record { addr = addr; bytes = bytes_of size value }) a (page_byte pages.old a) }
+{
+    let bytes = value.to_le_bytes();
+    pages.write_one(addr, &bytes[..size]);
+}
+
+// The same in any pages.
+#[inline(never)]
+fn put_anywhere(pages: &mut Pages, addr: u64, value: u64, size: usize) -> Result<(), StoreRefusal>
+    requires few { size ≤ 8 }
+    requires fits { addr + 8192 < 2 ^ 64 }
+    ensures ok { OnOk result ((a : ℕ) → page_byte pages.new a
+        ≡ byte_written (record { addr = addr; bytes = bytes_of size value }) a (page_byte pages.old a)) }
+    ensures err { OnErr result ((a : ℕ) → page_byte pages.new a ≡ page_byte pages.old a) }
+    ensures refusal { IfErr result (λ refusal. refusal ≡ StoreRefusal.NoMemory) }
+{
+    let bytes = value.to_le_bytes();
+    match pages.write(addr, &bytes[..size]) {
         Ok(()) => Ok(()),
         Err(_) => Err(StoreRefusal::NoMemory),
     }

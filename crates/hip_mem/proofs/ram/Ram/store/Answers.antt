@@ -1,6 +1,5 @@
-use Rattle.std.proofs.Common.{◌∙◌, ap, sym, refl, take}
+use Rattle.std.proofs.Common.{◌∙◌, ap, sym, refl}
 use Rattle.hip_mem.specs.Areas.{after_write}
-use Rattle.hip_mem.specs.Laws.BytesLaws.{to_le_bytes-bytes_of, take-bytes_of}
 use Rattle.hip_mem.proofs.RamCalls.{access-below, areas-same, areas-written, on_ok_map, on_err_map}
 use Rattle.hip_mem.proofs.ram.Ram.store.Goals as goal
 
@@ -10,12 +9,7 @@ put-requires-clause-fits c = access-below c.self.inside c.args.self.now c.args.a
 pub returns-in-None-clause-ok : goal.returns-in-None-clause-ok
 returns-in-None-clause-ok c =
     on_ok_map c.put.result
-    (λ h. (
-      sym c.in-None.ensures,
-      areas-written _ c.self.inside _ refl refl refl refl h
-          ∙ ap (after_write _) c.self.view_is
-          ∙ ap (λ xs. after_write (record { addr = c.args.addr; bytes = xs }) c.args.self.now) (ap (take c.args.size) (c.to_le_bytes-bytes.ensures ∙ to_le_bytes-bytes_of c.args.value) ∙ take-bytes_of c.args.size 8 c.args.value c.requires.few),
-    ))
+    (λ h. (sym c.in-None.ensures, areas-written _ c.self.inside _ refl refl refl refl h ∙ ap (after_write _) c.self.view_is))
     c.put.ensures.ok
 
 pub returns-in-None-clause-err : goal.returns-in-None-clause-err

@@ -1,5 +1,5 @@
 #!/usr/bin/env bash
-# Tests tools/lower. It must lower each program in examples/from_c to the text that is stored beside it. That text, the
+# Tests tools/lower. It must lower each program in examples/from_c to the text that is stored in the same folder. That text, the
 # repaired one and the C program, each built for the processor, must print what is stored. The tests of tools/lower run too.
 # Without the tools of LLVM 19 it tests nothing, and one line says so.
 cd "$(dirname "${BASH_SOURCE[0]}")/.." || exit 2

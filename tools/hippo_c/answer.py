@@ -61,7 +61,7 @@ def group_of(session: Session, checked: Checked, group: Group, found: Suggestion
 
 
 def trap_of(session: Session, checked: Checked) -> dict | None:
-    """Where a run trapped; no place where it was not found."""
+    """Where a run trapped; no place if none was found."""
     if not checked.ended.startswith('trap'):
         return None
     kind = checked.ended.split(' ')[1]

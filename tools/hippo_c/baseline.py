@@ -8,7 +8,7 @@ TITLE = '# Groups of reports that are known, for hippo-c check --baseline. Made 
 
 
 def read(path: str) -> set[str]:
-    """The fingerprints of a baseline; there are none where there is no such file yet."""
+    """The fingerprints of a baseline; none if there is no such file yet."""
     try:
         with open(path, encoding='utf-8') as file:
             return {line.split(' ')[0] for line in file if line.strip() and not line.startswith('#')}

@@ -1,4 +1,4 @@
-"""The command crash: the program is run from what a power cut may leave, at many places of its trace."""
+"""The command crash: it runs the program from what a power cut may leave, at many places of its trace."""
 import os
 import re
 import time
@@ -102,7 +102,7 @@ def try_point(session: Session, path: str, point: Point) -> Outcome:
 
 
 def explore(session: Session, path: str, points, fails, options) -> Exploration:
-    """Tries points side by side, until there are no more or the time is over."""
+    """Tries points, several at a time, until no point is left or the time is over."""
     found, until = Exploration(), time.monotonic() + (options.time or 1e18)
     with ThreadPoolExecutor(options.jobs) as pool:
         running_now = set()

@@ -1,4 +1,4 @@
-"""Which places in C stand for an instruction and for a path of calls."""
+"""Which places in C an instruction and a path of calls have."""
 import os
 from typing import NamedTuple
 

@@ -60,7 +60,7 @@ class Repair:
         return name in self.repaired.functions and name not in self.program.functions
 
     def site_of(self, site: Site) -> Site:
-        """The site in the program that a site of the repaired program stands for."""
+        """The site of the program from which the repair made a site of the repaired program."""
         return self.sites.get(site, site)
 
 
@@ -80,7 +80,7 @@ def inserted(new: list[Instruction], old: list[Instruction], is_clone: Callable[
 
 
 def paired(new: list[Instruction], old: list[Instruction], is_clone: Callable[[str], bool]):
-    """Each number of `new`, the number of `old` that it stands for or that it follows, whether it was put in, and it itself."""
+    """Each number of `new`, the number of `old` that it copies or follows, whether the repair added it, and the instruction."""
     extra, site = inserted(new, old, is_clone), -1
     for index, instruction in enumerate(new):
         site += index not in extra

@@ -28,7 +28,7 @@ def digest_of(file: Path) -> str:
 
 
 class Kept:
-    """An executable and its stamp, a file beside it with a line `FIELD VALUE` for each field."""
+    """An executable and its stamp, a file in the same folder with a line `FIELD VALUE` for each field."""
 
     def __init__(self, program: Path) -> None:
         self.program = program
@@ -53,7 +53,7 @@ class Kept:
             return False
 
     def keep(self, made: Path, sources: str, commit: str, toolchain: str) -> None:
-        """Puts a made program in this place. Even after an interrupt, a stamp is only beside the program that it names."""
+        """Puts a made program in this place. Even after an interrupt, a stamp is only there with the program that it names."""
         self.program.parent.mkdir(parents=True, exist_ok=True)
         with tempfile.TemporaryDirectory(dir=self.program.parent, prefix=".new-") as room:
             program, stamp = Path(room, "program"), Path(room, "stamp")

@@ -133,7 +133,7 @@ class Module:
     # Queries of functions.
 
     def resolved(self, written: str) -> str:
-        """The name that an alias stands for."""
+        """The name that an alias refers to."""
         seen = set()
         while self.same_names.get(written) and written not in seen:
             seen.add(written)

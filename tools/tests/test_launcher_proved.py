@@ -24,7 +24,7 @@ class Proved(Repository):
         return ran
 
     def is_proved(self, **how) -> bool:
-        """Whether the proved program answers, and nothing is said beside it."""
+        """Whether the proved program answers, and the launcher writes nothing."""
         ran = self.hippo("repair", "/dev/null", **how)
         if ran.returncode == 3:
             return False

@@ -115,7 +115,7 @@ class Runtime(Setting):
 
     @unittest.skipUnless(os.path.exists(HIPPO), 'hippo is not built')
     def is_durable(self, name: str, *options: str) -> None:
-        """A program prints what is stored beside it, and `hippo check` reports nothing."""
+        """A program prints what the file of its name has, and `hippo check` reports nothing."""
         with open(f'{TESTS}/runtime/{name}.out', encoding='ascii') as file:
             expected = file.read()
         text, trace = self.lowered(f'{TESTS}/runtime/{name}.c', '-O1', list(options)), f'{self.folder}/trace'

@@ -38,6 +38,7 @@ use Rattle.hip_machine.specs.declared.core_parts.Core.{Core}
 use Rattle.hip_machine.specs.Acts.{Acts, Before, Does, HasNext, Moment, acted, numbers_of, seen_of}
 use Rattle.hip_machine.specs.Below.{are_saved, AreSaved}
 use Rattle.hip_machine.specs.Blocks.{blocks_of, HoldsBlocks}
+use Rattle.hip_objects.specs.Blocks.{nonempty}
 use Rattle.hip_storage.specs.Contents.{after_pop}
 use Rattle.hip_storage.specs.Laws.ActionLaws.{pop_holds}
 use Rattle.hip_storage.specs.Standing.{HoldsRun}
@@ -210,7 +211,7 @@ finishes_call {old} {new} mid v caller popped is put cleared pop = record { does
           mark = kept.mark;
           saved = subst (λ xs. AreSaved P xs x.base x.dest g.dest g.level mid.saved.items gs) (sym put_it)
               (saved_kept lower_kept (kept_result x.base x.base v old.top.dest old.slots.items lower_kept) (record { are = subst (λ ys. are_saved P old.slots.items x.base x.dest g.dest g.level ys gs) same.0 a.4 }));
-          blocks = record { are = blocks_left old.blocks new.blocks old.top.blocks g gs (reverse f.slots) blocks.are blocks.below cleared; below = kept.blocks };
+          blocks = record { are = blocks_left old.blocks new.blocks old.top.blocks g gs (nonempty (reverse f.slots)) blocks.are blocks.below cleared; below = kept.blocks };
           storage = subst (λ y. HoldsRun P m.input y m.world.writes f.mark) (sym pop) (subst (λ k. HoldsRun P m.input (after_pop old.top.mark old.storage) m.world.writes k) mark (pop_holds s.storage old.top.mark low high));
         }) in
         subst (λ hs. Stepped P m.input new events.Quiet (leave v (with_turn m.world) f hs m.lines m.after) (cond (is_bottom hs) (events.End (Stop (signed W32 (bits W32 v).value))) events.Quiet)) (sym below)

@@ -1,7 +1,7 @@
 -- The op at the machine's place is that of what comes next in the run, and a step of the machine is a step of the run.
 use Rattle.std.proofs.Common.{◌≡◌, ℕ, zero, suc, ◌+◌, ◌<◌, ◌≤◌, Bool, true, false, cond, not, ◌&&◌, nat_lt, List, [], ◌∷◌, ◌++◌, length, drop, reverse, Some, None, slice_get, refl, sym, ap, ap₂, ◌∙◌, subst, arith, lt-ltb, le-ltb}
 use Rattle.std.proofs.lemmas.List.{reverse-append}
-use Rattle.std.proofs.lemmas.List.Elements.{All-nil, All-cons, All-same, All-append, All-weaker}
+use Rattle.std.proofs.lemmas.List.Elements.{All-nil, All-cons, All-filter, All-same, All-append, All-weaker}
 use Rattle.std.proofs.lemmas.Option.{same_Some}
 use Rattle.hip_tree.specs.declared.instr.Instr.{Instr}
 use Rattle.hip_tree.specs.declared.program.Program.{Program}
@@ -16,7 +16,7 @@ use Rattle.hip_runs.specs.Step.{event_at, stop, is_cut, carry_out, deed_at, coun
 use Rattle.hip_invariants.specs.NeverStuck.{ReadsAssigned}
 use Rattle.hip_invariants.specs.StackShape.{lie_between, lie_in_order, HasShape}
 use Rattle.hip_invariants.specs.Laws.StackShape.{lower}
-use Rattle.hip_objects.specs.Blocks.{IsBehind}
+use Rattle.hip_objects.specs.Blocks.{IsBehind, nonempty}
 use Rattle.hip_machine.specs.Blocks.{blocks_of}
 use Rattle.hip_mem.specs.Areas.{mark_of}
 use Rattle.hip_code.specs.declared.code.Code.{Code}
@@ -168,13 +168,16 @@ slots_behind low high (x ∷ ss) h =
     All-same Ends (reverse (x ∷ ss)) (reverse ss ++ x ∷ []) (reverse-append (x ∷ []) ss)
     (All-append Ends (reverse ss) (x ∷ []) (All-weaker (λ (y : Slot). y.addr + y.size ≤ x.addr) Ends (λ y le. let a = h.0 in omega (arith, le, a)) (reverse ss) older) (All-cons Ends x [] h.0 (All-nil Ends)))
 
+kept_behind : (low high : ℕ) (ss : List Slot) → lie_between low high ss → IsBehind high (nonempty (reverse ss))
+kept_behind low high ss h = All-filter (λ (y : Slot). nat_lt 0 y.size) (λ (y : Slot). y.addr + y.size ≤ high) (reverse ss) (slots_behind low high ss h)
+
 all_behind : (mark : ℕ) (f : Frame) (fs : List Frame) → lie_in_order mark (f ∷ fs) → IsBehind mark (blocks_of (f ∷ fs))
-all_behind mark f [] h = slots_behind f.mark mark f.slots h.0
+all_behind mark f [] h = kept_behind f.mark mark f.slots h.0
 all_behind mark f (g ∷ fs) h =
     let older = all_behind f.mark g fs h.1 in
     let le = lower f.mark mark f.slots h.0 in
-    All-append (λ (y : Slot). y.addr + y.size ≤ mark) (blocks_of (g ∷ fs)) (reverse f.slots)
-    (All-weaker (λ (y : Slot). y.addr + y.size ≤ f.mark) (λ (y : Slot). y.addr + y.size ≤ mark) (λ y q. omega (arith, q, le)) (blocks_of (g ∷ fs)) older) (slots_behind f.mark mark f.slots h.0)
+    All-append (λ (y : Slot). y.addr + y.size ≤ mark) (blocks_of (g ∷ fs)) (nonempty (reverse f.slots))
+    (All-weaker (λ (y : Slot). y.addr + y.size ≤ f.mark) (λ (y : Slot). y.addr + y.size ≤ mark) (λ y q. omega (arith, q, le)) (blocks_of (g ∷ fs)) older) (kept_behind f.mark mark f.slots h.0)
 
 laid : (c : Core) (m : Moment) → Before c m → IsLaid c
 laid c m b =

@@ -31,7 +31,8 @@ use Rattle.hip_code.specs.Laws.Slots.{holds_assigned}
 use Rattle.hip_code.specs.Moves.{name_at}
 use Rattle.hip_code.specs.Numbers.{operand_value}
 use Rattle.hip_code.specs.Ops.{IsSize}
-use Rattle.hip_objects.specs.Blocks.{IsBehind}
+use Rattle.hip_objects.specs.Blocks.{IsBehind, nonempty}
+use Rattle.hip_objects.proofs.Stacks.{nonempty-append}
 use Rattle.hip_storage.specs.Calls.{HasLoaded, HasPushed, HasStored}
 use Rattle.hip_storage.specs.Contents.{Contents, access_trap, after_pop, block_trap}
 use Rattle.hip_storage.specs.Laws.ActionLaws.{access_refused, block_refused, load_done, push_done, store_done}
@@ -234,8 +235,10 @@ acts_store_trap {code} {old} {new} {e} {size} {align} {value} {addr} st a v kind
 
 -- ---- blocks on the stack
 
-block_added : (all older : List Slot) (ss : List Slot) (s : Slot) → all ≡ older ++ reverse ss → all ++ s ∷ [] ≡ older ++ reverse (s ∷ ss)
-block_added all older ss s e = ap (λ xs. xs ++ s ∷ []) e ∙ append_assoc older (reverse ss) (s ∷ []) ∙ ap (λ xs. older ++ xs) (sym (reverse-append (s ∷ []) ss))
+block_added : (all older : List Slot) (ss : List Slot) (s : Slot) → all ≡ older ++ nonempty (reverse ss) → all ++ nonempty (s ∷ []) ≡ older ++ nonempty (reverse (s ∷ ss))
+block_added all older ss s e =
+    ap (λ xs. xs ++ nonempty (s ∷ [])) e ∙ append_assoc older (nonempty (reverse ss)) (nonempty (s ∷ []))
+    ∙ ap (λ xs. older ++ xs) (sym (nonempty-append (reverse ss) (s ∷ [])) ∙ ap nonempty (sym (reverse-append (s ∷ []) ss)))
 
 pub behind_block : {x st : Contents} {block size align : ℕ} (xs : List Slot) → HasPushed x st block size align → IsBehind (mark_of x.areas) xs → IsBehind block xs
 behind_block {x} {st} {block} {size} {align} xs p h =
@@ -258,7 +261,7 @@ taken_back {x} {st} {block} {size} {align} p =
     ap (after_pop (mark_of x.areas)) p.contents ∙ ap (λ xs. record x { areas = record x.areas { stack = xs } }) (take_at x.areas.stack _ (mark_of x.areas - stack_start) short)
 
 pub acts_alloca : {old new : Core} {dest size align : ℕ} (st : Contents) (a : ℕ) → HasPushed old.storage st a size align →
-    new ≡ record old { storage = st; blocks = old.blocks ++ record { addr = a; size = size; site = site_here old } ∷ []; slots = new.slots; top = record old.top { place = old.top.place + 1 }; taken = old.taken + 1; turns = old.turns + 1 } →
+    new ≡ record old { storage = st; blocks = old.blocks ++ nonempty (record { addr = a; size = size; site = site_here old } ∷ []); slots = new.slots; top = record old.top { place = old.top.place + 1 }; taken = old.taken + 1; turns = old.turns + 1 } →
     new.slots.items ≡ slice_set old.slots.items (old.top.base + dest) a → (code : Code) → Acts code old new events.Quiet (ops.Memory (memories.Effect (effects.Alloca dest size align)))
 unfolding perform
 acts_alloca {old} {new} {dest} {size} {align} st a pushed is slots code = record {
@@ -289,7 +292,7 @@ acts_alloca {old} {new} {dest} {size} {align} st a pushed is slots code = record
           mark = s.mark;
           saved = subst (λ xs. AreSaved P xs old.top.base old.top.dest m.top.dest m.top.level old.saved.items m.rest) (sym slots) (saved_kept same (kept_set old.top.base old.slots.items (old.top.base + dest) a high) s.saved);
           blocks = record {
-            are = ap (λ x. old.blocks ++ record { addr = a; size = size; site = x } ∷ []) site ∙ block_added old.blocks (blocks_of m.rest) m.top.slots slot s.blocks.are;
+            are = ap (λ x. old.blocks ++ nonempty (record { addr = a; size = size; site = x } ∷ [])) site ∙ block_added old.blocks (blocks_of m.rest) m.top.slots slot s.blocks.are;
             below = s.blocks.below;
           };
           storage = done.holds;

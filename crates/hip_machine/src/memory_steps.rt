@@ -12,7 +12,7 @@ ghost use Rattle.hip_code.specs.declared.op.Effect.TheVariants as effects;
 ghost use Rattle.hip_code.specs.declared.op.Memory.TheVariants as memories;
 ghost use Rattle.hip_code.specs.declared.op.Op.TheVariants as ops;
 ghost use Rattle.hip_code.specs.declared.op.Outside.TheVariants as outsides;
-ghost use Rattle.hip_objects.specs.Blocks.{IsBehind};
+ghost use Rattle.hip_objects.specs.Blocks.{IsBehind, nonempty};
 ghost use Rattle.hip_storage.specs.Contents.{after_pop};
 ghost use Rattle.hip_machine.specs.Acts.{Acts, ActsOn, Carries, DoesNext, IsLaid, Keeps, numbers_of};
 ghost use Rattle.hip_machine.specs.Puts.{with_result};
@@ -85,7 +85,7 @@ fn keep_block(core: &mut Core, mark: u64, addr: u64, size: u32) -> Result<(), No
     requires low { stack_start ≤ mark }
     requires high { mark ≤ mark_of core.old.storage.areas }
     ensures ok { OnOk result (core.new ≡ record core.old {
-      blocks = core.old.blocks ++ record {
+      blocks = core.old.blocks ++ nonempty (record {
         addr = addr;
         size = size;
         site = record {
@@ -93,7 +93,7 @@ fn keep_block(core: &mut Core, mark: u64, addr: u64, size: u32) -> Result<(), No
           block = core.old.top.block;
           index = core.old.top.place - core.old.top.entry;
         };
-      } ∷ [];
+      } ∷ []);
     }) }
     ensures err { OnErr result (core.new ≡ record core.old { storage = after_pop mark core.old.storage }) }
 {

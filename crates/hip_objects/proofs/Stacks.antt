@@ -1,13 +1,15 @@
 -- The blocks on the stack, the oldest first: the newest one that has a byte is the first one that has it.
-use Rattle.std.proofs.Common.{ℕ, suc, ◌+◌, ◌<◌, ◌≤◌, ◌≡◌, Bool, true, false, cond, List, [], ◌∷◌, ◌++◌, Option, Some, None, reverse, refl, sym, ap, ◌∙◌, arith, subst}
-use Rattle.std.proofs.lemmas.List.{length-map, get_or-map, reverse-append}
+use Rattle.std.proofs.Common.{ℕ, suc, ◌+◌, ◌<◌, ◌≤◌, ◌≡◌, Bool, true, false, cond, nat_lt, List, [], ◌∷◌, ◌++◌, Option, Some, None, reverse, refl, sym, ap, ◌∙◌, arith, subst}
+use Rattle.std.proofs.lemmas.Bool.Decides.{nat_tests}
+use Rattle.std.proofs.lemmas.List.Elements.{filter-append}
+use Rattle.std.proofs.lemmas.List.{append-nil, length-map, get_or-map, reverse-append}
 use Rattle.hip_tree.specs.declared.site.Site.{Site}
 use Rattle.hip_mem.specs.Memory.{range_contains}
 use Rattle.hip_runs.specs.State.{Slot}
 use Rattle.hip_runs.specs.Found.Objects.{or_else, slot_in}
 use Rattle.hip_runs.specs.declared.event.Object.{Object}
 use Rattle.hip_runs.specs.declared.event.Object.TheVariants as objects
-use Rattle.hip_objects.specs.Blocks.{AreStacked, IsBehind, object_in, sited, slot_of, slots_of}
+use Rattle.hip_objects.specs.Blocks.{AreStacked, IsBehind, object_in, sited, slot_of, slots_of, nonempty}
 use Rattle.hip_objects.specs.Order.{first_at}
 use Rattle.hip_objects.specs.declared.blocks.Block.{Block}
 use Rattle.hip_objects.proofs.Search.{contains-before, first_at-none, in_order-pushed, later}
@@ -59,3 +61,35 @@ first_is_newest (x ∷ xs) a s =
 pub pushed : (xs : List Block) (b : Block) → AreStacked xs → IsBehind b.addr (slots_of xs) → AreStacked (xs ++ b ∷ [])
 pushed xs b s behind = in_order-pushed (λ x. x.addr) (λ x. x.size) (λ x. x.site) xs b s
     (λ i d within. subst (λ x. x.addr + x.size ≤ b.addr) (get_or-map slot_of xs i d (slot_of d) within) (behind i (slot_of d) (omega (arith, length-map xs slot_of, within))))
+
+-- ---- blocks with no byte
+
+pub not_kept : (xs : List Slot) (x : Slot) → x.size ≡ 0 → xs ≡ xs ++ nonempty (x ∷ [])
+not_kept xs x e = sym (append-nil xs) ∙ ap (λ n. xs ++ cond (nat_lt 0 n) (x ∷ []) []) (sym e)
+
+pub kept : (xs : List Slot) (x : Slot) → (x.size ≡ 0 → ⊥) → xs ++ x ∷ [] ≡ xs ++ nonempty (x ∷ [])
+kept xs x some = ap (λ b. xs ++ cond b (x ∷ []) []) (let e : true ≡ nat_lt 0 x.size = grind (arith, nat_tests) in e)
+
+pub nonempty-append : (xs ys : List Slot) → nonempty (xs ++ ys) ≡ nonempty xs ++ nonempty ys
+nonempty-append xs ys = filter-append (λ x. nat_lt 0 x.size) xs ys
+
+pub nonempty-newest : (xs : List Slot) → reverse (nonempty (reverse xs)) ≡ nonempty xs
+nonempty-newest [] = refl
+nonempty-newest (x ∷ xs) =
+    ap (λ l. reverse (nonempty l)) (reverse-append (x ∷ []) xs) ∙ ap reverse (nonempty-append (reverse xs) (x ∷ []))
+    ∙ reverse-append (nonempty (reverse xs)) (nonempty (x ∷ [])) ∙ ap (λ l. reverse (nonempty (x ∷ [])) ++ l) (nonempty-newest xs)
+    ∙ go (nat_lt 0 x.size)
+  where
+    go : (b : Bool) → reverse (cond b (x ∷ []) []) ++ nonempty xs ≡ cond b (x ∷ nonempty xs) (nonempty xs)
+    go true = refl
+    go false = refl
+
+-- no address lies in a block with no byte
+pub slot_in-nonempty : (xs : List Slot) (a : ℕ) → slot_in (nonempty xs) a ≡ slot_in xs a
+slot_in-nonempty [] a = refl
+slot_in-nonempty (x ∷ xs) a = go (nat_lt 0 x.size) refl (slot_in-nonempty xs a)
+  where
+    go : (b : Bool) → nat_lt 0 x.size ≡ b → slot_in (nonempty xs) a ≡ slot_in xs a →
+        slot_in (cond b (x ∷ nonempty xs) (nonempty xs)) a ≡ cond (range_contains x.addr x.size a) (Some (objects.Slot x.site)) (slot_in xs a)
+    go true some e = ap (λ o. cond (range_contains x.addr x.size a) (Some (objects.Slot x.site)) o) e
+    go false none e = e ∙ sym (ap (λ t. cond t (Some (objects.Slot x.site)) (slot_in xs a)) (let outside : range_contains x.addr x.size a ≡ false = grind (arith, nat_tests) in outside))

@@ -1,5 +1,6 @@
 -- The blocks on the stack, by their addresses.
-use Rattle.std.specs.Prelude.{ℕ, ◌+◌, ◌≤◌, List, Option, Some, None, All, map, reverse}
+use Rattle.std.specs.List.{filter}
+use Rattle.std.specs.Prelude.{ℕ, ◌+◌, ◌≤◌, List, Option, Some, None, All, map, nat_lt, reverse}
 use Rattle.hip_tree.specs.declared.site.Site.{Site}
 use Rattle.hip_runs.specs.State.{Slot}
 use Rattle.hip_runs.specs.Found.Objects.{slot_in}
@@ -15,6 +16,10 @@ slot_of b = record { addr = b.addr; size = b.size; site = b.site }
 -- the same for each block, in their order
 abbrev pub slots_of : List Block → List Slot
 slots_of bs = map slot_of bs
+
+-- those of the blocks that have a byte
+abbrev pub nonempty : List Slot → List Slot
+nonempty xs = filter (λ x. nat_lt 0 x.size) xs
 
 -- each block ends before a newer one begins
 abbrev pub AreStacked : List Block → Type 0

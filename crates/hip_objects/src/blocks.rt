@@ -15,7 +15,8 @@ pub struct Block {
     pub site: Site,
 }
 
-/// The blocks on the stack, the oldest first, each after the ones before it.
+/// The blocks on the stack that have a byte, the oldest first, each after the ones before it. No address lies in an empty
+/// block, so an empty one takes no memory.
 #[derive(Drop)]
 pub struct Blocks {
     blocks: Vec<Block>,
@@ -35,7 +36,7 @@ impl Model for Blocks {
 }
 
 impl Blocks {
-    ghost use Rattle.hip_objects.specs.Blocks.{slot_of};
+    ghost use Rattle.hip_objects.specs.Blocks.{slot_of, nonempty};
 
     pub fn new(alloc: Global) -> Blocks
         ensures { result ≡ [] }
@@ -52,8 +53,20 @@ impl Blocks {
         self.blocks.len()
     }
 
-    /// A new block, which begins at the end of the newest one or after it.
+    /// A new block, which begins at the end of the newest one or after it. It is kept if it has a byte.
     pub fn push(&mut self, block: Block) -> Result<(), NoMemory>
+        requires { IsBehind block.addr self.old }
+        ensures ok { OnOk result (self.new ≡ self.old ++ nonempty (slot_of block ∷ [])) }
+        ensures err { OnErr result (self.new ≡ self.old) }
+    {
+        if block.size == 0 {
+            return Ok(());
+        }
+        self.keep(block)
+    }
+
+    // Puts a block after the others.
+    fn keep(&mut self, block: Block) -> Result<(), NoMemory>
         requires { IsBehind block.addr self.old }
         ensures ok { OnOk result (self.new ≡ self.old ++ slot_of block ∷ []) }
         ensures err { OnErr result (self.new ≡ self.old) }

@@ -479,6 +479,125 @@ const OF_BLOCKS: &[Pointed] = &[
     },
 ];
 
+const EMPTY_BLOCKS: &str = "define void @f() {
+entry:
+  %a = alloca {}
+  %b = alloca i16
+  %c = alloca [0 x i64]
+  ret void
+}
+define i32 @main() {
+entry:
+  %t = alloca {}
+  %u = alloca i8
+  %v = alloca {}
+  call void @f()
+  %w = alloca i8
+  ret i32 0
+}
+";
+
+const BESIDE_EMPTY_BLOCKS: &[Pointed] = &[
+    Pointed {
+        steps: 1,
+        addr: STACK,
+        object: None,
+    },
+    Pointed {
+        steps: 2,
+        addr: STACK,
+        object: Some(Object::Slot(Site {
+            function: 1,
+            block: 0,
+            index: 1,
+        })),
+    },
+    Pointed {
+        steps: 2,
+        addr: STACK + 1,
+        object: None,
+    },
+    Pointed {
+        steps: 7,
+        addr: STACK,
+        object: Some(Object::Slot(Site {
+            function: 1,
+            block: 0,
+            index: 1,
+        })),
+    },
+    Pointed {
+        steps: 7,
+        addr: STACK + 1,
+        object: None,
+    },
+    Pointed {
+        steps: 7,
+        addr: STACK + 2,
+        object: Some(Object::Slot(Site {
+            function: 0,
+            block: 0,
+            index: 1,
+        })),
+    },
+    Pointed {
+        steps: 7,
+        addr: STACK + 3,
+        object: Some(Object::Slot(Site {
+            function: 0,
+            block: 0,
+            index: 1,
+        })),
+    },
+    Pointed {
+        steps: 7,
+        addr: STACK + 4,
+        object: None,
+    },
+    Pointed {
+        steps: 7,
+        addr: STACK + 8,
+        object: None,
+    },
+    Pointed {
+        steps: 8,
+        addr: STACK,
+        object: Some(Object::Slot(Site {
+            function: 1,
+            block: 0,
+            index: 1,
+        })),
+    },
+    Pointed {
+        steps: 8,
+        addr: STACK + 2,
+        object: None,
+    },
+    Pointed {
+        steps: 9,
+        addr: STACK,
+        object: Some(Object::Slot(Site {
+            function: 1,
+            block: 0,
+            index: 1,
+        })),
+    },
+    Pointed {
+        steps: 9,
+        addr: STACK + 1,
+        object: Some(Object::Slot(Site {
+            function: 1,
+            block: 0,
+            index: 4,
+        })),
+    },
+    Pointed {
+        steps: 9,
+        addr: STACK + 2,
+        object: None,
+    },
+];
+
 /// Asserts what the addresses point into, by the number of steps.
 fn assert_pointed(rt: &impl Abort, machine: &mut Machine<'_>, cases: &[Pointed]) {
     let mut steps = 0;
@@ -501,8 +620,8 @@ fn assert_objects_in(
     assert_pointed(rt, &mut machine, cases);
 }
 
-fn assert_objects(rt: &impl Abort, alloc: Global, cases: &[Pointed]) {
-    let checked = checked(rt, alloc, BLOCKS);
+fn assert_objects(rt: &impl Abort, alloc: Global, program: &str, cases: &[Pointed]) {
+    let checked = checked(rt, alloc, program);
     let input = input(rt, alloc, &checked, &[7], 100);
     assert_objects_in(rt, alloc, &checked, &input, cases);
 }
@@ -515,10 +634,15 @@ fn take_steps(rt: &impl Abort, machine: &mut Machine<'_>, from: usize, to: usize
 
 #[test]
 fn addresses_of_globals(rt: HostRuntime) {
-    assert_objects(&rt, rt.alloc(), OF_GLOBALS);
+    assert_objects(&rt, rt.alloc(), BLOCKS, OF_GLOBALS);
 }
 
 #[test]
 fn addresses_of_blocks(rt: HostRuntime) {
-    assert_objects(&rt, rt.alloc(), OF_BLOCKS);
+    assert_objects(&rt, rt.alloc(), BLOCKS, OF_BLOCKS);
+}
+
+#[test]
+fn addresses_beside_empty_blocks(rt: HostRuntime) {
+    assert_objects(&rt, rt.alloc(), EMPTY_BLOCKS, BESIDE_EMPTY_BLOCKS);
 }

@@ -1,12 +1,11 @@
-use Rattle.std.proofs.Common.{sym, subst}
-use Rattle.hip_objects.specs.Blocks.{AreStacked, IsBehind}
-use Rattle.hip_objects.proofs.Stacks.{pushed}
+use Rattle.std.proofs.Common.{◌∙◌}
+use Rattle.std.proofs.lemmas.Result.{on_ok_weaker}
+use Rattle.hip_objects.specs.Blocks.{slot_of}
+use Rattle.hip_objects.proofs.Stacks.{kept, not_kept}
 use Rattle.hip_objects.proofs.blocks.Blocks.push.Goals as goal
-use Rattle.hip_objects.proofs.blocks.Blocks.push.Goals.{in-Ok, in-Err}
 
-pub invariant_of-self : goal.invariant_of-self
-invariant_of-self c = elim c.match-push.branch [
-  | in-Ok w ↦ subst (λ xs. AreStacked xs) (sym w.in-Ok.ensures.items)
-      (pushed c.self.inside.blocks.items c.args.block c.self.invariant (subst (λ xs. IsBehind c.args.block.addr xs) (sym c.self.view_is) c.requires))
-  | in-Err w ↦ subst (λ xs. AreStacked xs) (sym w.in-Err.ensures.items) c.self.invariant
-]
+pub returns-then-block-eq0-clause-ok : goal.returns-then-block-eq0-clause-ok
+returns-then-block-eq0-clause-ok c = not_kept c.args.self.now (slot_of c.args.block) c.if-block-eq0.true
+
+pub returns-clause-ok : goal.returns-clause-ok
+returns-clause-ok c = on_ok_weaker c.keep.result (λ e. e ∙ kept c.args.self.now (slot_of c.args.block) c.if-block-eq0.false) c.keep.ensures.ok

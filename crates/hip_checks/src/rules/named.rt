@@ -23,6 +23,7 @@ pub fn check_all_differ(alloc: Global, names: &[NamedPlace<'_>]) -> Result<(), R
     ensures { Answers result (all_differ (seen names.now)).found }
 {
     let mut earlier = NameSet::new(alloc);
+    earlier.reserve(names.len())?;
     'names: for named in names {
         if !earlier.insert(named.name)? {
             return Err(Refused::Found(Finding {

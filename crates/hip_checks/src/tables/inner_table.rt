@@ -36,6 +36,7 @@ fn add_params<'a>(table: &mut InnerTable<'a>, params: &'a [Param]) -> Result<(),
     ensures { OnOk result
         (Gains table.old.names table.old.values table.new.names table.new.values (map entries.parameter params.now)) }
 {
+    table.reserve(params.len())?;
     'params: for param in params {
         add_name(table, &param.name, Inner::Parameter)?;
     }

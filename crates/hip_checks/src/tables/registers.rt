@@ -37,6 +37,7 @@ fn add_params<'a>(table: &mut RegisterTable<'a>, params: &'a [Param]) -> Result<
         (Adds table.old.names table.old.values table.new.names table.new.values
         (map (λ p. record { name = p.name; ty = Some p.ty }) params.now)) }
 {
+    table.reserve(params.len())?;
     'params: for param in params {
         add_register(table, &param.name, Some(param.ty))?;
     }

@@ -1,8 +1,10 @@
 -- Picks as lists: how they are looked up, and what their fitting gives.
-use Rattle.std.proofs.Common.{◌≡◌, ◌≢◌, ◌⊎◌, inl, inr, ℕ, zero, suc, ◌+◌, ◌-◌, ◌*◌, ◌/◌, ◌<◌, ◌≤◌, ◌==◌, Bool, true, false, cond, ◌&&◌, nat_eq, nat_le, nat_lt, List, [], ◌∷◌, ◌++◌, length, map, take, drop, get_or, Option, Some, None, is_some, slice_get, slice_set, slice_index, refl, sym, ap, ap₂, ◌∙◌, subst, arith, length-append, length-drop}
+use Rattle.std.proofs.Common.{◌≡◌, ◌≢◌, ◌⊎◌, inl, inr, ℕ, zero, suc, ◌+◌, ◌-◌, ◌*◌, ◌/◌, ◌<◌, ◌≤◌, ◌==◌, Bool, true, false, cond, ◌&&◌, nat_eq, nat_le, nat_lt, nat_cmp, List, [], ◌∷◌, ◌++◌, length, map, take, drop, get_or, Option, Some, None, is_some, slice_get, slice_index, refl, sym, ap, ap₂, ◌∙◌, subst, arith, length-append, length-drop}
+use Rattle.std.specs.BTreeMap.{is_at}
 use Rattle.std.specs.List.{range_with_len}
+use Rattle.std.specs.Map.{lookup}
 use Rattle.std.proofs.lemmas.Bool.Decides.{nat_tests}
-use Rattle.std.proofs.lemmas.List.{length-set, length-take-le, take_all}
+use Rattle.std.proofs.lemmas.List.{length-take-le, take_all}
 use Rattle.hip_lines.specs.Image.{byte_after, parts_of}
 use Rattle.hip_lines.specs.Line.{Line, AreOrdered, IsOrdered}
 use Rattle.hip_lines.specs.Laws.ImageLaws.{length-image_from, slice_index-image_from}
@@ -11,14 +13,14 @@ use Rattle.hip_lines.specs.Laws.LooseLaws.{get-append_left, get-append_end, get-
 use Rattle.hip_runs.specs.Crash.{byte_of, covers, IsCrashImage, IsCrashPick, crash_image}
 use Rattle.hip_runs.specs.State.{State, StorePart}
 use Rattle.hip_runs.specs.declared.input.Input.{Input}
-use Rattle.hip_crash.specs.Numbers.{AreNumbers, IsBetween, IsNumberOf}
-use Rattle.hip_crash.specs.Picks.{ArePicksOf, bounds_in, bounds_of, failure, failure_behind, first_failure, first_of, number_for, number_or, picked, range_failure}
+use Rattle.hip_crash.specs.Numbers.{AreNumbers, IsBetween, IsNumberOf, number_in}
+use Rattle.hip_crash.specs.Picks.{ArePicksOf, bounds_in, bounds_of, failure, failure_after, first_failure, first_of, number_for, number_or, picked, range_failure}
 use Rattle.hip_picks.specs.declared.pick.Pick.{Pick}
 use Rattle.hip_picks.specs.declared.pick.PickRefusal.{PickRefusal}
 use Rattle.hip_picks.specs.declared.pick.PickRefusal.TheVariants.{NoLine, Repeated, OutOfRange}
 use Rattle.hip_crash.proofs.Bytes.{index-take, same_lists}
 use Rattle.hip_crash.proofs.Holding.{index-drop}
-use Rattle.hip_lines.specs.Laws.ItemLaws.{equal_or_not, get-set_same, get-set_other}
+use Rattle.hip_lines.specs.Laws.ItemLaws.{equal_or_not}
 use Rattle.hip_crash.proofs.Steps.{get_there}
 
 -- ---- one more pick
@@ -29,9 +31,12 @@ eq_test a b e = grind (arith, nat_tests)
 ne_test : (a b : ℕ) → a ≢ b → nat_eq a b ≡ false
 ne_test a b ne = grind (arith, nat_tests)
 
-number-behind : (xs : List Pick) (p : Pick) (j : ℕ) → number_for xs j ≡ None → number_for (xs ++ p ∷ []) j ≡ cond (nat_eq p.line j) (Some p.upto) None
-number-behind [] p j e = refl
-number-behind (x ∷ xs) p j e = go (λ k. number-behind xs p j k) (nat_eq x.line j) refl e
+number-is_at : (j k : ℕ) → is_at (nat_cmp j) k ≡ nat_eq j k
+number-is_at j k = grind (arith, nat_tests)
+
+number-after : (xs : List Pick) (p : Pick) (j : ℕ) → number_for xs j ≡ None → number_for (xs ++ p ∷ []) j ≡ cond (nat_eq p.line j) (Some p.upto) None
+number-after [] p j e = refl
+number-after (x ∷ xs) p j e = go (λ k. number-after xs p j k) (nat_eq x.line j) refl e
   where
     go : (number_for xs j ≡ None → number_for (xs ++ p ∷ []) j ≡ cond (nat_eq p.line j) (Some p.upto) None) → (b : Bool) → nat_eq x.line j ≡ b → cond b (Some x.upto) (number_for xs j) ≡ None → cond (nat_eq x.line j) (Some x.upto) (number_for (xs ++ p ∷ []) j) ≡ cond (nat_eq p.line j) (Some p.upto) None
     go more true t e = absurd (let z : ⊥ = cc in z)
@@ -41,14 +46,25 @@ number-other : (xs : List Pick) (p : Pick) (j : ℕ) → p.line ≢ j → number
 number-other [] p j ne = ap (λ b. cond b (Some p.upto) None) (ne_test p.line j ne)
 number-other (x ∷ xs) p j ne = ap (λ o. cond (nat_eq x.line j) (Some x.upto) o) (number-other xs p j ne)
 
-pub numbers-more : (count : ℕ) (xs : List Pick) (p : Pick) (ns : List (Option ℕ)) → AreNumbers count xs ns → p.line < count → number_for xs p.line ≡ None → AreNumbers count (xs ++ p ∷ []) (slice_set ns p.line (Some p.upto))
-numbers-more count xs p ns h lt e = record { many = length-set ns p.line (Some p.upto) ∙ h.many; are = λ j below. go j below (equal_or_not j p.line) }
+-- what a table has at a line
+pub number-found : (entries : List (ℕ × ℕ)) (j : ℕ) → lookup (is_at (nat_cmp j)) entries ≡ number_in entries j
+number-found entries j = λ i. lookup (λ k. number-is_at j k i) entries
+
+pub numbers-more : (xs : List Pick) (p : Pick) (old new : List (ℕ × ℕ)) → AreNumbers xs old →
+    ((q : ℕ) → lookup (is_at (nat_cmp q)) new ≡ cond (is_at (nat_cmp p.line) q) (Some p.upto) (lookup (is_at (nat_cmp q)) old)) → number_for xs p.line ≡ None → AreNumbers (xs ++ p ∷ []) new
+numbers-more xs p old new h updates e = record { are = λ j. go j (equal_or_not j p.line) }
   where
-    go : (j : ℕ) → j < count → (((j == p.line) ≡ true) × (j ≡ p.line)) ⊎ (((j == p.line) ≡ false) × (j ≢ p.line)) → slice_get (slice_set ns p.line (Some p.upto)) j ≡ Some (number_for (xs ++ p ∷ []) j)
-    go j below (inl s) =
-        ap (slice_get (slice_set ns p.line (Some p.upto))) s.1 ∙ get-set_same ns p.line (Some p.upto) (omega (arith, lt, h.many))
-        ∙ ap (λ o. Some o) (ap (λ b. cond b (Some p.upto) None) (sym (eq_test p.line p.line refl)) ∙ sym (number-behind xs p p.line e) ∙ ap (number_for (xs ++ p ∷ [])) (sym s.1))
-    go j below (inr s) = get-set_other ns p.line j (Some p.upto) s.1 ∙ h.are j below ∙ ap (λ o. Some o) (sym (number-other xs p j (λ z. s.1 (sym z))))
+    updated : (q : ℕ) → number_in new q ≡ cond (nat_eq p.line q) (Some p.upto) (number_in old q)
+    updated q = sym (number-found new q) ∙ updates q ∙ (λ i. cond (number-is_at p.line q i) (Some p.upto) (number-found old q i))
+
+    go : (j : ℕ) → (((j == p.line) ≡ true) × (j ≡ p.line)) ⊎ (((j == p.line) ≡ false) × (j ≢ p.line)) → number_in new j ≡ number_for (xs ++ p ∷ []) j
+    go j (inl s) =
+        let named : nat_eq p.line j ≡ true = eq_test p.line j (sym s.1) in
+        updated j ∙ ap (λ b. cond b (Some p.upto) (number_in old j)) named
+        ∙ sym (number-after xs p j (ap (number_for xs) s.1 ∙ e) ∙ ap (λ b. cond b (Some p.upto) None) named)
+    go j (inr s) =
+        let other : p.line ≢ j = λ z. s.1 (sym z) in
+        updated j ∙ ap (λ b. cond b (Some p.upto) (number_in old j)) (ne_test p.line j other) ∙ h.are j ∙ sym (number-other xs p j other)
 
 -- a pick that does not fail
 pub failed-none : (s : State) (earlier : List Pick) (at : ℕ) (p : Pick) → failure s earlier at p ≡ None → (p.line < length s.lines) × (number_for earlier p.line ≡ None) × IsBetween (bounds_of s p.line) p.upto
@@ -75,18 +91,18 @@ failed-none s earlier at p e = line (nat_lt p.line (length s.lines)) refl e
 
 -- ---- picks that fit
 
-pub fit-number : (s : State) (earlier rest : List Pick) → failure_behind s earlier rest ≡ None → (j upto : ℕ) → number_for rest j ≡ Some upto → IsBetween (bounds_of s j) upto
+pub fit-number : (s : State) (earlier rest : List Pick) → failure_after s earlier rest ≡ None → (j upto : ℕ) → number_for rest j ≡ Some upto → IsBetween (bounds_of s j) upto
 fit-number s earlier [] e j upto q = absurd (let z : ⊥ = cc in z)
 fit-number s earlier (p ∷ rest) e j upto q = go (λ later f. fit-number s (earlier ++ p ∷ []) rest later j upto f) (failure s earlier (suc (length earlier)) p) refl e
   where
-    named : (failure_behind s (earlier ++ p ∷ []) rest ≡ None → number_for rest j ≡ Some upto → IsBetween (bounds_of s j) upto) → (b : Bool) → nat_eq p.line j ≡ b → cond b (Some p.upto) (number_for rest j) ≡ Some upto → IsBetween (bounds_of s p.line) p.upto → failure_behind s (earlier ++ p ∷ []) rest ≡ None → IsBetween (bounds_of s j) upto
+    named : (failure_after s (earlier ++ p ∷ []) rest ≡ None → number_for rest j ≡ Some upto → IsBetween (bounds_of s j) upto) → (b : Bool) → nat_eq p.line j ≡ b → cond b (Some p.upto) (number_for rest j) ≡ Some upto → IsBetween (bounds_of s p.line) p.upto → failure_after s (earlier ++ p ∷ []) rest ≡ None → IsBetween (bounds_of s j) upto
     named more true t q between later =
         let same : p.upto ≡ upto = cc in
         let line : p.line ≡ j = grind (arith, nat_tests) in
         subst (IsBetween (bounds_of s j)) same (subst (λ i. IsBetween (bounds_of s i) p.upto) line between)
     named more false t q between later = more later q
 
-    go : (failure_behind s (earlier ++ p ∷ []) rest ≡ None → number_for rest j ≡ Some upto → IsBetween (bounds_of s j) upto) → (o : Option PickRefusal) → failure s earlier (suc (length earlier)) p ≡ o → first_of o (failure_behind s (earlier ++ p ∷ []) rest) ≡ None → IsBetween (bounds_of s j) upto
+    go : (failure_after s (earlier ++ p ∷ []) rest ≡ None → number_for rest j ≡ Some upto → IsBetween (bounds_of s j) upto) → (o : Option PickRefusal) → failure s earlier (suc (length earlier)) p ≡ o → first_of o (failure_after s (earlier ++ p ∷ []) rest) ≡ None → IsBetween (bounds_of s j) upto
     go more None t later = named more (nat_eq p.line j) refl q (failed-none s earlier (suc (length earlier)) p t).2 later
     go more (Some r) t later = absurd (let z : ⊥ = cc in z)
 
@@ -215,13 +231,13 @@ from-number from (x ∷ picks) h (suc k) p e =
 
 -- they do not fail after picks of the lines before them
 from-fit : (s : State) (earlier rest : List Pick) → AreFrom (length earlier) rest → ((k : ℕ) (p : Pick) → slice_get rest k ≡ Some p → (p.line < length s.lines) × IsBetween (bounds_of s p.line) p.upto) → ((j : ℕ) → length earlier ≤ j → number_for earlier j ≡ None)
-    → failure_behind s earlier rest ≡ None
+    → failure_after s earlier rest ≡ None
 from-fit s earlier [] h b n = refl
 from-fit s earlier (x ∷ rest) h b n =
     let here = from-head (length earlier) x rest h in
     let k = b 0 x refl in
     let more : length (earlier ++ x ∷ []) ≡ length earlier + 1 = length-append earlier (x ∷ []) in
-    ap (λ o. first_of o (failure_behind s (earlier ++ x ∷ []) rest)) (fits here k.0 k.1)
+    ap (λ o. first_of o (failure_after s (earlier ++ x ∷ []) rest)) (fits here k.0 k.1)
     ∙ from-fit s (earlier ++ x ∷ []) rest (subst (λ m. AreFrom m rest) (sym more) (from-tail (length earlier) x rest h)) (λ i p e. b (suc i) p e)
     (λ j le. number-other earlier x j (other j here (omega (arith, le, more))) ∙ n j (omega (arith, le, more)))
   where
@@ -307,22 +323,23 @@ module _ (S : State) (picks : List Pick) (place : ℕ) (d : Pick) (lt : place < 
   taken : take (place + 1) picks ≡ take place picks ++ get_or picks place d ∷ []
   taken = ap (λ n. take n picks) (sym one) ∙ take-at picks place d lt
 
-  behind-is : failure_behind S (take place picks) (drop place picks) ≡ first_of (failure S (take place picks) (place + 1) (get_or picks place d)) (failure_behind S (take (place + 1) picks) (drop (place + 1) picks))
-  behind-is =
+  after-is : failure_after S (take place picks) (drop place picks) ≡ first_of (failure S (take place picks) (place + 1) (get_or picks place d)) (failure_after S (take (place + 1) picks) (drop (place + 1) picks))
+  after-is =
       let count : suc (length (take place picks)) ≡ place + 1 = let k = length-take-le place picks (omega (arith, lt)) in omega (arith, k) in
-      ap (failure_behind S (take place picks)) (drop-at picks place d lt)
-      ∙ ap (λ n. first_of (failure S (take place picks) n (get_or picks place d)) (failure_behind S (take place picks ++ get_or picks place d ∷ []) (drop (suc place) picks))) count
-      ∙ ap (λ e. first_of (failure S (take place picks) (place + 1) (get_or picks place d)) (failure_behind S e (drop (suc place) picks))) (sym taken)
-      ∙ ap (λ n. first_of (failure S (take place picks) (place + 1) (get_or picks place d)) (failure_behind S (take (place + 1) picks) (drop n picks))) one
+      ap (failure_after S (take place picks)) (drop-at picks place d lt)
+      ∙ ap (λ n. first_of (failure S (take place picks) n (get_or picks place d)) (failure_after S (take place picks ++ get_or picks place d ∷ []) (drop (suc place) picks))) count
+      ∙ ap (λ e. first_of (failure S (take place picks) (place + 1) (get_or picks place d)) (failure_after S e (drop (suc place) picks))) (sym taken)
+      ∙ ap (λ n. first_of (failure S (take place picks) (place + 1) (get_or picks place d)) (failure_after S (take (place + 1) picks) (drop n picks))) one
 
-  pub pick-fails : (r : PickRefusal) → failure S (take place picks) (place + 1) (get_or picks place d) ≡ Some r → failure_behind S (take place picks) (drop place picks) ≡ first_failure S picks → first_failure S picks ≡ Some r
-  pick-fails r e f = sym f ∙ behind-is ∙ ap (λ o. first_of o (failure_behind S (take (place + 1) picks) (drop (place + 1) picks))) e
+  pub pick-fails : (r : PickRefusal) → failure S (take place picks) (place + 1) (get_or picks place d) ≡ Some r → failure_after S (take place picks) (drop place picks) ≡ first_failure S picks → first_failure S picks ≡ Some r
+  pick-fails r e f = sym f ∙ after-is ∙ ap (λ o. first_of o (failure_after S (take (place + 1) picks) (drop (place + 1) picks))) e
 
-  pub pick-passes : failure S (take place picks) (place + 1) (get_or picks place d) ≡ None → failure_behind S (take place picks) (drop place picks) ≡ first_failure S picks → failure_behind S (take (place + 1) picks) (drop (place + 1) picks) ≡ first_failure S picks
-  pick-passes e f = sym (behind-is ∙ ap (λ o. first_of o (failure_behind S (take (place + 1) picks) (drop (place + 1) picks))) e) ∙ f
+  pub pick-passes : failure S (take place picks) (place + 1) (get_or picks place d) ≡ None → failure_after S (take place picks) (drop place picks) ≡ first_failure S picks → failure_after S (take (place + 1) picks) (drop (place + 1) picks) ≡ first_failure S picks
+  pick-passes e f = sym (after-is ∙ ap (λ o. first_of o (failure_after S (take (place + 1) picks) (drop (place + 1) picks))) e) ∙ f
 
-  pub numbers-next : (ns : List (Option ℕ)) → AreNumbers (length S.lines) (take place picks) ns → failure S (take place picks) (place + 1) (get_or picks place d) ≡ None
-      → AreNumbers (length S.lines) (take (place + 1) picks) (slice_set ns (get_or picks place d).line (Some (get_or picks place d).upto))
-  numbers-next ns h e =
+  pub numbers-next : (old new : List (ℕ × ℕ)) → AreNumbers (take place picks) old → failure S (take place picks) (place + 1) (get_or picks place d) ≡ None
+      → ((q : ℕ) → lookup (is_at (nat_cmp q)) new ≡ cond (is_at (nat_cmp (get_or picks place d).line) q) (Some (get_or picks place d).upto) (lookup (is_at (nat_cmp q)) old))
+      → AreNumbers (take (place + 1) picks) new
+  numbers-next old new h e updates =
       let k = failed-none S (take place picks) (place + 1) (get_or picks place d) e in
-      subst (λ xs. AreNumbers (length S.lines) xs (slice_set ns (get_or picks place d).line (Some (get_or picks place d).upto))) (sym taken) (numbers-more (length S.lines) (take place picks) (get_or picks place d) ns h k.0 k.1)
+      subst (λ xs. AreNumbers xs new) (sym taken) (numbers-more (take place picks) (get_or picks place d) old new h updates k.1)

@@ -1,5 +1,6 @@
 -- The numbers of lines that picks give, as they are looked up and found.
-use Rattle.std.specs.Prelude.{◌≡◌, ℕ, ◌<◌, ◌≤◌, List, length, Option, Some, None, slice_get}
+use Rattle.std.specs.Prelude.{◌≡◌, ℕ, ◌≤◌, nat_eq, List, Option, Some, None, slice_get}
+use Rattle.std.specs.Map.{lookup}
 use Rattle.hip_lines.specs.Image.{IsLineImageAt}
 use Rattle.hip_lines.specs.Line.{Line}
 use Rattle.hip_runs.specs.Crash.{byte_of, covers}
@@ -9,10 +10,13 @@ use Rattle.hip_crash.specs.Picks.{number_for}
 use Rattle.hip_picks.specs.declared.pick.Bounds.{Bounds}
 use Rattle.hip_picks.specs.declared.pick.Pick.{Pick}
 
--- the numbers that picks give to the first n lines; none for a line that no pick names
-pub record AreNumbers (count : ℕ) (picks : List Pick) (numbers : List (Option ℕ)) : Type 0 where
-  pub many : length numbers ≡ count
-  pub are : (j : ℕ) → j < count → slice_get numbers j ≡ Some (number_for picks j)
+-- the number that a table by lines gives line j, if it has one
+abbrev pub number_in : List (ℕ × ℕ) → ℕ → Option ℕ
+number_in entries j = lookup (nat_eq j) entries
+
+-- The table gives each line the number that the picks give it; nothing for a line that no pick names.
+pub record AreNumbers (picks : List Pick) (entries : List (ℕ × ℕ)) : Type 0 where
+  pub are : (j : ℕ) → number_in entries j ≡ number_for picks j
 
 -- the number of first parts lies between the bounds, or is one of them
 pub record IsBetween (bounds : Bounds) (upto : ℕ) : Type 0 where

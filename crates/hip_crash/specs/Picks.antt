@@ -53,14 +53,14 @@ first_of None later = later
 first_of (Some refusal) later = Some refusal
 
 -- how the first failing pick after earlier ones fails, if one does
-abbrev pub failure_behind : State → List Pick → List Pick → Option PickRefusal
-failure_behind s earlier [] = None
-failure_behind s earlier (p ∷ ps) =
-    first_of (failure s earlier (suc (length earlier)) p) (failure_behind s (earlier ++ p ∷ []) ps)
+abbrev pub failure_after : State → List Pick → List Pick → Option PickRefusal
+failure_after s earlier [] = None
+failure_after s earlier (p ∷ ps) =
+    first_of (failure s earlier (suc (length earlier)) p) (failure_after s (earlier ++ p ∷ []) ps)
 
 -- how the first failing pick fails, if one does
 abbrev pub first_failure : State → List Pick → Option PickRefusal
-first_failure s picks = failure_behind s [] picks
+first_failure s picks = failure_after s [] picks
 
 -- a refusal of picks in a state; out of memory may come at any time
 abbrev pub IsRefusal : State → List Pick → PickRefusal → Type 0

@@ -3,7 +3,7 @@
 ghost use Rattle.std.specs.Prelude.{◌≡◌, ◌-◌, ◌*◌, ◌<◌, ◌≤◌, ℕ, [], List, None, drop, length, take, true, IfErr, IfOk, IsOk, MatchOption, OnErr, OnOk};
 ghost use Rattle.hip_runs.specs.Step.{event, has_ended};
 ghost use Rattle.hip_runs.specs.Validity.{IsValid};
-ghost use Rattle.hip_crash.specs.Numbers.{AreNumbers, IsBetween, IsNumberOf};
+ghost use Rattle.hip_crash.specs.Numbers.{AreNumbers, IsBetween, IsNumberOf, number_in};
 ghost use Rattle.hip_crash.specs.Picks.{ArePicksOf, IsRefusal, bounds_of, failure, first_failure, number_for, number_or, picked, range_failure};
 ghost use Rattle.hip_picks.specs.declared.pick.Pick.{Pick};
 ghost use Rattle.hip_types.specs.declared.areas.TheConstants.{LINE_SIZE};
@@ -20,6 +20,7 @@ use hip_runs::{Event, Input, longest};
 use hip_sound::Checked;
 use hip_types::{LINE_SIZE, NoMemory, Row};
 use std::alloc::Global;
+use std::collections::BTreeMap;
 use std::marker::Model;
 
 /// What a crash may leave in the region at each step of a run. Contracts see the program, the input, and the number of
@@ -133,7 +134,7 @@ impl<'a> CrashLog<'a> {
         let numbers = self.numbers_of(alloc, picks)?;
         let mut image = Image::new(alloc);
         'lines: for line in 0..self.count() {
-            let number = number_in(numbers.as_slice(), line as usize);
+            let number = number_in(&numbers, line);
             let bytes = self.bytes_at(line, number);
             match image.extend_from_slice(&bytes) {
                 Ok(()) => {}
@@ -182,37 +183,38 @@ impl<'a> CrashLog<'a> {
         self.input.image.len() as u64 / LINE_SIZE
     }
 
-    // The numbers that picks give the lines, or how the first failing pick fails.
-    fn numbers_of(&self, alloc: Global, picks: &[Pick]) -> Result<Vec<Option<u64>>, PickRefusal>
-        ensures numbers { IfOk result (λ numbers. AreNumbers
-            (length (state_of self.now).lines) picks.now numbers.items) }
+    // The numbers that picks give lines, or how the first failing pick fails.
+    fn numbers_of(&self, alloc: Global, picks: &[Pick]) -> Result<BTreeMap<u64, u64>, PickRefusal>
+        ensures numbers { IfOk result (λ numbers. AreNumbers picks.now numbers.entries) }
         ensures fit { OnOk result (first_failure (state_of self.now) picks.now ≡ None) }
         ensures refused { IfErr result (λ refusal. IsRefusal (state_of self.now) picks.now refusal) }
     {
-        let mut numbers = match no_numbers(alloc, self.count() as usize) {
-            Ok(numbers) => numbers,
-            Err(_) => return Err(PickRefusal::NoMemory),
-        };
+        let mut numbers = BTreeMap::new(alloc);
         'picks: for place in 0..picks.len() {
             let pick = picks[place];
-            match self.failure_of(numbers.as_slice(), place + 1, pick) {
+            match self.failure_of(&numbers, place + 1, pick) {
                 Some(refusal) => return Err(refusal),
-                None => numbers[pick.line as usize] = Some(pick.upto),
+                None => {}
+            }
+            match numbers.insert(pick.line, pick.upto) {
+                Ok(_) => {}
+                Err(_) => return Err(PickRefusal::NoMemory),
             }
         }
         Ok(numbers)
     }
 
-    // How a pick fails after earlier ones, which gave the lines these numbers.
-    fn failure_of(&self, numbers: &[Option<u64>], at: usize, pick: Pick) -> Option<PickRefusal>
-        requires { length numbers.now ≡ length (state_of self.now).lines }
-        ensures { (earlier : List Pick) → AreNumbers (length (state_of self.now).lines) earlier numbers.now →
+    // How a pick fails after earlier ones, which gave lines these numbers.
+    fn failure_of(&self, numbers: &BTreeMap<u64, u64>, at: usize, pick: Pick) -> Option<PickRefusal>
+        ensures { (earlier : List Pick) → AreNumbers earlier numbers.now.entries →
             result ≡ failure (state_of self.now) earlier at pick }
     {
-        match numbers.get(pick.line as usize) {
-            None => Some(PickRefusal::NoLine { at }),
-            Some(Some(_)) => Some(PickRefusal::Repeated { at }),
-            Some(None) => range_failure(self.line_bounds(pick.line), at, pick.upto),
+        if pick.line >= self.count() {
+            Some(PickRefusal::NoLine { at })
+        } else if number_in(numbers, pick.line).is_some() {
+            Some(PickRefusal::Repeated { at })
+        } else {
+            range_failure(self.line_bounds(pick.line), at, pick.upto)
         }
     }
 
@@ -225,7 +227,7 @@ impl<'a> CrashLog<'a> {
             result ≡ take LINE_SIZE (drop (LINE_SIZE * line) (crash_image self.now.input (state_of self.now) pick)) }
     {
         let view = self.region.view(&self.input.image, line);
-        view.bytes_after(line * LINE_SIZE, behind(view.least, number))
+        view.bytes_after(line * LINE_SIZE, later_count(view.least, number))
     }
 
     // The number of first parts that an image has of a line, if it is a crash image there.
@@ -242,28 +244,15 @@ impl<'a> CrashLog<'a> {
     }
 }
 
-// No number for any of `count` lines.
-fn no_numbers(alloc: Global, count: usize) -> Result<Vec<Option<u64>>, NoMemory>
-    ensures { IfOk result (λ numbers. AreNumbers count [] numbers.items) }
-{
-    let mut numbers = Vec::new(alloc);
-    match numbers.resize(count, None) {
-        Ok(()) => Ok(numbers),
-        Err(_) => Err(NoMemory),
-    }
-}
-
 // The number for a line, if it has one.
-fn number_in(numbers: &[Option<u64>], line: usize) -> Option<u64>
-    requires { line < length numbers.now }
-    ensures { (count : ℕ) → (picks : List Pick) → AreNumbers count picks numbers.now → line < count →
-        result ≡ number_for picks line }
+fn number_in(numbers: &BTreeMap<u64, u64>, line: u64) -> Option<u64>
+    ensures { result ≡ number_in numbers.now.entries line }
 {
-    numbers[line]
+    numbers.get(&line).copied()
 }
 
 // The number of stores after the durable ones that an image has in a line, by the number that was picked for the line.
-fn behind(least: u64, number: Option<u64>) -> usize
+fn later_count(least: u64, number: Option<u64>) -> usize
     requires { least ≤ number_or least number }
     ensures { result ≡ number_or least number - least }
 {

@@ -4,6 +4,7 @@ use Rattle.std.specs.Prelude.{option_and_then, slice_get}
 use Rattle.std.specs.List.{list_all}
 use Rattle.hip_externs.specs.Externs.{call_of}
 use Rattle.hip_externs.specs.declared.call.ExternCall.{ExternCall}
+use Rattle.hip_tree.specs.Laws.SiteLaws.{same_site_equal, site_same}
 use Rattle.hip_tree.specs.Sites.{has_site, instr_of, same_site}
 use Rattle.hip_tree.specs.declared.block.Block.{Block}
 use Rattle.hip_tree.specs.declared.instr.Instr.{Instr}
@@ -12,7 +13,6 @@ use Rattle.hip_tree.specs.declared.program.Function.{Function}
 use Rattle.hip_tree.specs.declared.program.Program.{Program}
 use Rattle.hip_tree.specs.declared.site.Site.{Site}
 use Rattle.hip_runs.specs.Laws.Members.{both_true}
-use Rattle.hip_runs.specs.Laws.Found.FoundLaws.{same_site_equal, site_same}
 use Rattle.hip_runs.specs.StoredParts.Parts.{In}
 use Rattle.hip_runs.specs.Places.{blocks_in, body_at, body_of}
 use Rattle.hip_runs.specs.Sites.{is_defined_call, is_flush_call, is_store}

@@ -10,7 +10,7 @@ use Rattle.hip_histories.proofs.Corresponding.{valid_back}
 use Rattle.hip_histories.specs.NoHarm.{DoesNoHarm}
 
 pub stays_covered : (P Q R : Program) → DoesNoHarm P Q → IsCovered P Q → StaysCovered P Q R
-stays_covered P Q R d covered original I v along j n behind last fence m l at k p there since =
+stays_covered P Q R d covered original I v along j n after last fence m l at k p there since =
     let same = along.matches (suc n) in
     let line = same_line (run R I (suc n)).lines (run Q I (along.steps_of (suc n))).lines same.lines m l at in
     let part = same_part l line.0 line.2 k p there in
@@ -22,7 +22,7 @@ stays_covered P Q R d covered original I v along j n behind last fence m l at k 
     let before : slice_get (run Q I (suc (along.steps_of n))).lines m ≡ Some line.0 =
     ap (λ i. slice_get (run Q I i).lines m) (sym fence) ∙ line.1 in
     let durable : k < line.0.durable =
-    covered.durable I (valid_back P Q d I v) j (along.steps_of n) behind last m line.0 before k part.0 part.1
+    covered.durable I (valid_back P Q d I v) j (along.steps_of n) after last m line.0 before k part.0 part.1
     (omega (arith, since, step)) in
     let more = (along.durable (suc n) m line.0 l line.1 at).1 in
     omega (arith, durable, more)

@@ -54,15 +54,15 @@ all_clean P (r ∷ rs) s I v clean =
     (stays_clean P r.plan r.skip s I v clean)
 
 -- what was found after some repairs is mended by the next, and stays mended
-pub all_mended : (P : Program) (before : List Repair) (r : Repair) (behind : List Repair) → IsSound P → (I : Input)
+pub all_mended : (P : Program) (before : List Repair) (r : Repair) (after : List Repair) → IsSound P → (I : Input)
     → (found : Findings) → IsValid P I → IsQuiet (repaired_on P before) r.skip
     → IsFound (repaired_on P before) I found → Contains r.plan (plan_for (repaired_on P before) found)
-    → IsClean (repaired_on P (before ++ r ∷ behind)) I
-all_mended P [] r behind s I found v quiet is has =
-    all_clean (repaired P r.plan r.skip) behind (repaired_is_sound P r.plan r.skip s) I
+    → IsClean (repaired_on P (before ++ r ∷ after)) I
+all_mended P [] r after s I found v quiet is has =
+    all_clean (repaired P r.plan r.skip) after (repaired_is_sound P r.plan r.skip s) I
     (valid_again P r.plan r.skip I v) (repairs_are_clean P r.plan r.skip I found s v quiet is has)
-all_mended P (b ∷ before) r behind s I found v quiet is has =
-    all_mended (repaired P b.plan b.skip) before r behind (repaired_is_sound P b.plan b.skip s) I found
+all_mended P (b ∷ before) r after s I found v quiet is has =
+    all_mended (repaired P b.plan b.skip) before r after (repaired_is_sound P b.plan b.skip s) I found
     (valid_again P b.plan b.skip I v) quiet is has
 
 -- the calls that a repair hoisted stay covered after any further repairs

@@ -12,7 +12,7 @@ use Rattle.hip_runs.specs.declared.input.Input.{Input}
 use Rattle.hip_runs.specs.declared.report.Findings.{Findings}
 use Rattle.hip_repairs.specs.Choice.{Contains, plan_for}
 use Rattle.hip_repairs.specs.Clean.{IsClean}
-use Rattle.hip_repairs.specs.Covered.{IsBehindClone, IsLastBefore}
+use Rattle.hip_repairs.specs.Covered.{IsAfterCloneCall, IsLastBefore}
 use Rattle.hip_repairs.specs.Quiet.{IsQuiet}
 use Rattle.hip_repairs.specs.Repaired.{repaired}
 use Rattle.hip_repairs.specs.declared.plan.Plan.{Plan}
@@ -37,7 +37,7 @@ repaired_on P (r ∷ rs) = repaired_on (repaired P r.plan r.skip) rs
 abbrev pub StaysCovered : Program → Program → Program → Type 0
 StaysCovered P Q R =
     (original : ℕ → ℕ) (I : Input) → IsValid Q I → (along : GoesAlong original Q R I) → (j n : ℕ) →
-    IsBehindClone Q (length P.functions) (run Q I (along.steps_of n)) → IsLastBefore Q I j (along.steps_of n) →
+    IsAfterCloneCall Q (length P.functions) (run Q I (along.steps_of n)) → IsLastBefore Q I j (along.steps_of n) →
     along.steps_of (suc n) ≡ suc (along.steps_of n) →
     (m : ℕ) (l : Line StorePart) → slice_get (run R I (suc n)).lines m ≡ Some l →
     (k : ℕ) (p : StorePart) → slice_get l.parts k ≡ Some p → j ≤ along.steps_of p.step → k < l.durable

@@ -74,11 +74,11 @@ pub fn chains_of_repairs_add_up()
     ensures keep { (P : Program) → (repairs : List Repair) → IsSound P → KeepsProgram P (repaired_on P repairs) }
     ensures traces { (P : Program) → (repairs : List TraceRepair) → IsSound P → AreMadeInTurn P repairs →
         IsMendedFor P repairs }
-    ensures mended { (P : Program) → (before : List Repair) → (repair : Repair) → (behind : List Repair) → IsSound P →
+    ensures mended { (P : Program) → (before : List Repair) → (repair : Repair) → (after : List Repair) → IsSound P →
         (I : Input) → (found : Findings) → IsValid P I → IsQuiet (repaired_on P before) repair.skip →
         IsFound (repaired_on P before) I found →
         Contains repair.plan (plan_for (repaired_on P before) found) →
-        IsClean (repaired_on P (before ++ repair ∷ behind)) I }
+        IsClean (repaired_on P (before ++ repair ∷ after)) I }
 {}
 
 /// What a repair guarantees over crashes and over later repairs, if its plan has what a run found and the stores that

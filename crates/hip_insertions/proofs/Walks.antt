@@ -7,7 +7,7 @@ use Rattle.hip_tree.specs.declared.instr.Instr.{Instr}
 use Rattle.hip_tree.specs.declared.program.Function.{Function}
 use Rattle.hip_tree.specs.declared.program.Program.{Program}
 use Rattle.hip_tree.specs.declared.site.Site.{Site}
-use Rattle.hip_repairs.specs.Repaired.{Marked, Clone, Wanted, renamed, flush_behind, fence_behind, repaired_body, repaired_block, repaired_blocks, repaired_function, repaired_functions, clone_in, clone_functions}
+use Rattle.hip_repairs.specs.Repaired.{Marked, Clone, Wanted, renamed, added_flush, added_fence, repaired_body, repaired_block, repaired_blocks, repaired_function, repaired_functions, clone_in, clone_functions}
 use Rattle.hip_insertions.specs.Walk.{grown, noted, repaired_at, marked_blocks, marked_functions, marked_clone, marked_clones, with_functions}
 use Rattle.hip_insertions.specs.declared.body.Body.{Body}
 use Rattle.hip_insertions.specs.declared.body.Needed.{Needed}
@@ -25,14 +25,14 @@ module _ (clones : List Clone) (w : Wanted) where
   -- an instruction with what is inserted after it
   pub added_at : (clone : Bool) (s : Site) (i j : Instr) (body first second : Body) (to flush fence : Bool) →
       to ≡ (clone || w.hoist s) → j ≡ renamed clones i to → first ≡ grown body ((j, false) ∷ []) →
-      flush ≡ (w.flush_after s || (clone && not (w.skip s))) → second ≡ grown first (flush_behind i flush) → fence ≡ (w.fence_after s || w.hoist s) →
-      grown second (fence_behind fence) ≡ grown body (repaired_at clones w clone s i)
+      flush ≡ (w.flush_after s || (clone && not (w.skip s))) → second ≡ grown first (added_flush i flush) → fence ≡ (w.fence_after s || w.hoist s) →
+      grown second (added_fence fence) ≡ grown body (repaired_at clones w clone s i)
   added_at clone s i j body first second to flush fence e_to e_j e_first e_flush e_second e_fence =
       let kept : List Marked = (renamed clones i (clone || w.hoist s), false) ∷ [] in
-      let flushes = flush_behind i (w.flush_after s || (clone && not (w.skip s))) in
-      let fences = fence_behind (w.fence_after s || w.hoist s) in
-      ap (λ t. grown second (fence_behind t)) e_fence
-      ∙ ap (λ b. grown b fences) (e_second ∙ ap (λ t. grown first (flush_behind i t)) e_flush
+      let flushes = added_flush i (w.flush_after s || (clone && not (w.skip s))) in
+      let fences = added_fence (w.fence_after s || w.hoist s) in
+      ap (λ t. grown second (added_fence t)) e_fence
+      ∙ ap (λ b. grown b fences) (e_second ∙ ap (λ t. grown first (added_flush i t)) e_flush
       ∙ ap (λ b. grown b flushes) (e_first ∙ ap (λ k. grown body ((k, false) ∷ [])) (e_j ∙ ap (renamed clones i) e_to))
       ∙ grown-append body kept flushes)
       ∙ grown-append body (kept ++ flushes) fences

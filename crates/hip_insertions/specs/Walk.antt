@@ -10,7 +10,7 @@ use Rattle.hip_tree.specs.declared.program.Extern.{Extern}
 use Rattle.hip_tree.specs.declared.program.Function.{Function}
 use Rattle.hip_tree.specs.declared.program.Program.{Program}
 use Rattle.hip_tree.specs.declared.site.Site.{Site}
-use Rattle.hip_repairs.specs.Repaired.{Marked, Clone, Wanted, clwb_name, sfence_name, pmem_flush_name, declared_if, renamed, inserted_behind, repaired_body, instrs_of, inserts}
+use Rattle.hip_repairs.specs.Repaired.{Marked, Clone, Wanted, clwb_name, sfence_name, pmem_flush_name, declared_if, renamed, inserted_after, repaired_body, instrs_of, inserts}
 use Rattle.hip_insertions.specs.declared.body.Body.{Body}
 use Rattle.hip_insertions.specs.declared.body.Needed.{Needed}
 use Rattle.hip_insertions.specs.declared.repair.Made.{Made}
@@ -53,7 +53,7 @@ with_functions made functions ms = record { functions = made.functions ++ functi
 
 -- the repaired instruction of a site, and what is inserted after it
 abbrev pub repaired_at : List Clone → Wanted → Bool → Site → Instr → List Marked
-repaired_at clones w clone s i = (renamed clones i (clone || w.hoist s), false) ∷ inserted_behind w clone s i
+repaired_at clones w clone s i = (renamed clones i (clone || w.hoist s), false) ∷ inserted_after w clone s i
 
 -- the repaired bodies of blocks in order, the first of which has number b
 abbrev pub marked_blocks : List Clone → Wanted → Bool → ℕ → ℕ → List Block → List Marked

@@ -1,7 +1,7 @@
 ghost use Rattle.std.specs.Prelude.{◌≡◌, [], ◌∷◌, true, false, OnOk};
 ghost use Rattle.hip_runs.specs.Operands.{scalar_size};
 ghost use Rattle.hip_repairs.specs.Repaired as spec;
-ghost use Rattle.hip_repairs.specs.Repaired.{fence_behind, flush_behind, flush_of, the_fence};
+ghost use Rattle.hip_repairs.specs.Repaired.{added_fence, added_flush, flush_of, the_fence};
 ghost use Rattle.hip_insertions.specs.Walk.{grown, none_needed};
 
 use crate::insertions::{fence, is_wide, line_flush, range_flush};
@@ -88,7 +88,7 @@ impl Body {
         instr: &Instr,
         is_wanted: bool,
     ) -> Result<(), NoMemory>
-        ensures { OnOk result (self.new ≡ grown self.old (flush_behind instr.now is_wanted)) }
+        ensures { OnOk result (self.new ≡ grown self.old (added_flush instr.now is_wanted)) }
     {
         match instr {
             Instr::Store {
@@ -112,7 +112,7 @@ impl Body {
 
     /// Adds a fence, if the repair inserts one.
     pub fn add_fence_after(&mut self, alloc: Global, is_wanted: bool) -> Result<(), NoMemory>
-        ensures { OnOk result (self.new ≡ grown self.old (fence_behind is_wanted)) }
+        ensures { OnOk result (self.new ≡ grown self.old (added_fence is_wanted)) }
     {
         if is_wanted {
             return self.add_fence(alloc);

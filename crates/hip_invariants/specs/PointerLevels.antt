@@ -50,9 +50,9 @@ is_at_most None (Some u) = ⊥
 is_at_most (Some t) (Some u) = t ≤ u
 
 -- The level after an offset: the same after 0; one more after less than 64 MiB, if the level is below 32; else none.
-abbrev pub behind_offset : PointerLevel → ℕ → PointerLevel
-behind_offset None offset = None
-behind_offset (Some t) offset =
+abbrev pub after_offset : PointerLevel → ℕ → PointerLevel
+after_offset None offset = None
+after_offset (Some t) offset =
     cond (nat_eq offset 0) (Some t) (cond (nat_lt offset 67108864) (cond (nat_lt t 32) (Some (suc t)) None) None)
 
 -- ---- constants
@@ -78,7 +78,7 @@ level_step names _ = None
 -- the level of a constant `getelementptr`, from its base's: the level after its offset, which is 0 where there is no
 -- such element
 abbrev pub gep_level_step : ConstGep-F PointerLevel PointerLevel PointerLevel → PointerLevel
-gep_level_step gep = behind_offset gep.base (unwrap_or (gep_of gep.ty (map index_of gep.indices)) 0)
+gep_level_step gep = after_offset gep.base (unwrap_or (gep_of gep.ty (map index_of gep.indices)) 0)
 
 -- the level of an item of an array or a struct: that of its constant; no other level depends on it
 abbrev pub item_level_step : TypedConst-F PointerLevel PointerLevel PointerLevel → PointerLevel
@@ -122,7 +122,7 @@ known_path (a ∷ args) = both (known_index a.ty a.value) (known_path args)
 -- The level after a `getelementptr` from this level: none if an index has no value, else the level after its offset.
 abbrev pub gep_level : PointerLevel → Ty → Option (List ℕ) → PointerLevel
 gep_level a ty None = None
-gep_level a ty (Some path) = behind_offset a (unwrap_or (gep_of ty path) 0)
+gep_level a ty (Some path) = after_offset a (unwrap_or (gep_of ty path) 0)
 
 module _ (P : Program) (L : Levels) (g : ℕ) where
   -- the level of an operand: that of its register or of its constant

@@ -11,7 +11,7 @@ use Rattle.hip_names.specs.Laws.NameLaws.{bytes_eq-sym}
 use Rattle.hip_names.specs.Laws.NumberLaws.{number_of-cons}
 use Rattle.hip_names.specs.Names.{number_of}
 use Rattle.hip_names.specs.Tables.{Entry, value_of, value_beside, StandsFor}
-use Rattle.hip_invariants.specs.PointerLevels.{PointerLevel, behind_offset, number_level, global_level, level_step, gep_level_step, item_level_step}
+use Rattle.hip_invariants.specs.PointerLevels.{PointerLevel, after_offset, number_level, global_level, level_step, gep_level_step, item_level_step}
 use Rattle.hip_levels.specs.Gathered.{persistence_level, level_with, element_with}
 use Rattle.hip_levels.specs.Numbered.{offset_rank}
 use Rattle.hip_levels.specs.Tables.{level_of}
@@ -45,12 +45,12 @@ globals_told names values gs s name = ap persistence_level (s.finds name) ∙ to
 
 -- ---- elements
 
-pub level_behind : (n offset : ℕ) → n ≤ 33 → level_of (offset_rank n offset) ≡ behind_offset (level_of n) offset
+pub level_behind : (n offset : ℕ) → n ≤ 33 → level_of (offset_rank n offset) ≡ after_offset (level_of n) offset
 level_behind n offset le =
     ap (λ m. level_of (offset_rank m offset)) (sym (rank_of_level n le)) ∙ ap level_of (sym (rank_behind (level_of n) offset (level_is_level n)))
-    ∙ level_of_rank (behind_offset (level_of n) offset) (behind_is_level (level_of n) offset (level_is_level n))
+    ∙ level_of_rank (after_offset (level_of n) offset) (behind_is_level (level_of n) offset (level_is_level n))
 
-pub element_is : (names : List ℕ → PointerLevel) (gep : ConstGep) → element_with names gep ≡ behind_offset (level_with names gep.base) (unwrap_or (gep_of gep.ty (map index_of gep.indices)) 0)
+pub element_is : (names : List ℕ → PointerLevel) (gep : ConstGep) → element_with names gep ≡ after_offset (level_with names gep.base) (unwrap_or (gep_of gep.ty (map index_of gep.indices)) 0)
 element_is names gep = fold_out-ConstGep PointerLevel PointerLevel PointerLevel (level_step names) gep_level_step item_level_step gep
 
 -- ---- a loop over globals

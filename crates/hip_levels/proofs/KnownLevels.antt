@@ -28,7 +28,7 @@ use Rattle.hip_externs.specs.declared.call.ExternCall.{ExternCall}
 use Rattle.hip_sound.specs.Numbering.{function_number}
 use Rattle.hip_runs.specs.StoredParts.Parts.{In}
 use Rattle.hip_runs.specs.Laws.PartLaws.{in-append, in-map}
-use Rattle.hip_invariants.specs.PointerLevels.{PointerLevel, behind_offset, number_level, global_level, level_step, gep_level_step, item_level_step, const_level, known_path}
+use Rattle.hip_invariants.specs.PointerLevels.{PointerLevel, after_offset, number_level, global_level, level_step, gep_level_step, item_level_step, const_level, known_path}
 use Rattle.hip_levels.specs.Bounds.{Bound, Rule, Result, low, free, same_as}
 use Rattle.hip_levels.specs.Closed.{is_level, IsLeast}
 use Rattle.hip_levels.specs.LowStores.{least_levels}
@@ -71,7 +71,7 @@ module _ (globals : List GlobalVar) where
       (λ x y is. subst (λ z. IsLevelOf (roll-Const z)) is (of_level y))
       (λ x y is.
       let base : IsLevelOf x.base = subst IsLevelOf (ap (λ g. g.base) is) y.base.1 in
-      let level : gep_level globals (roll-ConstGep x) ≡ behind_offset (const_level globals x.base) (unwrap_or (gep_of x.ty (map index_of x.indices)) 0) = fold-roll-ConstGep _ _ _ _ _ _ x in
+      let level : gep_level globals (roll-ConstGep x) ≡ after_offset (const_level globals x.base) (unwrap_or (gep_of x.ty (map index_of x.indices)) 0) = fold-roll-ConstGep _ _ _ _ _ _ x in
       subst is_level (sym level) (behind_is_level (const_level globals x.base) _ base))
       (λ x y is. tt)
     where

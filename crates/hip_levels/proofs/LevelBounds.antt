@@ -32,7 +32,7 @@ use Rattle.hip_runs.specs.StoredParts.Parts.{In}
 use Rattle.hip_runs.specs.Validity.{IsValid}
 use Rattle.hip_runs.specs.Laws.PartLaws.{append-left, append-right}
 use Rattle.hip_runs.specs.Laws.StepLaws.{IsTop}
-use Rattle.hip_invariants.specs.PointerLevels.{PointerLevel, within_level, is_at_most, behind_offset, known_path}
+use Rattle.hip_invariants.specs.PointerLevels.{PointerLevel, within_level, is_at_most, after_offset, known_path}
 use Rattle.hip_invariants.specs.Laws.InstrFacts.{instr_fact, CallFact, fact_holds}
 use Rattle.hip_invariants.specs.Laws.Registers.Facts.{ValuesHold, each_value, assigned_fact, fact_of_value, values_in_frames}
 use Rattle.hip_invariants.specs.Laws.LevelBounds.{within_higher, zero_within, offset_within, chosen_within, const_within, path_is}
@@ -41,7 +41,7 @@ use Rattle.hip_levels.specs.Closed.{IsMet, IsClosedUnder}
 use Rattle.hip_levels.specs.Rules.{operand_bound, element_bound, rule, rule_for_result, argument_rules, rules_into, entry_rules, call_rules, instr_rules, end_rules, level_rules}
 use Rattle.hip_levels.proofs.RuleMembers.{of_instr, of_phi, of_end}
 
-nowhere_behind : (a : PointerLevel) → behind_offset a 0 ≡ a
+nowhere_behind : (a : PointerLevel) → after_offset a 0 ≡ a
 nowhere_behind None = refl
 nowhere_behind (Some t) = refl
 

@@ -6,7 +6,7 @@ use Rattle.std.specs.Cmp.Lexicographic.{nat_list_eq_equiv}
 use Rattle.std.proofs.lemmas.Bool.{and_parts}
 use Rattle.std.proofs.lemmas.Bool.Decides.{nat_tests}
 use Rattle.std.proofs.lemmas.Slice.Eq.{bytes_eq-Decides}
-use Rattle.hip_invariants.specs.PointerLevels.{PointerLevel, is_at_most, behind_offset}
+use Rattle.hip_invariants.specs.PointerLevels.{PointerLevel, is_at_most, after_offset}
 use Rattle.hip_levels.specs.Bounds.{Variable, Bound, Assignment, Register, Result, Known, AtOffset, bound_in, same_variable}
 use Rattle.hip_levels.specs.Closed.{is_level, greater}
 
@@ -72,7 +72,7 @@ greater_level (Some t) (Some u) p q = go (nat_lt t u)
 
 -- ---- offsets
 
-pub behind_more : (a b : PointerLevel) (offset : ℕ) → is_at_most a b → is_at_most (behind_offset a offset) (behind_offset b offset)
+pub behind_more : (a b : PointerLevel) (offset : ℕ) → is_at_most a b → is_at_most (after_offset a offset) (after_offset b offset)
 behind_more a None offset p = tt
 behind_more None (Some u) offset p = absurd p
 behind_more (Some t) (Some u) offset p = go (nat_eq offset 0) (nat_lt offset 67108864)
@@ -90,7 +90,7 @@ behind_more (Some t) (Some u) offset p = go (nat_eq offset 0) (nat_lt offset 671
     go true y = p
     go false y = near y
 
-pub behind_is_level : (a : PointerLevel) (offset : ℕ) → is_level a → is_level (behind_offset a offset)
+pub behind_is_level : (a : PointerLevel) (offset : ℕ) → is_level a → is_level (after_offset a offset)
 behind_is_level None offset p = tt
 behind_is_level (Some t) offset p = go (nat_eq offset 0) (nat_lt offset 67108864)
   where

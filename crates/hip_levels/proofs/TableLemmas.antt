@@ -8,7 +8,7 @@ use Rattle.hip_types.specs.Distinct.{met}
 use Rattle.hip_types.specs.Laws.DistinctLaws.{met-distinct, met-kept}
 use Rattle.hip_runs.specs.StoredParts.Parts.{In}
 use Rattle.hip_runs.specs.Laws.PartLaws.{in-map, in-append}
-use Rattle.hip_invariants.specs.PointerLevels.{PointerLevel, is_at_most, behind_offset}
+use Rattle.hip_invariants.specs.PointerLevels.{PointerLevel, is_at_most, after_offset}
 use Rattle.hip_levels.specs.declared.numbered.Least as numbered_least
 use Rattle.hip_levels.specs.declared.numbered.Least.TheVariants as numbered
 use Rattle.hip_levels.specs.declared.numbered.Rule as numbered_rule
@@ -164,7 +164,7 @@ levels_at_most m n le = go (nat_lt m 33) (nat_lt n 33) refl refl
     go true true e f = le
     go false true e f = let lt : n < 33 = ltb-true n 33 f in let ge : 33 ≤ m = grind (arith, nat_tests) in absurd (omega arith)
 
-pub rank_behind : (a : PointerLevel) (offset : ℕ) → is_level a → rank (behind_offset a offset) ≡ offset_rank (rank a) offset
+pub rank_behind : (a : PointerLevel) (offset : ℕ) → is_level a → rank (after_offset a offset) ≡ offset_rank (rank a) offset
 rank_behind None offset h = go (nat_eq offset 0) (nat_lt offset 67108864) 33
   where
     go : (x y : Bool) (n : ℕ) → n ≡ cond x n (cond y n n)
@@ -188,8 +188,8 @@ module _ (vs : List Variable) (rs : List numbered_rule.Rule) (levels : List ℕ)
   bound_is (numbered.AtOffset offset k) w =
       let there : level_in vs levels (variable_at vs k) ≡ level_of (at levels k) = level_there vs levels k t.distinct long w in
       let ranked : rank (level_of (at levels k)) ≡ at levels k = rank_of_level (at levels k) (below.small k) in
-      ap (λ a. behind_offset a offset) there
-      ∙ sym (level_of_rank (behind_offset (level_of (at levels k)) offset) (bound_is_level (λ v. level_of (at levels k)) (λ v. level_is_level (at levels k)) (AtOffset offset (Result 0)) tt))
+      ap (λ a. after_offset a offset) there
+      ∙ sym (level_of_rank (after_offset (level_of (at levels k)) offset) (bound_is_level (λ v. level_of (at levels k)) (λ v. level_is_level (at levels k)) (AtOffset offset (Result 0)) tt))
       ∙ ap level_of (rank_behind (level_of (at levels k)) offset (level_is_level (at levels k)) ∙ ap (λ n. offset_rank n offset) ranked)
 
   table_met : (r : Rule) → In r (map (named vs) rs) → IsMet (level_in vs levels) r

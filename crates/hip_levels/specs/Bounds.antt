@@ -1,7 +1,7 @@
 -- What has a level, and what its least level may be.
 use Rattle.std.specs.Prelude.{ℕ, Bool, false, ◌&&◌, nat_eq, List, Some, None}
 use Rattle.std.specs.Str.{bytes_eq}
-use Rattle.hip_invariants.specs.PointerLevels.{PointerLevel, behind_offset}
+use Rattle.hip_invariants.specs.PointerLevels.{PointerLevel, after_offset}
 
 -- What has a level: a register of a function, which may be a parameter, and the result of a function, each by the
 -- function's number. (This project's own, as all of this file.)
@@ -44,4 +44,4 @@ Assignment = Variable → PointerLevel
 -- the level that a bound means, by the levels of the variables
 abbrev pub bound_in : Assignment → Bound → PointerLevel
 bound_in A (Known a) = a
-bound_in A (AtOffset offset v) = behind_offset (A v) offset
+bound_in A (AtOffset offset v) = after_offset (A v) offset

@@ -18,7 +18,7 @@ use Rattle.hip_tree.specs.declared.program.Program.{Program}
 use Rattle.hip_externs.specs.Externs.{call_of}
 use Rattle.hip_externs.specs.declared.call.ExternCall.{ExternCall}
 use Rattle.hip_sound.specs.Numbering.{function_number}
-use Rattle.hip_invariants.specs.PointerLevels.{behind_offset, const_level, known_path}
+use Rattle.hip_invariants.specs.PointerLevels.{after_offset, const_level, known_path}
 use Rattle.hip_levels.specs.Bounds.{Bound, Rule, Register, Result, Known, AtOffset, low, free, same_as}
 
 module _ (P : Program) (g : ℕ) where
@@ -30,7 +30,7 @@ module _ (P : Program) (g : ℕ) where
   -- the bound at an offset from an operand
   abbrev pub offset_bound : Operand → ℕ → Bound
   offset_bound (Reg name) offset = AtOffset offset (Register g name)
-  offset_bound (Fixed c) offset = Known (behind_offset (const_level P.globals c) offset)
+  offset_bound (Fixed c) offset = Known (after_offset (const_level P.globals c) offset)
 
   -- the bound of an element of an operand, by the values of the indices; free if one of them is a register
   abbrev pub element_bound : Operand → Ty → Option (List ℕ) → Bound

@@ -6,9 +6,9 @@ use Rattle.std.proofs.lemmas.Bool.Decides.{nat_tests}
 use Rattle.std.proofs.lemmas.List.{length-take, take_all, take_more}
 use Rattle.std.proofs.lemmas.List.Folds.{list_any-append}
 use Rattle.std.proofs.lemmas.List.Sums.{count_by-le-length, count_by_more_no, count_by_more_yes}
+use Rattle.hip_tree.specs.Laws.SiteLaws.{same_site_equal}
 use Rattle.hip_tree.specs.Sites.{has_site, same_site}
 use Rattle.hip_tree.specs.declared.site.Site.{Site}
-use Rattle.hip_runs.specs.Laws.Found.FoundLaws.{same_site_equal}
 use Rattle.hip_repairs.specs.declared.plan.Plan.{Plan}
 use Rattle.hip_many.specs.Counts.{count_at, counted, none_met}
 use Rattle.hip_many.specs.Reasons.{plans_with, sites_in}

@@ -23,7 +23,7 @@ use Rattle.hip_many_commands.specs.Asking.{AsksAll, HasAskedAll, status_of_trace
 use Rattle.hip_many_commands.specs.Many.{HasRepairedMany, ManyAnswers, status_in}
 use Rattle.hip_many_commands.specs.Notes.{many_notes}
 use Rattle.hip_repairing.specs.Making.{IsRepairForAll}
-use Rattle.hip_many_commands.specs.Runs.{AreRunsOf, FollowsRuns, TracedRun, plans_of, reports_of}
+use Rattle.hip_many_commands.specs.Runs.{AreRunsOf, IsAfterRuns, TracedRun, plans_of, reports_of}
 use Rattle.hip_many_commands.specs.declared.loading.AllAsked.{AllAsked}
 use Rattle.hip_many_commands.specs.declared.refusal.NumberedRefusal.{NumberedRefusal}
 use Rattle.hip_repairing.specs.declared.many_runs.ManyRepair.{ManyRepair}
@@ -38,10 +38,10 @@ use Rattle.hip_repairs.specs.declared.plan.CloneOf.{CloneOf}
 -- ---- a trace that is none
 
 follows_alike : {files other : Option (List NamedFile)} {P : Program} {names : List (List ℕ)} {number : ℕ}
-    {name : List ℕ} → files ≡ other → FollowsRuns files P names number name
-    → FollowsRuns other P names number name
+    {name : List ℕ} → files ≡ other → IsAfterRuns files P names number name
+    → IsAfterRuns other P names number name
 follows_alike {files} {other} {P} {names} {number} {name} same b =
-    subst (λ (fs : Option (List NamedFile)). FollowsRuns fs P names number name) same b
+    subst (λ (fs : Option (List NamedFile)). IsAfterRuns fs P names number name) same b
 
 module _ {old mid new : CabinetState} {p : List ℕ} {names : List (List ℕ)} (P : Program) (met : HasMet false false old mid)
     (program : IsProgramOf old.files p P) (fetched : CountsFetches 1 old mid) where

@@ -11,7 +11,7 @@ use Rattle.hip_program_files.specs.Outside.{CountsFetches, HasMet}
 use Rattle.hip_program_files.specs.declared.failure.Failure.{Failure}
 use Rattle.hip_program_files.specs.declared.failure.Failure.TheVariants as failures
 use Rattle.hip_many_commands.specs.Asking.{Asks, AsksAll, HasAsked, numbered}
-use Rattle.hip_many_commands.specs.Runs.{AreRunsOf, FollowsRuns, IsRunOf, TracedRun, plans_of, reports_of}
+use Rattle.hip_many_commands.specs.Runs.{AreRunsOf, IsAfterRuns, IsRunOf, TracedRun, plans_of, reports_of}
 use Rattle.hip_many_commands.specs.declared.loading.Asked.{Asked}
 use Rattle.hip_answers.specs.TraceFiles.{FailsToRead, HasNoTrace}
 use Rattle.hip_answers.specs.declared.refusal.TraceFileRefusal.{TraceFileRefusal}
@@ -96,7 +96,7 @@ module _ {P : Program} {names : List (List ℕ)} {start mid : CabinetState} {cou
   }
 
   -- it comes after the runs
-  pub after_runs : (number : ℕ) → number ≡ count + 1 → FollowsRuns start.files P names number name
+  pub after_runs : (number : ℕ) → number ≡ count + 1 → IsAfterRuns start.files P names number name
   after_runs number same = record {
     before = take count names;
     after = drop (suc count) names;

@@ -23,7 +23,7 @@ use Rattle.hip_repairs.specs.Direct.{direct}
 use Rattle.hip_repairs.specs.Repaired.{repaired}
 use Rattle.hip_many_commands.specs.Notes.{many_notes}
 use Rattle.hip_many_commands.specs.RunLaws.{heads, one_runs, tails}
-use Rattle.hip_many_commands.specs.Runs.{AreRunsOf, FollowsRuns, IsRunOf, TracedRun, plans_of, reports_of}
+use Rattle.hip_many_commands.specs.Runs.{AreRunsOf, IsAfterRuns, IsRunOf, TracedRun, plans_of, reports_of}
 use Rattle.hip_repair_answers.specs.Laws.Repairs.{answer_is}
 use Rattle.hip_answers.specs.TraceFiles.{HasNoTrace, IsTraceFile}
 use Rattle.hip_answers.specs.TraceLaws.{never_both, untraced_once}
@@ -95,7 +95,7 @@ pub record Untraced (files : List NamedFile) (p : List ℕ) (names : List (List 
   loaded : IsProgramOf (Some files) p program
   number : ℕ
   name : List ℕ
-  follows : FollowsRuns (Some files) program names number name
+  follows : IsAfterRuns (Some files) program names number name
   why : TraceFileRefusal
   cause : HasNoTrace (Some files) name program why
   is : a ≡ refusal (status_in number why)
@@ -142,7 +142,7 @@ module _ (unions : UnionsAreOne) (files : List NamedFile) (p : List ℕ) (names 
     loaded = subst (λ fs. IsProgramOf fs p u.program) known u.loaded;
     number = u.number;
     name = u.name;
-    follows = subst (λ fs. FollowsRuns fs u.program names u.number u.name) known u.follows;
+    follows = subst (λ fs. IsAfterRuns fs u.program names u.number u.name) known u.follows;
     why = u.why;
     cause = subst (λ fs. HasNoTrace fs u.name u.program u.why) known u.cause;
     is = u.is;
@@ -163,7 +163,7 @@ module _ (unions : UnionsAreOne) (files : List NamedFile) (p : List ℕ) (names 
   two_untraced a b u v =
       let P = u.program in
       let same = one.programs v.program P v.loaded u.loaded in
-      let follows = subst (λ (Q : Program). FollowsRuns (Some files) Q names v.number v.name) same v.follows in
+      let follows = subst (λ (Q : Program). IsAfterRuns (Some files) Q names v.number v.name) same v.follows in
       let cause = subst (λ (Q : Program). HasNoTrace (Some files) v.name Q v.why) same v.cause in
       let place = one_place files P u.follows.before follows.before u.follows.after follows.after u.name v.name u.why v.why
       u.cause cause (all_traced files P u.follows.before u.follows.runs u.follows.are)

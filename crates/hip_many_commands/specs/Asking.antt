@@ -8,7 +8,7 @@ use Rattle.hip_program_files.specs.Outside.{CountsFetches, HasMet}
 use Rattle.hip_program_files.specs.declared.failure.Failure.{Failure}
 use Rattle.hip_program_files.specs.declared.failure.Failure.TheVariants as failures
 use Rattle.hip_many_commands.specs.Many.{status_in}
-use Rattle.hip_many_commands.specs.Runs.{AreRunsOf, FollowsRuns, IsRunOf, TracedRun, plans_of, reports_of}
+use Rattle.hip_many_commands.specs.Runs.{AreRunsOf, IsAfterRuns, IsRunOf, TracedRun, plans_of, reports_of}
 use Rattle.hip_many_commands.specs.declared.loading.AllAsked.{AllAsked}
 use Rattle.hip_many_commands.specs.declared.loading.Asked.{Asked}
 use Rattle.hip_many_commands.specs.declared.refusal.NumberedRefusal.{NumberedRefusal}
@@ -57,7 +57,7 @@ pub record HasAskedAll (P : Program) (names : List (List ℕ)) (old new : Cabine
 pub record LacksTraceIn (P : Program) (names : List (List ℕ)) (old new : CabinetState) (refusal : NumberedRefusal) :
     Type 0 where
   pub name : List ℕ
-  pub follows : FollowsRuns old.files P names refusal.number name
+  pub follows : IsAfterRuns old.files P names refusal.number name
   pub met : HasMet (is_missing refusal.why) false old new
   pub cause : HasNoTrace old.files name P refusal.why
 
@@ -66,7 +66,7 @@ pub record LacksTraceIn (P : Program) (names : List (List ℕ)) (old new : Cabin
 pub record HasFailedIn (P : Program) (names : List (List ℕ)) (old new : CabinetState) : Type 0 where
   pub number : ℕ
   pub name : List ℕ
-  pub follows : FollowsRuns old.files P names number name
+  pub follows : IsAfterRuns old.files P names number name
   pub met : HasMet false true old new
   pub fetches : CountsFetches number old new
   pub unread : FailsToRead old.files name P new

@@ -14,7 +14,7 @@ use Rattle.hip_program_files.specs.Outside.{CountsFetches, HasMet}
 use Rattle.hip_many.specs.Reasons.{reasons}
 use Rattle.hip_many.specs.Union.{IsUnion}
 use Rattle.hip_many_commands.specs.Notes.{many_notes}
-use Rattle.hip_many_commands.specs.Runs.{AreRunsOf, FollowsRuns, TracedRun, plans_of, reports_of}
+use Rattle.hip_many_commands.specs.Runs.{AreRunsOf, IsAfterRuns, TracedRun, plans_of, reports_of}
 use Rattle.hip_repair_answers.specs.Cured.{IsCuredBy}
 use Rattle.hip_answers.specs.TraceFiles.{FailsToRead, HasNoTrace, is_missing}
 use Rattle.hip_answers.specs.declared.refusal.TraceFileRefusal.{TraceFileRefusal}
@@ -39,7 +39,7 @@ pub record IsUntracedIn (old new : CabinetState) (program_name : List ℕ) (name
   pub loaded : IsProgramOf old.files program_name program
   pub number : ℕ
   pub name : List ℕ
-  pub follows : FollowsRuns old.files program names number name
+  pub follows : IsAfterRuns old.files program names number name
   pub why : TraceFileRefusal
   pub met : HasMet (is_missing why) false old new
   pub cause : HasNoTrace old.files name program why
@@ -54,7 +54,7 @@ pub record IsUnreadIn (old new : CabinetState) (program_name : List ℕ) (names 
   pub loaded : IsProgramOf old.files program_name program
   pub number : ℕ
   pub name : List ℕ
-  pub follows : FollowsRuns old.files program names number name
+  pub follows : IsAfterRuns old.files program names number name
   pub met : HasMet false true old new
   pub fetches : CountsFetches (1 + number) old new
   pub unread : FailsToRead old.files name program new

@@ -30,7 +30,7 @@ pub record AreRunsOf (files : Option (List NamedFile)) (P : Program) (names : Li
   pub each : All (IsRunOf files P) runs
 
 -- The name is at that place among the names, counted from 1, and all files before it are traces of runs.
-pub record FollowsRuns (files : Option (List NamedFile)) (P : Program) (names : List (List ℕ)) (number : ℕ)
+pub record IsAfterRuns (files : Option (List NamedFile)) (P : Program) (names : List (List ℕ)) (number : ℕ)
     (name : List ℕ) : Type 0 where
   pub before : List (List ℕ)
   pub after : List (List ℕ)

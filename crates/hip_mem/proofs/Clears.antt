@@ -8,11 +8,11 @@ use Rattle.hip_mem.proofs.PageKeys.{in_or_out, inside, outside}
 pub record IsCleared (m old : Pages) (from to next : ℕ) : Type 0 where
   pub zero : (a : ℕ) → from ≤ a → a < to → a / 4096 < next → page_byte m a ≡ 0
   pub before : (a : ℕ) → a < from → page_byte m a ≡ page_byte old a
-  pub behind : (a : ℕ) → to ≤ a → page_byte m a ≡ page_byte old a
+  pub after : (a : ℕ) → to ≤ a → page_byte m a ≡ page_byte old a
   pub rest : (a : ℕ) → next ≤ a / 4096 → page_byte m a ≡ page_byte old a
 
 pub cleared-none : (m : Pages) (from to : ℕ) → IsCleared m m from to (from / 4096)
-cleared-none m from to = record { zero = λ a low high lt. absurd (omega (arith, low, lt)); before = λ a _. refl; behind = λ a _. refl; rest = λ a _. refl }
+cleared-none m from to = record { zero = λ a low high lt. absurd (omega (arith, low, lt)); before = λ a _. refl; after = λ a _. refl; rest = λ a _. refl }
 
 same_or_not : (m n : ℕ) → (m ≡ n) ⊎ (m ≢ n)
 same_or_not m n = grind arith
@@ -28,7 +28,7 @@ module _ (old m m' : Pages) (from to next k low high : ℕ) (h : IsCleared m old
   other a ne = others (a / 4096) (a % 4096) ne (omega arith)
 
   pub cleared-more : IsCleared m' old from to (k + 1)
-  cleared-more = record { zero = zero; before = before; behind = behind; rest = rest }
+  cleared-more = record { zero = zero; before = before; after = after; rest = rest }
     where
       zero : (a : ℕ) → from ≤ a → a < to → a / 4096 < k + 1 → page_byte m' a ≡ 0
       zero a l u lt = go (same_or_not (a / 4096) k) (below_or_not (a / 4096) next)
@@ -45,12 +45,12 @@ module _ (old m m' : Pages) (from to next k low high : ℕ) (h : IsCleared m old
           go (inl e) = outside low (a % 4096) high (page_byte m' a) (page_byte m a) 0 (in_page a e) (inl (omega (arith, e, l, low_is))) ∙ h.before a l
           go (inr ne) = other a ne ∙ h.before a l
 
-      behind : (a : ℕ) → to ≤ a → page_byte m' a ≡ page_byte old a
-      behind a u = go (same_or_not (a / 4096) k)
+      after : (a : ℕ) → to ≤ a → page_byte m' a ≡ page_byte old a
+      after a u = go (same_or_not (a / 4096) k)
         where
           go : (a / 4096 ≡ k) ⊎ (a / 4096 ≢ k) → page_byte m' a ≡ page_byte old a
-          go (inl e) = outside low (a % 4096) high (page_byte m' a) (page_byte m a) 0 (in_page a e) (inr (omega (arith, e, u, high_is))) ∙ h.behind a u
-          go (inr ne) = other a ne ∙ h.behind a u
+          go (inl e) = outside low (a % 4096) high (page_byte m' a) (page_byte m a) 0 (in_page a e) (inr (omega (arith, e, u, high_is))) ∙ h.after a u
+          go (inr ne) = other a ne ∙ h.after a u
 
       rest : (a : ℕ) → k + 1 ≤ a / 4096 → page_byte m' a ≡ page_byte old a
       rest a l = other a (λ e. omega (arith, e, l)) ∙ h.rest a (omega (arith, l, le))
@@ -65,7 +65,7 @@ cleared-all old m from to next end h e z a = go (in_or_out from a to)
 
     out : (a < from) ⊎ (to ≤ a) → page_byte m a ≡ page_byte old a
     out (inl l) = h.before a l
-    out (inr l) = h.behind a l
+    out (inr l) = h.after a l
 
     go : (((nat_le from a && nat_lt a to) ≡ true) × (from ≤ a) × (a < to)) ⊎ (((nat_le from a && nat_lt a to) ≡ false) × ((a < from) ⊎ (to ≤ a))) → page_byte m a ≡ cond (nat_le from a && nat_lt a to) 0 (page_byte old a)
     go (inl t) = zero t.1 t.2 (below_or_not (a / 4096) next) z ∙ sym (ap (λ b. cond b 0 (page_byte old a)) t.0)

@@ -1,6 +1,6 @@
 -- The memory of a machine: its initial bytes and the list of all writes so far.
 use Rattle.std.specs.Prelude.{ℕ, suc, zero, ◌+◌, ◌-◌, Bool, cond, ◌&&◌, nat_lt, nat_le, List, [], ◌∷◌, ◌++◌, length, slice_index}
-use Rattle.hip_types.specs.Areas.{volatile_start, stack_start, stack_end}
+use Rattle.hip_types.specs.Areas.{volatile_start}
 
 -- whether address a is one of the `size` addresses from `start` on; a range of size 0 contains none
 abbrev pub range_contains : ℕ → ℕ → ℕ → Bool

@@ -8,16 +8,16 @@ use Rattle.std.specs.Prelude.{unwrap_or}
 use Rattle.std.specs.declared.cmp.Ordering.{Ordering}
 use Rattle.std.proofs.lemmas.List.{length-take, take_more}
 use Rattle.std.proofs.lemmas.Int.{ints}
+use Rattle.hip_tree.specs.Laws.SiteLaws.{cmp-is_eq, same_site_equal, site_cmp}
 use Rattle.hip_tree.specs.Sites.{same_site}
 use Rattle.hip_tree.specs.declared.site.Site.{Site}
 use Rattle.hip_runs.specs.Found.Scores.{is_marked, worth_in, worth_of}
 use Rattle.hip_runs.specs.declared.report.Mark.{Mark}
-use Rattle.hip_runs.specs.Laws.Found.FoundLaws.{same_site_equal}
 use Rattle.hip_runs.specs.Laws.Members.{both_true, equal_true}
 use Rattle.hip_runs.specs.declared.event.Object.{Object}
 use Rattle.hip_runs.specs.declared.event.Object.TheVariants as objects
 use Rattle.hip_plan.specs.Worths.{HasWorths, OperandKey, same_operand, worth_among}
-use Rattle.hip_sites.proofs.SiteOrder.{cmp-is_eq, number-is_eq, site_cmp, then-is_eq}
+use Rattle.hip_sites.proofs.SiteOrder.{number-is_eq, then-is_eq}
 use Rattle.hip_plan.proofs.Sums.{IsWithin, add-none, worth-append, worth_within}
 
 -- the key of a mark

@@ -15,7 +15,7 @@ use Rattle.hip_runs.specs.declared.event.Ending.TheVariants.{Stop}
 use Rattle.hip_runs.specs.declared.event.Event.TheVariants as events
 use Rattle.hip_runs.specs.declared.input.Input.{Input}
 use Rattle.hip_runs.specs.declared.report.Report.{Report}
-use Rattle.hip_repairs.specs.Covered.{IsBehindClone, IsLastBefore}
+use Rattle.hip_repairs.specs.Covered.{IsAfterCloneCall, IsLastBefore}
 use Rattle.hip_repairs.specs.Harmless.{matched}
 use Rattle.hip_repairs.specs.Repaired.{repaired}
 use Rattle.hip_repairs.specs.declared.plan.Plan.{Plan}
@@ -91,5 +91,5 @@ pub record IsStoredSince (s : State) (step b : ℕ) : Type 0 where
 -- survives a crash after the fence.
 abbrev pub CoveredSurvive : Program → Program → Type 0
 CoveredSurvive P Q =
-    (I : Input) → IsValid P I → (j n : ℕ) → IsBehindClone Q (length P.functions) (run Q I n) → IsLastBefore Q I j n →
+    (I : Input) → IsValid P I → (j n : ℕ) → IsAfterCloneCall Q (length P.functions) (run Q I n) → IsLastBefore Q I j n →
     (b : ℕ) → IsStoredSince (run Q I (suc n)) j b → Survives Q I (run Q I (suc n)) b

@@ -49,13 +49,13 @@ IsCallFrom Q functions _ = ⊥
 
 -- The state stands at a call of `sfence` or `mfence` directly after a call of a clone in its block; clones have the
 -- numbers from `functions` on.
-pub record IsBehindClone (Q : Program) (functions : ℕ) (s : State) : Type 0 where
+pub record IsAfterCloneCall (Q : Program) (functions : ℕ) (s : State) : Type 0 where
   pub going : s.world.ending ≡ None
   pub frame : Frame
   pub others : List Frame
   pub frames : s.frames ≡ frame ∷ others
   pub at : ℕ
-  pub behind : frame.place ≡ suc at
+  pub after : frame.place ≡ suc at
   pub call : IsCallFrom Q functions (slice_get (body_at Q frame.function frame.block) at)
   pub fence : IsFenceCall (slice_get (body_at Q frame.function frame.block) (suc at))
 
@@ -95,13 +95,13 @@ pub record CallsClone (P Q : Program) (s s' : State) : Type 0 where
 -- function. Each part of a store that the cache lines got from the call on is durable after the fence.
 pub record IsCovered (P Q : Program) : Type 0 where
   pub call :
-      (I : Input) → IsValid P I → (n : ℕ) (behind : IsBehindClone Q (length P.functions) (run Q I n)) →
-      (j : ℕ) × IsLastBefore Q I j n × IsAtCall behind.frame behind.others behind.at (run Q I j)
+      (I : Input) → IsValid P I → (n : ℕ) (after : IsAfterCloneCall Q (length P.functions) (run Q I n)) →
+      (j : ℕ) × IsLastBefore Q I j n × IsAtCall after.frame after.others after.at (run Q I j)
   pub clone :
-      (I : Input) → IsValid P I → (j n : ℕ) → IsBehindClone Q (length P.functions) (run Q I n)
+      (I : Input) → IsValid P I → (j n : ℕ) → IsAfterCloneCall Q (length P.functions) (run Q I n)
       → IsLastBefore Q I j n → (i : ℕ) × CallsClone P Q (run P I i) (run Q I j)
   pub durable :
-      (I : Input) → IsValid P I → (j n : ℕ) → IsBehindClone Q (length P.functions) (run Q I n)
+      (I : Input) → IsValid P I → (j n : ℕ) → IsAfterCloneCall Q (length P.functions) (run Q I n)
       → IsLastBefore Q I j n →
       (m : ℕ) (l : Line StorePart) → slice_get (run Q I (suc n)).lines m ≡ Some l →
       (k : ℕ) (p : StorePart) → slice_get l.parts k ≡ Some p → j ≤ p.step → k < l.durable

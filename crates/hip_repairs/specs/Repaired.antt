@@ -83,13 +83,13 @@ renamed clones (Call dest ret callee args) to_clone =
 renamed clones i to_clone = i
 
 -- the flush after a store, if one is inserted; nothing after any other instruction
-abbrev pub flush_behind : Instr → Bool → List Marked
-flush_behind (Store ty value addr align) wanted = cond wanted ((flush_of ty addr align, true) ∷ []) []
-flush_behind i wanted = []
+abbrev pub added_flush : Instr → Bool → List Marked
+added_flush (Store ty value addr align) wanted = cond wanted ((flush_of ty addr align, true) ∷ []) []
+added_flush i wanted = []
 
 -- the fence after an instruction, if one is inserted
-abbrev pub fence_behind : Bool → List Marked
-fence_behind wanted = cond wanted ((the_fence, true) ∷ []) []
+abbrev pub added_fence : Bool → List Marked
+added_fence wanted = cond wanted ((the_fence, true) ∷ []) []
 
 -- Where a repair inserts: sets of sites of the program, each by its test. `skip` has the stores that get no flush by
 -- cloning.
@@ -111,9 +111,9 @@ wanted_by plan skip =
 
 -- What is inserted after an instruction: a flush after a store that the plan names, and in a clone after each store
 -- except those to skip; a fence after a planned flush and after a hoisted call.
-abbrev pub inserted_behind : Wanted → Bool → Site → Instr → List Marked
-inserted_behind w clone s i =
-    flush_behind i (w.flush_after s || (clone && not (w.skip s))) ++ fence_behind (w.fence_after s || w.hoist s)
+abbrev pub inserted_after : Wanted → Bool → Site → Instr → List Marked
+inserted_after w clone s i =
+    added_flush i (w.flush_after s || (clone && not (w.skip s))) ++ added_fence (w.fence_after s || w.hoist s)
 
 -- the repaired body from place k on, of a function or of its clone; a hoisted call names a clone, and so does each call
 -- in a clone
@@ -121,7 +121,7 @@ abbrev pub repaired_body : List Clone → Wanted → Bool → ℕ → ℕ → �
 repaired_body clones w clone f b k [] = []
 repaired_body clones w clone f b k (i ∷ is) =
     (renamed clones i (clone || w.hoist (record { function = f; block = b; index = k })), false)
-    ∷ (inserted_behind w clone (record { function = f; block = b; index = k }) i
+    ∷ (inserted_after w clone (record { function = f; block = b; index = k }) i
     ++ repaired_body clones w clone f b (suc k) is)
 
 -- the instructions of a repaired body, without their marks

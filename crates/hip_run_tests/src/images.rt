@@ -224,7 +224,7 @@ const BOUNDED: &[Bounded] = &[
         bounds: Bounds { least: 1, most: 2 },
     },
     Bounded {
-        name: "a flush with a fence behind it",
+        name: "a flush with a fence after it",
         program: FLUSHED,
         entry: 10,
         line: 1,

@@ -1,6 +1,6 @@
 -- The header of a trace: the longest front of its pieces that is a valid START, a valid REGISTER, valid INPUT entries
 -- and then valid IMAGE entries. It gives the input of a run. (This project's own.)
-use Rattle.std.specs.Prelude.{ℕ, suc, ◌+◌, ◌-◌, ◌%◌, ◌^◌, ◌&&◌, ◌==◌, nat_le, nat_lt, Bool, true, false, ℤ, List, [], ◌∷◌, ◌++◌, length, Option, Some, None, if◌then◌else◌}
+use Rattle.std.specs.Prelude.{ℕ, suc, ◌+◌, ◌-◌, ◌&&◌, ◌==◌, nat_le, nat_lt, Bool, true, false, ℤ, List, [], ◌∷◌, ◌++◌, length, Option, Some, None, if◌then◌else◌}
 use Rattle.hip_globals.specs.Addresses.{is_base, region_size}
 use Rattle.hip_tree.specs.declared.program.Program.{Program}
 use Rattle.hip_types.specs.declared.areas.TheConstants.{LINE_SIZE}

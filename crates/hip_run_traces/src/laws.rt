@@ -72,7 +72,7 @@ pub fn misfits_are_one()
         IsMisfit P bytes whole e k → IsMisfit P bytes whole e' k' → k ≡ k' }
     ensures none { (P : Program) → (bytes : List ℕ) → (I : Input) → (e : ℕ) → (k : MisfitKind) →
         IsTraceOf P bytes I → IsMisfit P bytes true e k → ⊥ }
-    ensures behind { (P : Program) → (bytes : List ℕ) → (whole : Bool) → (I : Input) → (h e : ℕ)
+    ensures after { (P : Program) → (bytes : List ℕ) → (whole : Bool) → (I : Input) → (h e : ℕ)
         → (k : MisfitKind) →
         IsMisfit P bytes whole e k → header P (spelled whole bytes) ≡ Gives h I → h < e }
 {}

@@ -1,4 +1,5 @@
--- The derived order of sites is that of `site_before`, and sets and tables by it have what lists of sites have.
+-- The derived order of sites is that of `site_before`, tables by it have what lists of sites have, and sets of numbers
+-- have what lists of numbers have.
 use Rattle.std.proofs.Common.{◌≡◌, ℕ, Bool, true, false, cond, ◌&&◌, ◌||◌, nat_eq, nat_lt, nat_cmp, List, [], ◌∷◌, Option, refl, sym, ap, ap₂, ◌∙◌, arith}
 use Rattle.std.proofs.lemmas.Bool.Decides.{nat_tests}
 use Rattle.std.proofs.lemmas.Map.Keys.{sorted_head, sorted_tail}
@@ -9,15 +10,11 @@ use Rattle.std.specs.List.Sorted.{IsStrictlySortedBy}
 use Rattle.std.specs.Ordering.{is_eq, is_lt, ordering_then}
 use Rattle.std.specs.declared.cmp.Ordering.{Ordering}
 use Rattle.std.specs.declared.cmp.Ordering.TheVariants.{Less, Equal, Greater}
-use Rattle.hip_tree.specs.Sites.{has_site, same_site}
-use Rattle.hip_tree.specs.contracts.site.SiteOrd.TheImpl as derived
+use Rattle.hip_tree.specs.Sites.{same_site}
+use Rattle.hip_tree.specs.Laws.SiteLaws.{cmp-is_eq, same_site-sym, site_cmp}
 use Rattle.hip_tree.specs.declared.site.Site.{Site}
 use Rattle.hip_repairs.specs.Suits.{is_ascending, site_before}
 use Rattle.hip_runs.specs.Laws.Members.{true_both}
-
--- the order that sites are compared by
-abbrev pub site_cmp : Site → Site → Ordering
-site_cmp a b = derived.cmp-value.it a b
 
 pub number-is_eq : (a b : ℕ) → is_eq (nat_cmp a b) ≡ nat_eq a b
 number-is_eq a b = grind (arith, nat_tests)
@@ -35,37 +32,15 @@ then-is_lt Less y = refl
 then-is_lt Equal y = refl
 then-is_lt Greater y = refl
 
-pub cmp-is_eq : (a b : Site) → is_eq (site_cmp a b) ≡ same_site a b
-cmp-is_eq a b = simp (then-is_eq, number-is_eq) refl
-
 pub cmp-is_lt : (a b : Site) → is_lt (site_cmp a b) ≡ site_before a b
 cmp-is_lt a b = simp (then-is_lt, number-is_eq, number-is_lt) refl
-
--- a set has a site exactly where its list does
-pub keys_have : (sites : List Site) (s : Site) → list_any (is_at (site_cmp s)) sites ≡ has_site sites s
-keys_have [] s = refl
-keys_have (x ∷ xs) s = ap₂ (λ b c. b || c) (cmp-is_eq s x) (keys_have xs s)
 
 pub flipped : (m n : ℕ) → nat_eq m n ≡ nat_eq n m
 flipped m n = grind (arith, nat_tests)
 
-same_site-sym : (a b : Site) → same_site a b ≡ same_site b a
-same_site-sym a b =
-    ap₂ (λ (c d : Bool). c && d) (flipped a.function b.function)
-    (ap₂ (λ (c d : Bool). c && d) (flipped a.block b.block) (flipped a.index b.index))
-
 one_or : (b c : Bool) → cond b true c ≡ b || c
 one_or true c = refl
 one_or false c = refl
-
--- what a set has after one site more
-pub inserted : (old new : List Site) (site s : Site)
-    → list_any (is_at (site_cmp s)) new ≡ cond (is_at (site_cmp site) s) true (list_any (is_at (site_cmp s)) old)
-    → has_site new s ≡ same_site s site || has_site old s
-inserted old new site s e =
-    sym (keys_have new s) ∙ e
-    ∙ ap₂ (λ b c. cond b true c) (cmp-is_eq site s ∙ same_site-sym site s) (keys_have old s)
-    ∙ one_or (same_site s site) (has_site old s)
 
 is_less : (a b : Site) → site_cmp a b ≡ Less → site_before a b ≡ true
 is_less a b e = sym (cmp-is_lt a b) ∙ ap is_lt e

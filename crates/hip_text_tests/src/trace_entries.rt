@@ -240,7 +240,7 @@ const MALFORMED_TEXTS: &[&str] = &[
 ];
 
 /// An entry, then a text, then a separator.
-fn behind_an_entry(rt: &impl Abort, alloc: Global, text: &str) -> Vec<u8> {
+fn after_an_entry(rt: &impl Abort, alloc: Global, text: &str) -> Vec<u8> {
     let mut bytes = Vec::new(alloc);
     bytes.extend_from_slice(b"CUT|").expect(rt, AMPLE);
     bytes.extend_from_slice(text.as_bytes()).expect(rt, AMPLE);
@@ -252,7 +252,7 @@ fn behind_an_entry(rt: &impl Abort, alloc: Global, text: &str) -> Vec<u8> {
 fn malformed(rt: HostRuntime) {
     for text in MALFORMED_TEXTS {
         let alloc = rt.alloc();
-        let bytes = behind_an_entry(&rt, alloc, *text);
+        let bytes = after_an_entry(&rt, alloc, *text);
         let entries = &[Entry::Cut];
         let expected = Expected {
             entries,

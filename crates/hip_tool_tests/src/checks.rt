@@ -169,7 +169,7 @@ const LIBPMEM: &[Case] = &[Case {
 }];
 
 #[test]
-fn kinds_behind_libpmem(rt: HostRuntime) {
+fn kinds_with_libpmem(rt: HostRuntime) {
     assert_cases(&rt, rt.alloc(), LIBPMEM);
 }
 

@@ -60,7 +60,7 @@ const DIFFERS_AT_BYTE_68: &str =
 
 /// A misfit is answered as soon as the entry's end is read; a fault before that is answered instead.
 #[test]
-fn fault_before_and_behind_a_misfit(rt: HostRuntime) {
+fn fault_before_and_after_a_misfit(rt: HostRuntime) {
     let files = &[("a", ONE_STORE), ("b", DIFFERS_AT_BYTE_68)];
     for byte in 0..=DIFFERS_AT_BYTE_68.len() {
         let at = FailAt::Byte(byte as u64);

@@ -9,7 +9,7 @@ use Rattle.hip_runs.specs.State.{State, StorePart}
 use Rattle.hip_runs.specs.Step.{run, start}
 use Rattle.hip_runs.specs.Validity.{IsValid}
 use Rattle.hip_runs.specs.declared.input.Input.{Input}
-use Rattle.hip_repairs.specs.Covered.{IsBehindClone, IsCovered}
+use Rattle.hip_repairs.specs.Covered.{IsAfterCloneCall, IsCovered}
 use Rattle.hip_repairs.specs.examples.CopyHoisted.{copy_hoisted}
 use Rattle.hip_repairs.specs.examples.Words.{zeroed}
 use Rattle.hip_repairs.proofs.worked.Runs.{Follows, address_value, after_all, done_opened, int_value, run_is, run_next}
@@ -85,15 +85,15 @@ valid = record {
     size : length input.image ≡ region_size copy_hoisted
     size = simp shape-Int refl
 
-behind : IsBehindClone clone_fences_early 2 at_fence
+after : IsAfterCloneCall clone_fences_early 2 at_fence
 unfolding run_opened done_opened
-behind = record {
+after = record {
   going = refl;
   frame = _;
   others = [];
   frames = refl;
   at = 4;
-  behind = refl;
+  after = refl;
   call = omega arith;
   fence = tt;
 }
@@ -128,8 +128,8 @@ loose = record { line = _; at = refl; part = _; there = refl; made = refl; none 
 
 pub early_clone_refused : IsCovered copy_hoisted clone_fences_early → ⊥
 early_clone_refused covered =
-    let stands : IsBehindClone clone_fences_early 2 (run clone_fences_early input 13) =
-    subst (IsBehindClone clone_fences_early 2) (sym fence_is) behind in
+    let stands : IsAfterCloneCall clone_fences_early 2 (run clone_fences_early input 13) =
+    subst (IsAfterCloneCall clone_fences_early 2) (sym fence_is) after in
     let call = covered.call input valid 13 stands in
     let x : IsLoosePart (run clone_fences_early input 14) = subst IsLoosePart (sym end_is) loose in
     let early : call.0 ≢ 12 = (λ e. two_frames

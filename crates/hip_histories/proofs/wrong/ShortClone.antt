@@ -9,7 +9,7 @@ use Rattle.hip_runs.specs.Laws.Opened.{run_opened}
 use Rattle.hip_runs.specs.State.{State}
 use Rattle.hip_runs.specs.Step.{run, start}
 use Rattle.hip_repairs.specs.Clones.{AreCopies, HasInserted, IsClone, done, inserted, kept}
-use Rattle.hip_repairs.specs.Covered.{IsBehindClone, IsCovered}
+use Rattle.hip_repairs.specs.Covered.{IsAfterCloneCall, IsCovered}
 use Rattle.hip_repairs.specs.examples.CopyHoisted.{copy_function, copy_hoisted}
 use Rattle.hip_repairs.proofs.worked.Runs.{Follows, address_value, after_all, done_opened, int_value, run_is}
 use Rattle.hip_histories.specs.examples.WrongRepairs.{clone_without_store, short_clone}
@@ -69,23 +69,23 @@ at_fence = after_all input (start clone_without_store input) before_fence
 fence_is : run clone_without_store input 10 ≡ at_fence
 fence_is = run_is clone_without_store input before_fence follows
 
-behind : IsBehindClone clone_without_store 2 at_fence
+after : IsAfterCloneCall clone_without_store 2 at_fence
 unfolding run_opened done_opened
-behind = record {
+after = record {
   going = refl;
   frame = _;
   others = [];
   frames = refl;
   at = 4;
-  behind = refl;
+  after = refl;
   call = omega arith;
   fence = tt;
 }
 
 pub short_clone_refused : IsCovered copy_hoisted clone_without_store → ⊥
 short_clone_refused covered =
-    let stands : IsBehindClone clone_without_store 2 (run clone_without_store input 10) =
-    subst (IsBehindClone clone_without_store 2) (sym fence_is) behind in
+    let stands : IsAfterCloneCall clone_without_store 2 (run clone_without_store input 10) =
+    subst (IsAfterCloneCall clone_without_store 2) (sym fence_is) after in
     let call = covered.call input valid 10 stands in
     let called = covered.clone input valid call.0 10 stands call.1 in
     no_clone called.1.callee called.1.clone called.1.is_clone

@@ -77,11 +77,11 @@ module _ (fn : Function) where
       (subst (λ ns. IsAmong ns q) (sym (before_is point b block at)) h))
 
   -- the same after one more instruction
-  pub behind : (earlier : List ℕ) (b k : ℕ) (block : Block) (i : Instr) (q : List ℕ)
+  pub after_instr : (earlier : List ℕ) (b k : ℕ) (block : Block) (i : Instr) (q : List ℕ)
       → slice_get fn.blocks b ≡ Some block → slice_get block.body k ≡ Some i →
       IsAmong (assigned_on fn earlier b (Before (suc k))) q → IsAmong (assigned_on fn earlier b (Before k)) q
       ⊎ IsAmong (names_of (assigned_by i)) q
-  behind earlier b k block i q at e h =
+  after_instr earlier b k block i q at e h =
       ⊎_elim (λ l. inl (by_parameter earlier b (Before k) q l))
       (λ r. ⊎_elim (λ l. inl (by_block earlier b (Before k) q l))
       (λ m. ⊎_elim (λ l. inl (by_last earlier b block (Before k) q at

@@ -42,7 +42,7 @@ use Rattle.hip_runs.specs.Validity.{IsValid}
 use Rattle.hip_invariants.specs.Laws.InstrFacts.{instr_fact, fact_holds}
 use Rattle.hip_invariants.specs.Laws.Registers.Facts.{each_told, ValuesHold, each_value, assigned_fact, fact_of_value, values_in_frames}
 use Rattle.hip_invariants.specs.Laws.GlobalAddresses.{start_before_end}
-use Rattle.hip_invariants.specs.PointerLevels.{within_level, is_at_most, behind_offset, number_level, global_level, level_step, gep_level_step, item_level_step, const_level, Levels, constant_index, known_index, both, known_path, gep_level, operand_level, goes_into, args_are_at_most, instr_is_closed, IsClosed, IsWithinLevel, RegistersAreWithin}
+use Rattle.hip_invariants.specs.PointerLevels.{within_level, is_at_most, after_offset, number_level, global_level, level_step, gep_level_step, item_level_step, const_level, Levels, constant_index, known_index, both, known_path, gep_level, operand_level, goes_into, args_are_at_most, instr_is_closed, IsClosed, IsWithinLevel, RegistersAreWithin}
 
 -- what is within a level is within each higher one
 pub within_higher : (a b : Option ℕ) (v : ℕ) → is_at_most a b → within_level a v → within_level b v
@@ -57,7 +57,7 @@ zero_within (Some t) = omega arith
 
 -- an offset from a value within a level is within the level after that offset
 pub offset_within : (a : Option ℕ) (offset v : ℕ) → within_level a v
-    → within_level (behind_offset a offset) ((v + offset) % 2 ^ 64)
+    → within_level (after_offset a offset) ((v + offset) % 2 ^ 64)
 offset_within None offset v m = tt
 offset_within (Some t) offset v m = same (nat_eq offset 0) refl
   where
@@ -133,13 +133,13 @@ module _ (P : Program) (s : IsSound P) (base : ℕ) where
       (λ x y is.
       let base_most : IsWithin x.base = subst IsWithin (ap (λ g. g.base) is) y.base.1 in
       let level : const_gep_level P.globals (roll-ConstGep x)
-      ≡ behind_offset (const_level P.globals x.base) (unwrap_or (gep_of x.ty (map index_of x.indices)) 0) =
+      ≡ after_offset (const_level P.globals x.base) (unwrap_or (gep_of x.ty (map index_of x.indices)) 0) =
       fold-roll-ConstGep _ _ _ _ _ _ x in
       let value : gep_address (global_address P.globals base) (roll-ConstGep x)
       ≡ (const_value P.globals base x.base + unwrap_or (gep_of x.ty (map index_of x.indices)) 0) % 2 ^ 64 =
       fold-roll-ConstGep _ _ _ _ _ _ x in
       subst (λ a. within_level a (gep_address (global_address P.globals base) (roll-ConstGep x))) (sym level)
-      (subst (within_level (behind_offset (const_level P.globals x.base)
+      (subst (within_level (after_offset (const_level P.globals x.base)
       (unwrap_or (gep_of x.ty (map index_of x.indices)) 0))) (sym value)
       (offset_within (const_level P.globals x.base) _ (const_value P.globals base x.base) base_most)))
       (λ x y is. tt)
@@ -256,7 +256,7 @@ module _ (P : Program) (s : IsSound P) (I : Input) (L : Levels) (closed : IsClos
           (gep_of ty (index_values P.globals I.base rs indices)) 0) % 2 ^ 64)
       go None e = tt
       go (Some path) e =
-          subst (λ is. within_level (behind_offset (operand_level P L g base) (unwrap_or (gep_of ty path) 0))
+          subst (λ is. within_level (after_offset (operand_level P L g base) (unwrap_or (gep_of ty path) 0))
           ((value_of P.globals I.base rs base + unwrap_or (gep_of ty is) 0) % 2 ^ 64))
           (sym (path_is P.globals I.base rs indices path e))
           (offset_within (operand_level P L g base) (unwrap_or (gep_of ty path) 0) (value_of P.globals I.base rs base)

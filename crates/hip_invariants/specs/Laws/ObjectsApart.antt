@@ -18,7 +18,7 @@ use Rattle.hip_runs.specs.Step.{run}
 use Rattle.hip_runs.specs.Validity.{IsValid}
 use Rattle.hip_invariants.specs.ObjectsApart.{slots_of, GlobalHas, SlotHas, AreApart}
 use Rattle.hip_invariants.specs.StackShape.{lie_between, lie_in_order}
-use Rattle.hip_invariants.specs.Laws.GlobalAddresses.{ends_before_end, starts_behind, one_behind_another}
+use Rattle.hip_invariants.specs.Laws.GlobalAddresses.{ends_before_end, starts_after, one_after_another}
 use Rattle.hip_invariants.specs.Laws.StackShape.{higher, lower, stack_is_shaped}
 
 -- the address is that of one of n bytes
@@ -52,7 +52,7 @@ module _ (P : Program) (s : IsSound P) (base : ℕ) (is_base : IsBase base) wher
       go : (b : Bool) → is_persistent P.globals k ≡ b
           → LiesWithin b (if b then start_of true base P.globals k else start_of false volatile_start P.globals k)
           (shape g.ty).size
-      go true e = record { high = λ t. starts_behind true base P.globals k g q; low = λ t. cc }
+      go true e = record { high = λ t. starts_after true base P.globals k g q; low = λ t. cc }
       go false e = record {
         high = λ t. cc;
         low =
@@ -71,13 +71,13 @@ module _ (P : Program) (s : IsSound P) (base : ℕ) (is_base : IsBase base) wher
       go true true d e p q x' y' =
           let first = address_is j true d in
           let second = address_is k true e in
-          let behind = one_behind_another true base P.globals j k g h x.0 y.0 d lt in
-          let z : ⊥ = omega (arith, first, second, behind, x'.to, y'.from) in z
+          let ordered = one_after_another true base P.globals j k g h x.0 y.0 d lt in
+          let z : ⊥ = omega (arith, first, second, ordered, x'.to, y'.from) in z
       go false false d e p q x' y' =
           let first = address_is j false d in
           let second = address_is k false e in
-          let behind = one_behind_another false volatile_start P.globals j k g h x.0 y.0 d lt in
-          let z : ⊥ = omega (arith, first, second, behind, x'.to, y'.from) in z
+          let ordered = one_after_another false volatile_start P.globals j k g h x.0 y.0 d lt in
+          let z : ⊥ = omega (arith, first, second, ordered, x'.to, y'.from) in z
       go true false d e p q x' y' = let z : ⊥ = omega (arith, p.high d, q.low e, is_base.low, x'.from, y'.to) in z
       go false true d e p q x' y' = let z : ⊥ = omega (arith, p.low d, q.high e, is_base.low, x'.to, y'.from) in z
 

@@ -38,7 +38,7 @@ use Rattle.hip_runs.specs.Step.{next, with_register}
 use Rattle.hip_invariants.specs.Laws.Frames.{keeps}
 use Rattle.hip_invariants.specs.Laws.InstrActions.{leaves_registers, CallCases, instr_cases, of_instr_action}
 use Rattle.hip_runs.specs.Laws.Members.{get_drop}
-use Rattle.hip_invariants.specs.Laws.AssignedPaths.{on_path, behind, at_end, over_edge, path_more}
+use Rattle.hip_invariants.specs.Laws.AssignedPaths.{on_path, after_instr, at_end, over_edge, path_more}
 use Rattle.hip_invariants.specs.Laws.Entry.{among_all, entry_block, no_entry_phi, label_there, label_known}
 use Rattle.hip_invariants.specs.Laws.Registers.Names.{named_either}
 use Rattle.hip_invariants.specs.Reached.{assigned_names, has_or_awaits, IsReached, StandsAtUnreachable, top_is_reached, caller_is_reached}
@@ -78,7 +78,7 @@ module _ (P : Program) where
     earlier = r.earlier;
     leads = r.leads;
     among = λ q h. ⊎_elim (λ l. old q (has_now rs q (r.among q l))) (λ m. own q m)
-        (behind r.fn r.earlier b k r.block i q r.at e h);
+        (after_instr r.fn r.earlier b k r.block i q r.at e h);
   }
 
   -- after the result of a call

@@ -31,10 +31,10 @@ tight_last ls j l e b k x over lt m g k' x' h =
 
 pub covered_survives : (P : Program) (plan : Plan) (skip : Site → Bool) → IsSound P → IsQuiet P skip
     → CoveredSurvive P (repaired P plan skip)
-covered_survives P plan skip s quiet I v j n behind last b h =
+covered_survives P plan skip s quiet I v j n after last b h =
     let covered = hoisted_calls_are_covered P plan skip s quiet in
     let durable : h.place < h.line.durable =
-    covered.durable I v j n behind last (b / 64) h.line h.at h.place h.part h.over.at h.since in
+    covered.durable I v j n after last (b / 64) h.line h.at h.place h.part h.over.at h.since in
     let again = valid_again P plan skip I v in
     let there : b / 64 < length (run (repaired P plan skip) I (suc n)).lines =
     get-below (run (repaired P plan skip) I (suc n)).lines (b / 64) h.line h.at in

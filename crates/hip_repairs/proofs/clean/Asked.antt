@@ -43,8 +43,8 @@ best_level P found best first (suc more) (s ∷ path) = go (is_better best.score
     new : Candidate
     new = record { level = first; score = score P found s }
 
-    behind : (level : ℕ) → IsLevel (suc first) more path level → IsLevel first (suc more) (s ∷ path) level
-    behind level h = (suc h.0, omega (arith, h.1), omega (arith, h.2), omega (arith, h.3))
+    after : (level : ℕ) → IsLevel (suc first) more path level → IsLevel first (suc more) (s ∷ path) level
+    after level h = (suc h.0, omega (arith, h.1), omega (arith, h.2), omega (arith, h.3))
 
     go : (t : Bool) → ((b : Candidate) → ((best_of P found b (suc first) more path).level ≡ b.level) ⊎ IsLevel (suc first) more path (best_of P found b (suc first) more path).level) →
         ((best_of P found (cond t new best) (suc first) more path).level ≡ best.level) ⊎ IsLevel first (suc more) (s ∷ path) (best_of P found (cond t new best) (suc first) more path).level
@@ -52,12 +52,12 @@ best_level P found best first (suc more) (s ∷ path) = go (is_better best.score
       where
         by : ((best_of P found new (suc first) more path).level ≡ first) ⊎ IsLevel (suc first) more path (best_of P found new (suc first) more path).level → ((best_of P found new (suc first) more path).level ≡ best.level) ⊎ IsLevel first (suc more) (s ∷ path) (best_of P found new (suc first) more path).level
         by (inl e) = inr (0, omega arith, omega arith, omega (arith, e))
-        by (inr h) = inr (behind _ h)
+        by (inr h) = inr (after _ h)
     go false rest = by (rest best)
       where
         by : ((best_of P found best (suc first) more path).level ≡ best.level) ⊎ IsLevel (suc first) more path (best_of P found best (suc first) more path).level → ((best_of P found best (suc first) more path).level ≡ best.level) ⊎ IsLevel first (suc more) (s ∷ path) (best_of P found best (suc first) more path).level
         by (inl e) = inl e
-        by (inr h) = inr (behind _ h)
+        by (inr h) = inr (after _ h)
 
 pub best_on_is : (P : Program) (found : Findings) (closed : ℕ) (store : Site) (calls : List Site) → (best_on P found closed (store ∷ calls) ≡ 0) ⊎ IsLevel 1 closed calls (best_on P found closed (store ∷ calls))
 best_on_is P found closed store calls = best_level P found (record { level = 0; score = score P found store }) 1 closed calls

@@ -2,6 +2,7 @@
 use Rattle.std.proofs.Common.{◌≡◌, ◌⊎◌, inl, inr, ℕ, zero, suc, ◌+◌, ◌<◌, ◌≤◌, Bool, true, false, cond, not, ◌&&◌, ◌||◌, nat_lt, nat_le, nat_eq, List, [], ◌∷◌, ◌++◌, map, length, Option, Some, None, slice_get, refl, sym, ap, ap₂, ◌∙◌, subst, arith, le-leb, leb-true}
 use Rattle.std.specs.List.{list_any, range_with_len}
 use Rattle.std.proofs.lemmas.Bool.Decides.{nat_tests}
+use Rattle.hip_tree.specs.Laws.SiteLaws.{site_same}
 use Rattle.hip_tree.specs.Sites.{instr_of, has_site}
 use Rattle.hip_tree.specs.declared.instr.Instr.{Instr}
 use Rattle.hip_tree.specs.declared.program.Program.{Program}
@@ -18,7 +19,6 @@ use Rattle.hip_runs.specs.State.{Level, Flush, StorePart, State, levels_of}
 use Rattle.hip_repairs.specs.declared.plan.Plan.{Plan}
 use Rattle.hip_repairs.specs.Choice.{Contains, choice, plan_for, best_on, asks_flush, asks_fence, asks_hoist}
 use Rattle.hip_repairs.specs.Harmless.{Content}
-use Rattle.hip_runs.specs.Laws.Found.FoundLaws.{site_same}
 use Rattle.hip_repairs.proofs.clean.Asked.{has_flush, has_fence, has_hoist, IsLevel, best_on_is, returned_at, in_open, in_range, in_flat}
 use Rattle.hip_repairs.proofs.simulation.Ahead.{Ahead}
 use Rattle.hip_repairs.proofs.simulation.Facts.{Lines, Known}

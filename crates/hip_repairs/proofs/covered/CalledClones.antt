@@ -139,17 +139,17 @@ module _ (P : Program) (plan : Plan) (skip : Site → Bool) (good : IsCallable P
             absurd (let z : ⊥ = cc in z)
 
     -- the code of the repaired program begins with the call, so that of the program with the call that it was
-    first_call : (rest : List Instr) → drop k (body_at P f b) ≡ rest → (behind : List Instr) → instrs_of (repaired_body (clones_of P plan) (wanted_by plan skip) clone f b k rest) ≡ Call dest ret callee' args ∷ behind → IsCalled
-    first_call [] at behind e = absurd (let z : ⊥ = cc in z)
-    first_call (i ∷ is) at behind e =
+    first_call : (rest : List Instr) → drop k (body_at P f b) ≡ rest → (after : List Instr) → instrs_of (repaired_body (clones_of P plan) (wanted_by plan skip) clone f b k rest) ≡ Call dest ret callee' args ∷ after → IsCalled
+    first_call [] at after e = absurd (let z : ⊥ = cc in z)
+    first_call (i ∷ is) at after e =
         let call = renamed_call (clones_of P plan) i to_clone dest ret callee' args (head_same _ _ _ _ e) in
         is_called call.callee (get_drop (body_at P f b) k i is at ∙ ap Some call.is) call.name
 
     called_there : (I : Input) (w : World) (regs : Registers) (pend : List Marked) (range : Option (ℕ × ℕ)) (fenced : Bool) → Ready P plan skip I w regs pend range fenced → (rest : List Instr) → drop k (body_at P f b) ≡ rest →
-        (behind : List Instr) → instrs_of (pend ++ repaired_body (clones_of P plan) (wanted_by plan skip) clone f b k rest) ≡ Call dest ret callee' args ∷ behind → IsCalled
-    called_there I w regs pend range fenced (quiet nothing) rest at behind e = first_call rest at behind e
-    called_there I w regs pend range fenced (quiet fence) rest at behind e = absurd (none_inserted callee' h found dest ret args the_fence refl (head_same _ _ _ _ e))
-    called_there I w regs pend range fenced (flush i a n still acts q) rest at behind e = absurd (none_inserted callee' h found dest ret args i still (head_same _ _ _ _ e))
+        (after : List Instr) → instrs_of (pend ++ repaired_body (clones_of P plan) (wanted_by plan skip) clone f b k rest) ≡ Call dest ret callee' args ∷ after → IsCalled
+    called_there I w regs pend range fenced (quiet nothing) rest at after e = first_call rest at after e
+    called_there I w regs pend range fenced (quiet fence) rest at after e = absurd (none_inserted callee' h found dest ret args the_fence refl (head_same _ _ _ _ e))
+    called_there I w regs pend range fenced (flush i a n still acts q) rest at after e = absurd (none_inserted callee' h found dest ret args i still (head_same _ _ _ _ e))
 
   -- the states whose top frames are these
   by_frames : (I : Input) (w : World) (g g' : Frame) (fs fs' : List Frame) (ls ls' : Lines) (c c' : Counts) (clone : Bool) (pend : List Marked) (range : Option (ℕ × ℕ)) (fenced : Bool) → w.ending ≡ None →

@@ -12,7 +12,7 @@ use Rattle.hip_runs.specs.Actions.{is_turn}
 use Rattle.hip_runs.specs.Operands.{scalar_size}
 use Rattle.hip_repairs.specs.declared.plan.Plan.{Plan}
 use Rattle.hip_repairs.specs.Clones.{IsSameButCallee, HasInserted, done, kept, inserted, IsCopy, AreCopies, IsClone}
-use Rattle.hip_repairs.specs.Repaired.{Marked, Clone, Wanted, is_wide, line_flush, range_flush, flush_of, the_fence, clone_name, renamed, flush_behind, fence_behind, wanted_by, clones_of, repaired, instrs_of, repaired_body, repaired_block, repaired_blocks, repaired_function}
+use Rattle.hip_repairs.specs.Repaired.{Marked, Clone, Wanted, is_wide, line_flush, range_flush, flush_of, the_fence, clone_name, renamed, added_flush, added_fence, wanted_by, clones_of, repaired, instrs_of, repaired_body, repaired_block, repaired_blocks, repaired_function}
 use Rattle.hip_repairs.proofs.functions.Twins.{CallsTwin}
 
 flush_is_still : (ty : Scalar) (addr : Operand) (align : Option ℕ) → is_turn (flush_of ty addr align) ≡ false
@@ -34,11 +34,11 @@ renamed_same clones (Store ty value addr align) b = refl
 renamed_same clones (Gep dest inbounds ty base indices) b = refl
 
 module _ (is : List Instr) (rest : List Marked) (more : HasInserted is (instrs_of rest)) where
-  fence_copied : (c : Bool) → HasInserted is (instrs_of (fence_behind c ++ rest))
+  fence_copied : (c : Bool) → HasInserted is (instrs_of (added_fence c ++ rest))
   fence_copied true = inserted the_fence refl more
   fence_copied false = more
 
-  copied_behind : (i : Instr) (b c : Bool) → HasInserted is (instrs_of ((flush_behind i b ++ fence_behind c) ++ rest))
+  copied_behind : (i : Instr) (b c : Bool) → HasInserted is (instrs_of ((added_flush i b ++ added_fence c) ++ rest))
   copied_behind (Store ty value addr align) true c = inserted (flush_of ty addr align) (flush_is_still ty addr align) (fence_copied c)
   copied_behind (Store ty value addr align) false c = fence_copied c
   copied_behind (Binary dest op flags width x y) b c = fence_copied c

@@ -21,7 +21,7 @@ use Rattle.hip_runs.specs.State.{Registers, Level, Flush, StorePart, Frame, Worl
 use Rattle.hip_runs.specs.Step.{perform, carry_out, event_at, counted, on_frames, on_ending, step, run}
 use Rattle.hip_runs.specs.Validity.{IsValid}
 use Rattle.hip_repairs.specs.declared.plan.Plan.{Plan}
-use Rattle.hip_repairs.specs.Covered.{is_fence, IsFenceCall, IsCallOf, IsBehindClone, IsLastBefore, IsAtCall, CallsClone, IsCovered}
+use Rattle.hip_repairs.specs.Covered.{is_fence, IsFenceCall, IsCallOf, IsAfterCloneCall, IsLastBefore, IsAtCall, CallsClone, IsCovered}
 use Rattle.hip_repairs.specs.Harmless.{marked_body, matched}
 use Rattle.hip_repairs.specs.Quiet.{IsQuiet}
 use Rattle.hip_repairs.specs.Repaired.{Marked, wanted_by, clones_of, repaired, instrs_of, repaired_body}
@@ -85,14 +85,14 @@ module _ (Q : Program) where
 -- an item and what stands after it
 record IsAt {A : Type 0} (xs : List A) (k : ℕ) (o : Option A) : Type 0 where
   item : A
-  behind : List A
+  after : List A
   is : o ≡ Some item
-  at : drop k xs ≡ item ∷ behind
+  at : drop k xs ≡ item ∷ after
 
 fence_at : (xs : List Instr) (k : ℕ) → IsFenceCall (slice_get xs k) → IsAt xs k (slice_get xs k)
 fence_at [] k h = absurd h
-fence_at (y ∷ xs) zero h = record { item = y; behind = xs; is = refl; at = refl }
-fence_at (y ∷ xs) (suc k) h = let r = fence_at xs k h in record { item = r.item; behind = r.behind; is = r.is; at = r.at }
+fence_at (y ∷ xs) zero h = record { item = y; after = xs; is = refl; at = refl }
+fence_at (y ∷ xs) (suc k) h = let r = fence_at xs k h in record { item = r.item; after = r.after; is = r.is; at = r.at }
 
 flushed_at : (N p j k : ℕ) (xs : List StorePart) (x : StorePart) → AreFlushed N p j xs → slice_get xs k ≡ Some x → N ≤ x.site.function → j + k < p
 flushed_at N p j k [] x a e h = absurd (let z : ⊥ = cc in z)
@@ -176,42 +176,42 @@ module _ (P : Program) (plan : Plan) (skip : Site → Bool) (good : IsCallable P
       full : (n : ℕ) → (f : Frame) × (fs : List Frame) × ((run Q I n).frames ≡ f ∷ fs)
       full n = let r = pairs n in frames_there I (CloneFlushed P plan skip I) r.size (run P I (matched P plan skip I n)) (run Q I n) r.pair
 
-      covered_run : (j n : ℕ) → IsBehindClone Q N (run Q I n) → IsLastBefore Q I j n →
+      covered_run : (j n : ℕ) → IsAfterCloneCall Q N (run Q I n) → IsLastBefore Q I j n →
           (m : ℕ) (l : Line StorePart) → slice_get (run Q I (suc n)).lines m ≡ Some l →
           (k : ℕ) (p : StorePart) → slice_get l.parts k ≡ Some p → j ≤ p.step → k < l.durable
       unfolding run
-      covered_run j n behind last m l e k p h since =
+      covered_run j n after last m l e k p h since =
           let s = run Q I n in
-          let f = behind.frame in
-          let at = fence_at (body_at Q f.function f.block) (suc behind.at) behind.fence in
-          let act = acts_fence Q at.item (subst IsFenceCall at.is behind.fence) in
-          let code : code_at Q f ≡ at.item ∷ at.behind = ap (λ (q : ℕ). drop q (body_at Q f.function f.block)) behind.behind ∙ at.at in
-          let lines = fence_step Q I s f behind.others at.item at.behind behind.going behind.frames code act in
+          let f = after.frame in
+          let at = fence_at (body_at Q f.function f.block) (suc after.at) after.fence in
+          let act = acts_fence Q at.item (subst IsFenceCall at.is after.fence) in
+          let code : code_at Q f ≡ at.item ∷ at.after = ap (λ (q : ℕ). drop q (body_at Q f.function f.block)) after.after ∙ at.at in
+          let lines = fence_step Q I s f after.others at.item at.after after.going after.frames code act in
           let r = pairs n in
-          let flushed = flushed_there r.size (run P I (matched P plan skip I n)) s r.pair f behind.others behind.frames at.item at.behind code act in
+          let flushed = flushed_there r.size (run P I (matched P plan skip I n)) s r.pair f after.others after.frames at.item at.after code act in
           let top = full j in
-          let made = since_fenced N j s.lines (since_call Q I full N calls_clones j n last behind.going top.0 top.1 top.2 behind).made in
+          let made = since_fenced N j s.lines (since_call Q I full N calls_clones j n last after.going top.0 top.1 top.2 after).made in
           let line = line_at N s.lines m l flushed (sym (ap (λ ls. slice_get ls m) lines) ∙ e) in
           let big = made p (line.parts p (get_in l.parts k p h)) since in
           let below = flushed_at N l.flushed 0 k l.parts p line.flushed.parts h big in
           let durable = line.durable in
           omega arith
 
-      call_found : (n : ℕ) (behind : IsBehindClone Q N (run Q I n)) → (j : ℕ) × IsLastBefore Q I j n × IsAtCall behind.frame behind.others behind.at (run Q I j)
-      call_found n behind =
-          let r = last_before Q I full N calls_clones n behind in
+      call_found : (n : ℕ) (after : IsAfterCloneCall Q N (run Q I n)) → (j : ℕ) × IsLastBefore Q I j n × IsAtCall after.frame after.others after.at (run Q I j)
+      call_found n after =
+          let r = last_before Q I full N calls_clones n after in
           let top = full r.0 in
-          let since = since_call Q I full N calls_clones r.0 n r.1 behind.going top.0 top.1 top.2 behind in
+          let since = since_call Q I full N calls_clones r.0 n r.1 after.going top.0 top.1 top.2 after in
           (r.0, r.1, record { top = top.0; frames = since.below; function = since.function; block = since.block; place = since.place })
 
-      clone_called : (j n : ℕ) → IsBehindClone Q N (run Q I n) → IsLastBefore Q I j n → (i : ℕ) × CallsClone P Q (run P I i) (run Q I j)
-      clone_called j n behind last =
+      clone_called : (j n : ℕ) → IsAfterCloneCall Q N (run Q I n) → IsLastBefore Q I j n → (i : ℕ) × CallsClone P Q (run P I i) (run Q I j)
+      clone_called j n after last =
           let top = full j in
           let r = pairs j in
-          let since = since_call Q I full N calls_clones j n last behind.going top.0 top.1 top.2 behind in
+          let since = since_call Q I full N calls_clones j n last after.going top.0 top.1 top.2 after in
           let before = last.before in
           let i = matched P plan skip I j in
-          (i, calls_clone_there P plan skip good I (CloneFlushed P plan skip I) r.size (run P I i) (run Q I j) r.pair (going Q I j n (omega arith) behind.going) top.0 top.1 top.2 since.call)
+          (i, calls_clone_there P plan skip good I (CloneFlushed P plan skip I) r.size (run P I i) (run Q I j) r.pair (going Q I j n (omega arith) after.going) top.0 top.1 top.2 since.call)
 
 pub covered : (P : Program) (plan : Plan) (skip : Site → Bool) → Passes P → IsQuiet P skip → IsCovered P (repaired P plan skip)
 covered P plan skip sound still = record {

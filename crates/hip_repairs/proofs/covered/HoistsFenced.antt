@@ -16,7 +16,7 @@ use Rattle.hip_repairs.specs.declared.plan.Plan.{Plan}
 use Rattle.hip_repairs.specs.Covered.{IsFenceCall, IsCallOf, repaired_place, IsFenced, IsHoisted, AreHoistsFenced}
 use Rattle.hip_repairs.specs.Clones.{IsClone}
 use Rattle.hip_repairs.specs.Harmless.{marked_body}
-use Rattle.hip_repairs.specs.Repaired.{Marked, Clone, Wanted, the_fence, clone_name, inserted_behind, wanted_by, clones_of, repaired, instrs_of, repaired_body}
+use Rattle.hip_repairs.specs.Repaired.{Marked, Clone, Wanted, the_fence, clone_name, inserted_after, wanted_by, clones_of, repaired, instrs_of, repaired_body}
 use Rattle.hip_runs.specs.Laws.EndLaws.{drop_next}
 use Rattle.hip_runs.specs.Laws.Members.{get_drop}
 use Rattle.hip_repairs.proofs.functions.Blocks.{body_twin}
@@ -46,7 +46,7 @@ module _ (clones : List Clone) (w : Wanted) (clone : Bool) (f b : ℕ) where
       (is, ap (λ n. repaired_from n x is) place ∙ ap (λ y. repaired_from at y is) same)
   repaired_at k (suc index) at (x ∷ is) i e h =
       let r = repaired_at (suc k) index at is i (omega arith) h in
-      (r.0, drop_over (inserted_behind w clone (record { function = f; block = b; index = k }) x) (repaired_body clones w clone f b (suc k) (take index is)) (repaired_body clones w clone f b (suc k) is) ∙ r.1)
+      (r.0, drop_over (inserted_after w clone (record { function = f; block = b; index = k }) x) (repaired_body clones w clone f b (suc k) (take index is)) (repaired_body clones w clone f b (suc k) is) ∙ r.1)
 
 module _ (P : Program) (plan : Plan) (skip : Site → Bool) (good : IsCallable P) (s : Site) (dest : Option (List ℕ)) (ret : Option Scalar) (callee : List ℕ) (args : List Arg) (g : ℕ)
     (hoisted : has_site plan.hoist s ≡ true) (here : slice_get (body_at P s.function s.block) s.index ≡ Some (Call dest ret callee args)) (number : function_number P callee ≡ Some g) where

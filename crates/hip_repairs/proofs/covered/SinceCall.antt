@@ -11,7 +11,7 @@ use Rattle.hip_runs.specs.StoredParts.Parts.{PartOf}
 use Rattle.hip_runs.specs.Places.{body_at}
 use Rattle.hip_runs.specs.State.{StorePart, Frame, State}
 use Rattle.hip_runs.specs.Step.{with_register, next, on_ending, step, run}
-use Rattle.hip_repairs.specs.Covered.{is_numbered_from, IsCallFrom, IsCallOf, IsBehindClone, IsLastBefore}
+use Rattle.hip_repairs.specs.Covered.{is_numbered_from, IsCallFrom, IsCallOf, IsAfterCloneCall, IsLastBefore}
 use Rattle.hip_repairs.proofs.simulation.Facts.{Lines}
 use Rattle.hip_repairs.proofs.covered.Moves.{instr_here, IsCall, Moves, ends, goes_on, jumps, enters, returns, IsOld, IsNew, Out, step_out}
 
@@ -142,12 +142,12 @@ module _ (Q : Program) (I : Input) (full : (i : ℕ) → (f : Frame) × (fs : Li
   none_since j e x old le = let lt = (has_history Q I j).made old.part old.there in let s = steps_is j e in let q = old.step in omega arith
 
   -- the state before stands at the call, and what was stored since then was stored by clones
-  pub record SinceCall (j n : ℕ) (c : Frame) (rest : List Frame) (behind : IsBehindClone Q N (run Q I n)) : Type 0 where
+  pub record SinceCall (j n : ℕ) (c : Frame) (rest : List Frame) (after : IsAfterCloneCall Q N (run Q I n)) : Type 0 where
     pub call : IsCallFrom Q N (instr_here Q c)
-    pub function : c.function ≡ behind.frame.function
-    pub block : c.block ≡ behind.frame.block
-    pub place : c.place ≡ behind.at
-    pub below : (run Q I j).frames ≡ c ∷ behind.others
+    pub function : c.function ≡ after.frame.function
+    pub block : c.block ≡ after.frame.block
+    pub place : c.place ≡ after.at
+    pub below : (run Q I j).frames ≡ c ∷ after.others
     pub made : SinceClones N j (run Q I n).lines
 
   record Inside (j g : ℕ) (c : Frame) (rest : List Frame) (i : ℕ) : Type 0 where
@@ -155,14 +155,14 @@ module _ (Q : Program) (I : Input) (full : (i : ℕ) → (f : Frame) × (fs : Li
     made : N ≤ g → SinceClones N j (run Q I i).lines
 
   record Back (j g : ℕ) (c : Frame) (rest : List Frame) (i : ℕ) : Type 0 where
-    behind : Behind c rest (run Q I i).frames
+    after : Behind c rest (run Q I i).frames
     made : N ≤ g → SinceClones N j (run Q I i).lines
 
   inside_step : (j g : ℕ) (c : Frame) (rest : List Frame) (i : ℕ) → Inside j g c rest i → (run Q I (suc i)).world.ending ≡ None → Inside j g c rest (suc i) ⊎ Back j g c rest (suc i)
   inside_step j g c rest i r e =
       let b = going_back Q I i e in
       let o = run_out i r.over.top (r.over.above ++ next c ∷ rest) b r.over.frames in
-      ⊎_elim (λ x. inl (record { over = x; made = made o })) (λ x. inr (record { behind = x; made = made o }))
+      ⊎_elim (λ x. inl (record { over = x; made = made o })) (λ x. inr (record { after = x; made = made o }))
       (over_moves Q N g c rest r.over.top r.over.above _ _ r.over.clones (λ big h. clone_calls r.over.top h big) o.moves e)
     where
       made : Out Q r.over.top (r.over.above ++ next c ∷ rest) (run Q I i).lines (run Q I i).counts.steps (run Q I (suc i)) → N ≤ g → SinceClones N j (run Q I (suc i)).lines
@@ -225,13 +225,13 @@ module _ (Q : Program) (I : Input) (full : (i : ℕ) → (f : Frame) × (fs : Li
   unfolding run
   start_depth = refl
 
-  no_start_behind : (n : ℕ) → IsBehindClone Q N (run Q I n) → AtStart (run Q I n).frames → ⊥
-  no_start_behind n behind s =
-      let h = behind.frames in
+  no_start_behind : (n : ℕ) → IsAfterCloneCall Q N (run Q I n) → AtStart (run Q I n).frames → ⊥
+  no_start_behind n after s =
+      let h = after.frames in
       let e = s.frames in
-      let same : behind.frame ≡ s.top = cc in
+      let same : after.frame ≡ s.top = cc in
       let q = ap (λ (x : Frame). x.place) same in
-      let b = behind.behind in
+      let b = after.after in
       let p = s.place in
       omega arith
 
@@ -240,17 +240,17 @@ module _ (Q : Program) (I : Input) (full : (i : ℕ) → (f : Frame) × (fs : Li
   start_at = record { top = _; others = []; frames = refl; place = refl }
 
   -- after a call of a clone there is a last state before with as many frames
-  pub last_before : (n : ℕ) → IsBehindClone Q N (run Q I n) → (j : ℕ) × IsLastBefore Q I j n
-  last_before n behind = go (find_last (depth n) n)
+  pub last_before : (n : ℕ) → IsAfterCloneCall Q N (run Q I n) → (j : ℕ) × IsLastBefore Q I j n
+  last_before n after = go (find_last (depth n) n)
     where
       deep : (m : ℕ) → m ≡ n → ((i : ℕ) → i < n → depth i ≢ depth n) → ⊥
-      deep zero e none = no_start_behind n behind (subst (λ k. AtStart (run Q I k).frames) e start_at)
+      deep zero e none = no_start_behind n after (subst (λ k. AtStart (run Q I k).frames) e start_at)
       deep (suc m) e none =
           let ne = none 0 (omega arith) in
           let one = start_depth in
-          let some : 1 ≤ depth n = omega (arith, ap length behind.frames) in
+          let some : 1 ≤ depth n = omega (arith, ap length after.frames) in
           let low : depth 0 < depth n = below ne one some in
-          no_start_behind n behind (climb 0 n behind.going (λ i a b. none i b) n 0 (omega arith) (omega arith) low)
+          no_start_behind n after (climb 0 n after.going (λ i a b. none i b) n 0 (omega arith) (omega arith) low)
         where
           below : (depth 0 ≡ depth n → ⊥) → depth 0 ≡ 1 → 1 ≤ depth n → depth 0 < depth n
           below ne one some = omega arith
@@ -272,11 +272,11 @@ module _ (Q : Program) (I : Input) (full : (i : ℕ) → (f : Frame) × (fs : Li
       where
         back : (m : ℕ) → suc i + m ≡ n → Back j g c rest (suc i) → Back j g c rest n
         back zero e x = let q : suc i ≡ n = omega arith in subst (λ k. Back j g c rest k) q x
-        back (suc m) e x = absurd (last.between (suc i) (omega arith) (omega arith) (ap length x.behind.frames ∙ sym depth_n))
+        back (suc m) e x = absurd (last.between (suc i) (omega arith) (omega arith) (ap length x.after.frames ∙ sym depth_n))
 
-    module _ (behind : IsBehindClone Q N (run Q I n)) where
-      same_top : (f : Frame) (fs : List Frame) → (run Q I n).frames ≡ f ∷ fs → behind.frame ≡ f
-      same_top f fs e = let h = behind.frames in cc
+    module _ (after : IsAfterCloneCall Q N (run Q I n)) where
+      same_top : (f : Frame) (fs : List Frame) → (run Q I n).frames ≡ f ∷ fs → after.frame ≡ f
+      same_top f fs e = let h = after.frames in cc
 
       at_next : (f : Frame) → (run Q I (suc j)).frames ≡ f ∷ rest → suc j ≡ n
       at_next f e = let l = last.before in go (n - suc j) (omega arith)
@@ -286,23 +286,23 @@ module _ (Q : Program) (I : Input) (full : (i : ℕ) → (f : Frame) × (fs : Li
           go (suc m) q = absurd (last.between (suc j) (omega arith) (omega arith) (ap length e ∙ sym depth_n))
 
       -- where the frame stands one place after c, c stands at the call
-      call_here : (f : Frame) → behind.frame ≡ f → f.function ≡ c.function → f.block ≡ c.block → f.place ≡ suc c.place → IsCallFrom Q N (instr_here Q c)
+      call_here : (f : Frame) → after.frame ≡ f → f.function ≡ c.function → f.block ≡ c.block → f.place ≡ suc c.place → IsCallFrom Q N (instr_here Q c)
       call_here f e function block place =
           let p = ap (λ (x : Frame). x.place) e in
-          let b = behind.behind in
-          let a : behind.at ≡ c.place = omega arith in
-          let u : behind.frame.function ≡ c.function = ap (λ (x : Frame). x.function) e ∙ function in
-          let v : behind.frame.block ≡ c.block = ap (λ (x : Frame). x.block) e ∙ block in
+          let b = after.after in
+          let a : after.at ≡ c.place = omega arith in
+          let u : after.frame.function ≡ c.function = ap (λ (x : Frame). x.function) e ∙ function in
+          let v : after.frame.block ≡ c.block = ap (λ (x : Frame). x.block) e ∙ block in
           subst (λ k. IsCallFrom Q N (slice_get (body_at Q c.function c.block) k)) a
-          (subst (λ k. IsCallFrom Q N (slice_get (body_at Q c.function k) behind.at)) v
-          (subst (λ k. IsCallFrom Q N (slice_get (body_at Q k behind.frame.block) behind.at)) u behind.call))
+          (subst (λ k. IsCallFrom Q N (slice_get (body_at Q c.function k) after.at)) v
+          (subst (λ k. IsCallFrom Q N (slice_get (body_at Q k after.frame.block) after.at)) u after.call))
 
-      found : (f : Frame) → (run Q I n).frames ≡ f ∷ rest → f.function ≡ c.function → f.block ≡ c.block → f.place ≡ suc c.place → SinceClones N j (run Q I n).lines → SinceCall j n c rest behind
+      found : (f : Frame) → (run Q I n).frames ≡ f ∷ rest → f.function ≡ c.function → f.block ≡ c.block → f.place ≡ suc c.place → SinceClones N j (run Q I n).lines → SinceCall j n c rest after
       found f at function block place made =
           let e = same_top f rest at in
           let p = ap (λ (x : Frame). x.place) e in
-          let b = behind.behind in
-          let below : behind.others ≡ rest = let h = behind.frames in cc in
+          let b = after.after in
+          let below : after.others ≡ rest = let h = after.frames in cc in
           record {
             call = call_here f e function block place;
             function = sym (ap (λ (x : Frame). x.function) e ∙ function);
@@ -312,8 +312,8 @@ module _ (Q : Program) (I : Input) (full : (i : ℕ) → (f : Frame) × (fs : Li
             made = made;
           }
 
-      no_start : (h : Frame) → behind.frame ≡ h → h.place ≡ 0 → ⊥
-      no_start h e p = let q = ap (λ (x : Frame). x.place) e in let b = behind.behind in omega arith
+      no_start : (h : Frame) → after.frame ≡ h → h.place ≡ 0 → ⊥
+      no_start h e p = let q = ap (λ (x : Frame). x.place) e in let b = after.after in omega arith
 
       ok_j : (run Q I j).world.ending ≡ None
       ok_j = let l = last.before in going Q I j n (omega arith) ok
@@ -325,7 +325,7 @@ module _ (Q : Program) (I : Input) (full : (i : ℕ) → (f : Frame) × (fs : Li
       after_call : IsCall (instr_here Q c) → SinceClones N j (run Q I (suc j)).lines
       after_call is_call x there le = absurd (none_since j ok_j x (out_j.called is_call x there) le)
 
-      first : (fs : List Frame) (o : Option Ending) → (run Q I (suc j)).frames ≡ fs → o ≡ None → Moves Q c rest fs o → SinceCall j n c rest behind
+      first : (fs : List Frame) (o : Option Ending) → (run Q I (suc j)).frames ≡ fs → o ≡ None → Moves Q c rest fs o → SinceCall j n c rest after
       first fs o q e ends = absurd (let z : ⊥ = cc in z)
       first fs o q e (goes_on g function block place) =
           let z = at_next g q in
@@ -340,12 +340,12 @@ module _ (Q : Program) (I : Input) (full : (i : ℕ) → (f : Frame) × (fs : Li
             made = λ _. after_call (call_of_is_call Q h.function (instr_here Q c) called);
           } in
           let back = walk h.function (n - suc j) (suc j) (omega arith) (omega arith) inside in
-          let call = call_here _ (same_top _ rest back.behind.frames) refl refl refl in
-          found _ back.behind.frames refl refl refl (back.made (called_from Q N h.function (instr_here Q c) call called))
+          let call = call_here _ (same_top _ rest back.after.frames) refl refl refl in
+          found _ back.after.frames refl refl refl (back.made (called_from Q N h.function (instr_here Q c) call called))
       first fs o q e (returns f gs dest v k) =
           let l = last.before in
           let low : depth (suc j) < depth n = omega (arith, ap length q, ap length k, depth_n) in
-          absurd (no_start_behind n behind (climb j n ok last.between (n - suc j) (suc j) (omega arith) (omega arith) low))
+          absurd (no_start_behind n after (climb j n ok last.between (n - suc j) (suc j) (omega arith) (omega arith) low))
 
-      pub since_call : SinceCall j n c rest behind
+      pub since_call : SinceCall j n c rest after
       since_call = let l = last.before in first _ _ refl (going Q I (suc j) n (omega arith) ok) out_j.moves

@@ -37,7 +37,7 @@ use Rattle.hip_externs.specs.declared.call.ExternCall.{ExternCall}
 use Rattle.hip_externs.specs.declared.call.ExternCall.TheVariants as calls
 use Rattle.hip_repairs.specs.declared.plan.Plan.{Plan}
 use Rattle.hip_repairs.specs.Harmless.{marked_body}
-use Rattle.hip_repairs.specs.Repaired.{Marked, clwb_name, sfence_name, pmem_flush_name, is_wide, line_flush, range_flush, flush_of, the_fence, renamed, inserted_behind, repaired_body, instrs_of, Clone, Wanted, clone_name, clones_from, clones_of, clone_in, repaired_functions, clone_functions, cloned, repaired_blocks, repaired, repaired_function, wanted_by}
+use Rattle.hip_repairs.specs.Repaired.{Marked, clwb_name, sfence_name, pmem_flush_name, is_wide, line_flush, range_flush, flush_of, the_fence, renamed, inserted_after, repaired_body, instrs_of, Clone, Wanted, clone_name, clones_from, clones_of, clone_in, repaired_functions, clone_functions, cloned, repaired_blocks, repaired, repaired_function, wanted_by}
 use Rattle.hip_repairs.proofs.functions.Blocks.{body_twin}
 use Rattle.hip_repairs.specs.Laws.Callable.{instr_place, IsCallable}
 use Rattle.hip_runs.specs.StoredParts.Parts.{In}
@@ -293,7 +293,7 @@ module _ (dest : Option (List ℕ)) (ret : Option Scalar) (callee : List ℕ) (a
   store_calls ty addr align true c (suc k) e = fences_call c k e
   store_calls ty addr align false c k e = fences_call c k e
 
-  inserted_calls : (w : Wanted) (clone : Bool) (s : Site) (i : Instr) (k : ℕ) → slice_get (instrs_of (inserted_behind w clone s i)) k ≡ Some (Call dest ret callee args) → IsExtern callee
+  inserted_calls : (w : Wanted) (clone : Bool) (s : Site) (i : Instr) (k : ℕ) → slice_get (instrs_of (inserted_after w clone s i)) k ≡ Some (Call dest ret callee args) → IsExtern callee
   inserted_calls w clone s (Store ty value addr align) k e = store_calls ty addr align _ _ k e
   inserted_calls w clone s i k e = fences_call _ k e
 
@@ -317,11 +317,11 @@ module _ (dest : Option (List ℕ)) (ret : Option Scalar) (callee : List ℕ) (a
       inl (0, call.0, ap Some call.1, call.2)
   call_in_clone clones w f b place (i ∷ is) (suc k) e =
       let s : Site = record { function = f; block = b; index = place } in
-      let parts : slice_get (instrs_of (inserted_behind w true s i) ++ instrs_of (repaired_body clones w true f b (suc place) is)) k ≡ Some (Call dest ret callee args) =
-      ap (λ xs. slice_get xs k) (sym (map-append (λ (m : Marked). m.0) (inserted_behind w true s i) (repaired_body clones w true f b (suc place) is))) ∙ e in
+      let parts : slice_get (instrs_of (inserted_after w true s i) ++ instrs_of (repaired_body clones w true f b (suc place) is)) k ≡ Some (Call dest ret callee args) =
+      ap (λ xs. slice_get xs k) (sym (map-append (λ (m : Marked). m.0) (inserted_after w true s i) (repaired_body clones w true f b (suc place) is))) ∙ e in
       ⊎_elim (λ front. inr (inserted_calls w true s i k front))
       (λ back. ⊎_elim (λ r. inl (suc r.0, r.1, r.2, r.3)) (λ x. inr x) (call_in_clone clones w f b (suc place) is back.0 back.1))
-      (in_append (instrs_of (inserted_behind w true s i)) (instrs_of (repaired_body clones w true f b (suc place) is)) k (Call dest ret callee args) parts)
+      (in_append (instrs_of (inserted_after w true s i)) (instrs_of (repaired_body clones w true f b (suc place) is)) k (Call dest ret callee args) parts)
 
 module _ (P : Program) (plan : Plan) (skip : Site → Bool) (good : IsCallable P) where
   -- no function of the repaired program has the name of an external one

@@ -38,7 +38,7 @@ use Rattle.hip_runs.specs.Step.{state, stop, with_turn, with_register, with_bloc
 use Rattle.hip_repairs.specs.declared.plan.Plan.{Plan}
 use Rattle.hip_repairs.specs.Harmless.{extents, marked_body, marked_at, is_inserted, inserted_on, stands_inserted, matched}
 use Rattle.hip_repairs.specs.Quiet.{IsQuiet, stores_in_region}
-use Rattle.hip_repairs.specs.Repaired.{Marked, flush_of, the_fence, renamed, clone_name, wanted_by, inserted_behind, clones_of, cloned, repaired, instrs_of, repaired_body}
+use Rattle.hip_repairs.specs.Repaired.{Marked, flush_of, the_fence, renamed, clone_name, wanted_by, inserted_after, clones_of, cloned, repaired, instrs_of, repaired_body}
 use Rattle.hip_repairs.proofs.simulation.Ahead.{Ahead, ahead_stored, ahead_flushed, ahead_more_flushed, ahead_fenced, ahead_more_fenced, ahead_start}
 use Rattle.hip_runs.specs.Laws.EndLaws.{drop_next}
 use Rattle.hip_runs.specs.Laws.Members.{get_drop}
@@ -252,7 +252,7 @@ module _ (P : Program) (plan : Plan) (skip : Site → Bool) (I : Input) (good : 
     here_site = record { function = f; block = b; index = k }
 
     abbrev inserted : Instr → List Marked
-    inserted i = inserted_behind (wanted_by plan skip) clone here_site i
+    inserted i = inserted_after (wanted_by plan skip) clone here_site i
 
     abbrev to_clone : Bool
     to_clone = clone || has_site plan.hoist here_site
@@ -274,11 +274,11 @@ module _ (P : Program) (plan : Plan) (skip : Site → Bool) (I : Input) (good : 
     trapped i h w c d c' d' kind = after_stop clone (at_frame k regs slots) (at_frame' k' regs slots') fs fs' ls ls' (here_tied i h) below ahead holds (Trap kind) w d d'
 
     -- an instruction after which at most a fence is inserted
-    module _ (i : Instr) (h : Here i) (behind : inserted i ≡ cond fenced_here ((the_fence, true) ∷ []) []) (c d c' d' : Counts) (timed : (g : Flush) → Known ls g → g.step < c.steps) where
+    module _ (i : Instr) (h : Here i) (after : inserted i ≡ cond fenced_here ((the_fence, true) ∷ []) []) (c d c' d' : Counts) (timed : (g : Flush) → Known ls g → g.step < c.steps) where
       next_plain : (w : World) (rs : Registers) (sl sl' : List Slot) (ms ms' : Lines) → extents sl' ≡ extents sl → Ahead ms ms' → Holds up ms (fence_if fenced_here ms') →
           After (state w (at_frame (suc k) rs sl ∷ fs) ms d) (state w (at_frame' (suc k') rs sl' ∷ fs') ms' d')
       next_plain w rs sl sl' ms ms' e a q =
-          related (subst (λ pend. Tied P plan skip clone pend (at_frame (suc k) rs sl) (at_frame' (suc k') rs sl')) behind (moved i h rs sl sl' e)) (quiet (fence_quiet fenced_here)) below a q (ready_size {P = P} {plan = plan} {skip = skip} {I = I} {w = w} {regs = rs} (quiet (fence_quiet fenced_here)))
+          related (subst (λ pend. Tied P plan skip clone pend (at_frame (suc k) rs sl) (at_frame' (suc k') rs sl')) after (moved i h rs sl sl' e)) (quiet (fence_quiet fenced_here)) below a q (ready_size {P = P} {plan = plan} {skip = skip} {I = I} {w = w} {regs = rs} (quiet (fence_quiet fenced_here)))
 
       after_plain : (w : World) (x : Action) → IsPlain x → After (perform I w (at_frame k regs slots) fs ls c d x) (perform I w (at_frame' k' regs slots') fs' ls' c' d' x)
       unfolding perform

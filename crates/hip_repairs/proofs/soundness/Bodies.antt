@@ -12,7 +12,7 @@ use Rattle.hip_tree.specs.declared.instr.Operand.{Operand}
 use Rattle.hip_tree.specs.declared.site.Site.{Site}
 use Rattle.hip_runs.specs.Operands.{scalar_size}
 use Rattle.hip_sound.specs.Registers.{assigned_by, body_registers, block_registers, phi_registers}
-use Rattle.hip_repairs.specs.Repaired.{Marked, Clone, Wanted, is_wide, line_flush, range_flush, flush_of, the_fence, renamed, inserted_behind, repaired_body, instrs_of, repaired_block, repaired_blocks}
+use Rattle.hip_repairs.specs.Repaired.{Marked, Clone, Wanted, is_wide, line_flush, range_flush, flush_of, the_fence, renamed, inserted_after, repaired_body, instrs_of, repaired_block, repaired_blocks}
 use Rattle.hip_repairs.proofs.soundness.Items.{place_in}
 
 renamed_assigns : (clones : List Clone) (i : Instr) (b : Bool) → assigned_by (renamed clones i b) ≡ assigned_by i
@@ -42,13 +42,13 @@ store_registers ty addr align true c (suc k) = ap (λ rs. rs ++ body_registers (
 store_registers ty addr align false c k = fence_registers c k
 
 -- inserted instructions assign nothing
-inserted_registers : (w : Wanted) (clone : Bool) (s : Site) (i : Instr) (k : ℕ) → body_registers (take k (instrs_of (inserted_behind w clone s i))) ≡ []
+inserted_registers : (w : Wanted) (clone : Bool) (s : Site) (i : Instr) (k : ℕ) → body_registers (take k (instrs_of (inserted_after w clone s i))) ≡ []
 inserted_registers w clone s (Store ty value addr align) k = store_registers ty addr align _ _ k
 inserted_registers w clone s i k = fence_registers _ k
 
-all_inserted_registers : (w : Wanted) (clone : Bool) (s : Site) (i : Instr) → body_registers (instrs_of (inserted_behind w clone s i)) ≡ []
+all_inserted_registers : (w : Wanted) (clone : Bool) (s : Site) (i : Instr) → body_registers (instrs_of (inserted_after w clone s i)) ≡ []
 all_inserted_registers w clone s i =
-    ap body_registers (sym (take_all (length (instrs_of (inserted_behind w clone s i))) (instrs_of (inserted_behind w clone s i)) (omega arith))) ∙ inserted_registers w clone s i (length (instrs_of (inserted_behind w clone s i)))
+    ap body_registers (sym (take_all (length (instrs_of (inserted_after w clone s i))) (instrs_of (inserted_after w clone s i)) (omega arith))) ∙ inserted_registers w clone s i (length (instrs_of (inserted_after w clone s i)))
 
 module _ (clones : List Clone) (w : Wanted) (clone : Bool) (f b : ℕ) where
   abbrev pub site_at : ℕ → Site
@@ -65,23 +65,23 @@ module _ (clones : List Clone) (w : Wanted) (clone : Bool) (f b : ℕ) where
   -- one that is inserted after one of the original's
   abbrev pub IsInserted : ℕ → List Instr → ℕ → Instr → Type 0
   IsInserted place is k' i' =
-      (j : ℕ) × (i : Instr) × (m : ℕ) × (slice_get is j ≡ Some i) × (slice_get (instrs_of (inserted_behind w clone (site_at (place + j)) i)) m ≡ Some i') × (body_registers (take k' (repaired_instrs place is)) ≡ body_registers (take (suc j) is))
+      (j : ℕ) × (i : Instr) × (m : ℕ) × (slice_get is j ≡ Some i) × (slice_get (instrs_of (inserted_after w clone (site_at (place + j)) i)) m ≡ Some i') × (body_registers (take k' (repaired_instrs place is)) ≡ body_registers (take (suc j) is))
 
-  parts : (place : ℕ) (i : Instr) (is : List Instr) → map (λ m. m.0) (inserted_behind w clone (site_at place) i ++ repaired_body clones w clone f b (suc place) is) ≡
-      instrs_of (inserted_behind w clone (site_at place) i) ++ repaired_instrs (suc place) is
-  parts place i is = map-append (λ (m : Marked). m.0) (inserted_behind w clone (site_at place) i) (repaired_body clones w clone f b (suc place) is)
+  parts : (place : ℕ) (i : Instr) (is : List Instr) → map (λ m. m.0) (inserted_after w clone (site_at place) i ++ repaired_body clones w clone f b (suc place) is) ≡
+      instrs_of (inserted_after w clone (site_at place) i) ++ repaired_instrs (suc place) is
+  parts place i is = map-append (λ (m : Marked). m.0) (inserted_after w clone (site_at place) i) (repaired_body clones w clone f b (suc place) is)
 
   -- what is assigned in the first instructions of a body and its inserted ones
-  first_registers : (place k : ℕ) (i : Instr) (is xs : List Instr) → take k (instrs_of (inserted_behind w clone (site_at place) i) ++ repaired_instrs (suc place) is) ≡ xs →
+  first_registers : (place k : ℕ) (i : Instr) (is xs : List Instr) → take k (instrs_of (inserted_after w clone (site_at place) i) ++ repaired_instrs (suc place) is) ≡ xs →
       body_registers (take (suc k) (repaired_instrs place (i ∷ is))) ≡ assigned_by i ++ body_registers xs
   first_registers place k i is xs e =
       ap (λ ys. assigned_by (renamed clones i (clone || w.hoist (site_at place))) ++ body_registers (take k ys)) (parts place i is)
-      ∙ ap (λ rs. rs ++ body_registers (take k (instrs_of (inserted_behind w clone (site_at place) i) ++ repaired_instrs (suc place) is))) (renamed_assigns clones i (clone || w.hoist (site_at place)))
+      ∙ ap (λ rs. rs ++ body_registers (take k (instrs_of (inserted_after w clone (site_at place) i) ++ repaired_instrs (suc place) is))) (renamed_assigns clones i (clone || w.hoist (site_at place)))
       ∙ ap (λ ys. assigned_by i ++ body_registers ys) e
 
-  later_registers : (place m : ℕ) (i : Instr) (is : List Instr) → body_registers (instrs_of (inserted_behind w clone (site_at place) i) ++ take m (repaired_instrs (suc place) is)) ≡ body_registers (take m (repaired_instrs (suc place) is))
+  later_registers : (place m : ℕ) (i : Instr) (is : List Instr) → body_registers (instrs_of (inserted_after w clone (site_at place) i) ++ take m (repaired_instrs (suc place) is)) ≡ body_registers (take m (repaired_instrs (suc place) is))
   later_registers place m i is =
-      flat_map-append assigned_by (instrs_of (inserted_behind w clone (site_at place) i)) (take m (repaired_instrs (suc place) is))
+      flat_map-append assigned_by (instrs_of (inserted_after w clone (site_at place) i)) (take m (repaired_instrs (suc place) is))
       ∙ ap (λ rs. rs ++ body_registers (take m (repaired_instrs (suc place) is))) (all_inserted_registers w clone (site_at place) i)
 
   pub in_body : (place : ℕ) (is : List Instr) (k' : ℕ) (i' : Instr) → slice_get (repaired_instrs place is) k' ≡ Some i' → IsOriginal place is k' i' ⊎ IsInserted place is k' i'
@@ -98,8 +98,8 @@ module _ (clones : List Clone) (w : Wanted) (clone : Bool) (f b : ℕ) where
         i,
         k',
         refl,
-        subst (λ n. slice_get (instrs_of (inserted_behind w clone (site_at n) i)) k' ≡ Some i') here front.0,
-        first_registers place k' i is (take k' (instrs_of (inserted_behind w clone (site_at place) i))) front.1
+        subst (λ n. slice_get (instrs_of (inserted_after w clone (site_at n) i)) k' ≡ Some i') here front.0,
+        first_registers place k' i is (take k' (instrs_of (inserted_after w clone (site_at place) i))) front.1
             ∙ ap (λ rs. assigned_by i ++ rs) (inserted_registers w clone (site_at place) i k'),
       ))
       (λ back.
@@ -120,20 +120,20 @@ module _ (clones : List Clone) (w : Wanted) (clone : Bool) (f b : ℕ) where
         o.1,
         o.2,
         o.3,
-        subst (λ n. slice_get (instrs_of (inserted_behind w clone (site_at n) o.1)) o.2 ≡ Some i') shifted o.4,
+        subst (λ n. slice_get (instrs_of (inserted_after w clone (site_at n) o.1)) o.2 ≡ Some i') shifted o.4,
         first_registers place k' i is _ back.2 ∙ ap (λ rs. assigned_by i ++ rs) (later_registers place back.0 i is ∙ o.5),
       ))
       (in_body (suc place) is back.0 i' back.1))
-      (place_in (instrs_of (inserted_behind w clone (site_at place) i)) (repaired_instrs (suc place) is) k' i' (ap (λ ys. slice_get ys k') (sym (parts place i is)) ∙ e))
+      (place_in (instrs_of (inserted_after w clone (site_at place) i)) (repaired_instrs (suc place) is) k' i' (ap (λ ys. slice_get ys k') (sym (parts place i is)) ∙ e))
 
   -- a repaired body assigns what the original does
   pub same_registers : (place : ℕ) (is : List Instr) → body_registers (repaired_instrs place is) ≡ body_registers is
   same_registers place [] = refl
   same_registers place (i ∷ is) =
       ap (λ ys. assigned_by (renamed clones i (clone || w.hoist (site_at place))) ++ body_registers ys) (parts place i is)
-      ∙ ap (λ rs. rs ++ body_registers (instrs_of (inserted_behind w clone (site_at place) i) ++ repaired_instrs (suc place) is)) (renamed_assigns clones i (clone || w.hoist (site_at place)))
+      ∙ ap (λ rs. rs ++ body_registers (instrs_of (inserted_after w clone (site_at place) i) ++ repaired_instrs (suc place) is)) (renamed_assigns clones i (clone || w.hoist (site_at place)))
       ∙ ap (λ rs. assigned_by i ++ rs)
-      (flat_map-append assigned_by (instrs_of (inserted_behind w clone (site_at place) i)) (repaired_instrs (suc place) is)
+      (flat_map-append assigned_by (instrs_of (inserted_after w clone (site_at place) i)) (repaired_instrs (suc place) is)
       ∙ ap (λ rs. rs ++ body_registers (repaired_instrs (suc place) is)) (all_inserted_registers w clone (site_at place) i) ∙ same_registers (suc place) is)
 
 pub same_block_registers : (clones : List Clone) (w : Wanted) (clone : Bool) (f b : ℕ) (block : Block) → block_registers (repaired_block clones w clone f b block) ≡ block_registers block
@@ -162,6 +162,6 @@ store_kind ty value addr align i' true c zero e = inl (ty, value, addr, align, r
 store_kind ty value addr align i' true c (suc k) e = fence_kind (Store ty value addr align) i' c k e
 store_kind ty value addr align i' false c k e = fence_kind (Store ty value addr align) i' c k e
 
-pub inserted_kind : (w : Wanted) (clone : Bool) (s : Site) (i : Instr) (k : ℕ) (i' : Instr) → slice_get (instrs_of (inserted_behind w clone s i)) k ≡ Some i' → IsFlushOf i i' ⊎ (i' ≡ the_fence)
+pub inserted_kind : (w : Wanted) (clone : Bool) (s : Site) (i : Instr) (k : ℕ) (i' : Instr) → slice_get (instrs_of (inserted_after w clone s i)) k ≡ Some i' → IsFlushOf i i' ⊎ (i' ≡ the_fence)
 inserted_kind w clone s (Store ty value addr align) k i' e = store_kind ty value addr align i' _ _ k e
 inserted_kind w clone s i k i' e = fence_kind i i' _ k e

@@ -18,7 +18,7 @@ use Rattle.hip_names.specs.Names.{is_among}
 use Rattle.hip_sound.specs.Places.{first_of, function_of, callee_of}
 use Rattle.hip_sound.specs.Rules.{Passes}
 use Rattle.hip_repairs.specs.declared.plan.Plan.{Plan}
-use Rattle.hip_repairs.specs.Repaired.{Marked, Clone, Wanted, wanted_by, clwb_name, sfence_name, pmem_flush_name, flush_of, the_fence, inserted_behind, repaired_body, instrs_of, is_call_of, inserts, inserts_in, inserts_from, inserts_cloned, needs, clones_of, cloned, added_externs, repaired}
+use Rattle.hip_repairs.specs.Repaired.{Marked, Clone, Wanted, wanted_by, clwb_name, sfence_name, pmem_flush_name, flush_of, the_fence, inserted_after, repaired_body, instrs_of, is_call_of, inserts, inserts_in, inserts_from, inserts_cloned, needs, clones_of, cloned, added_externs, repaired}
 use Rattle.hip_repairs.proofs.soundness.Declarations.{clwb_extern, sfence_extern, pmem_flush_extern, extern_names}
 use Rattle.hip_repairs.proofs.soundness.CalleesAgain.{extern_signature, extern_there}
 use Rattle.hip_repairs.proofs.soundness.HeadsAgain.{externs_again}
@@ -37,34 +37,34 @@ store_marked i true c zero m e = ap (λ x. x.1) (sym (same_Some _ _ e))
 store_marked i true c (suc k) m e = fence_marked c k m e
 store_marked i false c k m e = fence_marked c k m e
 
-inserted_marked : (w : Wanted) (clone : Bool) (s : Site) (i : Instr) (k : ℕ) (m : Marked) → slice_get (inserted_behind w clone s i) k ≡ Some m → m.1 ≡ true
+inserted_marked : (w : Wanted) (clone : Bool) (s : Site) (i : Instr) (k : ℕ) (m : Marked) → slice_get (inserted_after w clone s i) k ≡ Some m → m.1 ≡ true
 inserted_marked w clone s (Store ty value addr align) k m e = store_marked (flush_of ty addr align) _ _ k m e
 inserted_marked w clone s i k m e = fence_marked _ k m e
 
 abbrev calls_name : List ℕ → Marked → Bool
 calls_name name m = m.1 && is_call_of name m.0
 
-inserted_calls_name : (name : List ℕ) (w : Wanted) (clone : Bool) (s : Site) (i i' : Instr) (k : ℕ) → slice_get (instrs_of (inserted_behind w clone s i)) k ≡ Some i' → is_call_of name i' ≡ true → list_any (calls_name name) (inserted_behind w clone s i) ≡ true
+inserted_calls_name : (name : List ℕ) (w : Wanted) (clone : Bool) (s : Site) (i i' : Instr) (k : ℕ) → slice_get (instrs_of (inserted_after w clone s i)) k ≡ Some i' → is_call_of name i' ≡ true → list_any (calls_name name) (inserted_after w clone s i) ≡ true
 inserted_calls_name name w clone s i i' k e c =
-    let at = map_at (λ (m : Marked). m.0) (inserted_behind w clone s i) k i' e in
-    any_at (calls_name name) (inserted_behind w clone s i) k at.0 at.1
+    let at = map_at (λ (m : Marked). m.0) (inserted_after w clone s i) k i' e in
+    any_at (calls_name name) (inserted_after w clone s i) k at.0 at.1
     (ap (λ b. b && is_call_of name at.0.0) (inserted_marked w clone s i k at.0 at.1) ∙ ap (is_call_of name) (sym at.2) ∙ c)
 
 -- ---- then the repair needs it
 
 module _ (name : List ℕ) (clones : List Clone) (w : Wanted) (clone : Bool) where
-  in_a_body : (f b place : ℕ) (is : List Instr) (j k : ℕ) (i i' : Instr) → slice_get is j ≡ Some i → slice_get (instrs_of (inserted_behind w clone (record { function = f; block = b; index = place + j }) i)) k ≡ Some i' → is_call_of name i' ≡ true →
+  in_a_body : (f b place : ℕ) (is : List Instr) (j k : ℕ) (i i' : Instr) → slice_get is j ≡ Some i → slice_get (instrs_of (inserted_after w clone (record { function = f; block = b; index = place + j }) i)) k ≡ Some i' → is_call_of name i' ≡ true →
       inserts name (repaired_body clones w clone f b place is) ≡ true
   in_a_body f b place [] j k i i' e n c = cc
   in_a_body f b place (x ∷ is) zero k i i' e n c =
       let here : place + 0 ≡ place = omega arith in
-      let there : slice_get (instrs_of (inserted_behind w clone (record { function = f; block = b; index = place }) x)) k ≡ Some i' =
-      ap₂ (λ p y. slice_get (instrs_of (inserted_behind w clone (record { function = f; block = b; index = p }) y)) k) (sym here) (same_Some x i e) ∙ n in
-      any_front (calls_name name) (inserted_behind w clone (record { function = f; block = b; index = place }) x) (repaired_body clones w clone f b (suc place) is) (inserted_calls_name name w clone (record { function = f; block = b; index = place }) x i' k there c)
+      let there : slice_get (instrs_of (inserted_after w clone (record { function = f; block = b; index = place }) x)) k ≡ Some i' =
+      ap₂ (λ p y. slice_get (instrs_of (inserted_after w clone (record { function = f; block = b; index = p }) y)) k) (sym here) (same_Some x i e) ∙ n in
+      any_front (calls_name name) (inserted_after w clone (record { function = f; block = b; index = place }) x) (repaired_body clones w clone f b (suc place) is) (inserted_calls_name name w clone (record { function = f; block = b; index = place }) x i' k there c)
   in_a_body f b place (x ∷ is) (suc j) k i i' e n c =
       let shifted : place + suc j ≡ suc place + j = omega arith in
-      any_back (calls_name name) (inserted_behind w clone (record { function = f; block = b; index = place }) x) (repaired_body clones w clone f b (suc place) is)
-      (in_a_body f b (suc place) is j k i i' e (subst (λ p. slice_get (instrs_of (inserted_behind w clone (record { function = f; block = b; index = p }) i)) k ≡ Some i') shifted n) c)
+      any_back (calls_name name) (inserted_after w clone (record { function = f; block = b; index = place }) x) (repaired_body clones w clone f b (suc place) is)
+      (in_a_body f b (suc place) is j k i i' e (subst (λ p. slice_get (instrs_of (inserted_after w clone (record { function = f; block = b; index = p }) i)) k ≡ Some i') shifted n) c)
 
   in_blocks : (f first : ℕ) (blocks : List Block) (b : ℕ) (block : Block) → slice_get blocks b ≡ Some block → inserts name (repaired_body clones w clone f (first + b) 0 block.body) ≡ true → inserts_in name clones w clone f first blocks ≡ true
   in_blocks f first [] b block e h = cc
@@ -98,7 +98,7 @@ module _ (P : Program) (plan : Plan) (skip : Site → Bool) where
 
   -- an inserted call is one that the repair needs
   pub inserted_needed : (name : List ℕ) (f' : ℕ) (fn' : Function) (o : Origin P plan skip f' fn') (b : ℕ) (block : Block) (j k : ℕ) (i i' : Instr) → slice_get o.fn.blocks b ≡ Some block → slice_get block.body j ≡ Some i →
-      slice_get (instrs_of (inserted_behind w o.clone (record { function = o.f; block = b; index = 0 + j }) i)) k ≡ Some i' → is_call_of name i' ≡ true → needs P plan w name ≡ true
+      slice_get (instrs_of (inserted_after w o.clone (record { function = o.f; block = b; index = 0 + j }) i)) k ≡ Some i' → is_call_of name i' ≡ true → needs P plan w name ≡ true
   inserted_needed name f' fn' o b block j k i i' e g n c =
       needed_by name f' fn' o o.clone refl
       (in_blocks name (clones_of P plan) w o.clone o.f 0 o.fn.blocks b block e

@@ -2,6 +2,7 @@
 use Rattle.hip_runs.specs.Laws.Members.{both_true, any_in, in_any}
 use Rattle.std.proofs.Common.{◌≡◌, ◌⊎◌, inl, inr, ℕ, zero, suc, Bool, true, false, ◌||◌, nat_eq, List, Option, Some, None, slice_get, refl, sym, ap, ◌∙◌, subst}
 use Rattle.hip_types.specs.Laws.DistinctLaws.{or_first, or_second, either}
+use Rattle.hip_tree.specs.Laws.SiteLaws.{same_site_equal}
 use Rattle.hip_tree.specs.Sites.{instr_of, has_site, sites_of}
 use Rattle.hip_tree.specs.declared.program.Program.{Program}
 use Rattle.hip_tree.specs.declared.site.Site.{Site}
@@ -18,7 +19,6 @@ use Rattle.hip_repairs.specs.Planned.{IsAsked, IsWithin, union, either_list}
 use Rattle.hip_repairs.specs.Laws.SiteOrder.{plan_asked, filter_ascends, in_has, has_in, site_in, filtered_are, filtered_has}
 use Rattle.hip_runs.specs.Sites.{is_store, is_flush_call, is_defined_call}
 use Rattle.hip_runs.specs.Laws.Found.ReportLaws.{reports_formed}
-use Rattle.hip_runs.specs.Laws.Found.FoundLaws.{same_site_equal}
 use Rattle.hip_tree.specs.declared.instr.Instr.{Instr}
 use Rattle.hip_runs.specs.Found.WellFormed.{IsWellFormed}
 use Rattle.hip_repairs.specs.declared.plan.Plan.{Plan}
@@ -171,10 +171,10 @@ module _ (P : Program) (a b : Plan) where
       hoist s (inl h) = f.hoists s h
       hoist s (inr h) = g.hoists s h
 
-      behind : (s : Site) (plan : Plan) → Contains (union P a b) plan
+      after : (s : Site) (plan : Plan) → Contains (union P a b) plan
           → is_flush_call (instr_of P s) || has_site plan.flush_after s ≡ true
           → is_flush_call (instr_of P s) || has_site (union P a b).flush_after s ≡ true
-      behind s plan c h = by (either (is_flush_call (instr_of P s)) (has_site plan.flush_after s) h)
+      after s plan c h = by (either (is_flush_call (instr_of P s)) (has_site plan.flush_after s) h)
         where
           by : (is_flush_call (instr_of P s) ≡ true) ⊎ (has_site plan.flush_after s ≡ true)
               → is_flush_call (instr_of P s) || has_site (union P a b).flush_after s ≡ true
@@ -183,5 +183,5 @@ module _ (P : Program) (a b : Plan) where
 
       fence : (s : Site) → (has_site a.fence_after s ≡ true) ⊎ (has_site b.fence_after s ≡ true)
           → is_flush_call (instr_of P s) || has_site (union P a b).flush_after s ≡ true
-      fence s (inl h) = behind s a (has_first (suiting_within P a f)) (f.fences s h)
-      fence s (inr h) = behind s b (has_second (suiting_within P b g)) (g.fences s h)
+      fence s (inl h) = after s a (has_first (suiting_within P a f)) (f.fences s h)
+      fence s (inr h) = after s b (has_second (suiting_within P b g)) (g.fences s h)

@@ -1,8 +1,8 @@
 -- The order of sites, and lists of sites that ascend.
 use Rattle.std.proofs.Common.{◌≡◌, ◌⊎◌, inl, inr, ℕ, suc, ◌<◌, ◌≤◌, Bool, true, false, cond, ◌&&◌, ◌||◌, nat_lt, nat_eq, List, [], ◌∷◌, ◌++◌, refl, sym, ap, ◌∙◌, subst, arith, Option, Some, zero, ◌+◌}
 use Rattle.std.specs.List.{filter}
-use Rattle.hip_runs.specs.Laws.Found.FoundLaws.{same_site_equal, site_same}
 use Rattle.hip_types.specs.Laws.DistinctLaws.{or_first, or_second, either}
+use Rattle.hip_tree.specs.Laws.SiteLaws.{same_site_equal, site_same}
 use Rattle.hip_tree.specs.Sites.{same_site, has_site, sites_of, function_sites, block_sites, body_sites, instr_of}
 use Rattle.hip_tree.specs.declared.block.Block.{Block}
 use Rattle.hip_tree.specs.declared.instr.Instr.{Instr}
@@ -397,10 +397,10 @@ same_sorted (x ∷ xs) (y ∷ ys) h g to from = go (total x y) (λ a b. same_sor
     not_before a b bs after (inl e) lt = never b (subst (λ z. Before z b) e lt)
     not_before a b bs after (inr i) lt = never a (before_trans a b a lt (after a i))
 
-    behind : (a b : Site) (xs bs : List Site) → a ≡ b → AllAfter a xs
+    in_rest : (a b : Site) (xs bs : List Site) → a ≡ b → AllAfter a xs
         → ((s : Site) → In s (a ∷ xs) → In s (b ∷ bs))
         → (s : Site) → In s xs → In s bs
-    behind a b xs bs e after all s i = by (all s (inr i))
+    in_rest a b xs bs e after all s i = by (all s (inr i))
       where
         by : In s (b ∷ bs) → In s bs
         by (inl same) = absurd (never a (subst (Before a) (same ∙ sym e) (after s i)))
@@ -413,7 +413,7 @@ same_sorted (x ∷ xs) (y ∷ ys) h g to from = go (total x y) (λ a b. same_sor
     go (inr (inr lt)) rest = absurd (not_before y x xs h.0 (from y (inl refl)) lt)
     go (inr (inl e)) rest =
         ap (λ z. z ∷ xs) e ∙ ap (λ zs. y ∷ zs)
-        (rest (behind x y xs ys e h.0 to) (behind y x ys xs (sym e) g.0 from))
+        (rest (in_rest x y xs ys e h.0 to) (in_rest y x ys xs (sym e) g.0 from))
 
 pub same_members : (xs ys : List Site) → is_ascending xs ≡ true → is_ascending ys ≡ true
     → ((s : Site) → has_site xs s ≡ has_site ys s) → xs ≡ ys

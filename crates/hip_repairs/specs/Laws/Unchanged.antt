@@ -16,7 +16,7 @@ use Rattle.hip_runs.specs.declared.report.Findings.{Findings}
 use Rattle.hip_runs.specs.Validity.{IsValid}
 use Rattle.hip_repairs.specs.declared.plan.Plan.{Plan}
 use Rattle.hip_repairs.specs.Choice.{wants_flush, wants_fence, wants_hoist, plan_for}
-use Rattle.hip_repairs.specs.Repaired.{Marked, Clone, Wanted, wanted_by, renamed, inserted_behind, repaired_body, instrs_of, repaired_blocks, repaired_functions, clone_functions, cloned, clones_of, inserts, inserts_in, inserts_from, inserts_cloned, needs, added_externs, repaired}
+use Rattle.hip_repairs.specs.Repaired.{Marked, Clone, Wanted, wanted_by, renamed, inserted_after, repaired_body, instrs_of, repaired_blocks, repaired_functions, clone_functions, cloned, clones_of, inserts, inserts_in, inserts_from, inserts_cloned, needs, added_externs, repaired}
 use Rattle.std.proofs.lemmas.List.{append-nil}
 use Rattle.hip_repairs.specs.Suits.{no_repairs}
 
@@ -77,7 +77,7 @@ module _ (skip : Site → Bool) where
   abbrev w : Wanted
   w = wanted_by no_repairs skip
 
-  nothing_behind : (s : Site) (i : Instr) → inserted_behind w false s i ≡ []
+  nothing_behind : (s : Site) (i : Instr) → inserted_after w false s i ≡ []
   nothing_behind s (Binary dest op flags width a b) = refl
   nothing_behind s (Compare dest pred ty a b) = refl
   nothing_behind s (Select dest test ty a b) = refl

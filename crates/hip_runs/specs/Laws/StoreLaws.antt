@@ -1,5 +1,5 @@
 -- The parts of the cache lines are those of the stores that the run made.
-use Rattle.std.proofs.Common.{◌≡◌, ◌⊎◌, inl, inr, ℕ, zero, suc, ◌+◌, ◌-◌, ◌≤◌, Bool, true, false, cond, List, ◌∷◌, length, Some, slice_get, slice_index, refl, sym, ap, ◌∙◌, subst, arith}
+use Rattle.std.proofs.Common.{◌≡◌, ◌⊎◌, inl, inr, ℕ, zero, suc, ◌+◌, ◌-◌, ◌≤◌, Bool, true, false, cond, List, ◌∷◌, length, Option, Some, slice_get, slice_index, refl, sym, ap, ◌∙◌, subst, arith}
 use Rattle.std.proofs.lemmas.Bool.Decides.{nat_tests}
 use Rattle.hip_tree.specs.declared.program.Program.{Program}
 use Rattle.hip_types.specs.Bytes.{little_endian, bytes_of}
@@ -9,7 +9,7 @@ use Rattle.hip_runs.specs.declared.event.Event.{Event}
 use Rattle.hip_runs.specs.declared.input.Input.{Input}
 use Rattle.hip_runs.specs.Actions.{in_region}
 use Rattle.hip_runs.specs.StoredParts.Parts.{PartOf}
-use Rattle.hip_runs.specs.StoredParts.Persistence.{part_of_store, noted_flush, noted_fence}
+use Rattle.hip_runs.specs.StoredParts.Persistence.{earlier, part_of_store, noted_flush, noted_fence}
 use Rattle.hip_runs.specs.StoredParts.Since.{top_site, IsOfStore}
 use Rattle.hip_runs.specs.Laws.HeldBytes.{held, holds_byte, held_byte, line_byte}
 use Rattle.hip_runs.specs.Laws.SinceLaws.{InLine, line_of_part, of_fenced, of_flushed, of_stored, line_of_start, no_part}
@@ -24,8 +24,10 @@ in_there I a n h = grind (arith, nat_tests)
 -- ---- a step
 
 module _ (P : Program) (I : Input) where
-  of_fence : (x : StorePart) → IsOfStore P I x → IsOfStore P I (noted_fence x)
-  of_fence x s =
+  -- a flush and a fence change only what a part notes
+  of_noted : (x : StorePart) (first : Option Flush) (is_fenced : Bool) → IsOfStore P I x
+      → IsOfStore P I (record x { first_flush = first; fenced = is_fenced })
+  of_noted x first is_fenced s =
       record {
         addr = s.addr;
         bytes = s.bytes;
@@ -38,19 +40,11 @@ module _ (P : Program) (I : Input) where
         whole = s.whole;
       }
 
+  of_fence : (x : StorePart) → IsOfStore P I x → IsOfStore P I (noted_fence x)
+  of_fence x = of_noted x x.first_flush true
+
   of_flush : (flush : Flush) (x : StorePart) → IsOfStore P I x → IsOfStore P I (noted_flush flush x)
-  of_flush flush x s =
-      record {
-        addr = s.addr;
-        bytes = s.bytes;
-        stored = s.stored;
-        written = s.written;
-        site = s.site;
-        levels = s.levels;
-        entry = s.entry;
-        covered = s.covered;
-        whole = s.whole;
-      }
+  of_flush flush x = of_noted x (earlier x.first_flush flush) x.fenced
 
   of_flushes : (flush : Flush) (b : Bool) (x : StorePart) → IsOfStore P I x
       → IsOfStore P I (cond b (noted_flush flush x) x)

@@ -48,7 +48,7 @@ module _ (Fact : ℕ → List ℕ → ℕ → Type 0) (Returned : ℕ → ℕ �
     pub for_result : (v : ℕ) → Returned h v → assigned_fact g dest v
 
   -- a frame after a call of a function, whose result goes into a register
-  pub record IsBehindCall (h : ℕ) (dest : Option (List ℕ)) (g : Frame) : Type 0 where
+  pub record IsAfterCall (h : ℕ) (dest : Option (List ℕ)) (g : Frame) : Type 0 where
     pub hold : ValuesHold g.function g.registers
     pub waits : WaitsFor g.function dest h
 
@@ -77,7 +77,7 @@ module _ (Fact : ℕ → List ℕ → ℕ → Type 0) (Returned : ℕ → ℕ �
   with_value g None v rs p h = h
   with_value g (Some name) v rs p h = record { all = (p, h.all) }
 
-  facts_kept : (f : Frame) (x : Action) → on_top f → gives_facts f.function x → keeps on_top IsBehindCall f x
+  facts_kept : (f : Frame) (x : Action) → on_top f → gives_facts f.function x → keeps on_top IsAfterCall f x
   facts_kept f (Traps kind) h p = tt
   facts_kept f (Assigns dest v) h p = with_value f.function dest v f.registers p h
   facts_kept f (Allocates dest a n) h p = with_value f.function (Some dest) a f.registers p h
@@ -192,21 +192,21 @@ module _ (Fact : ℕ → List ℕ → ℕ → Type 0) (Returned : ℕ → ℕ �
           go (Some block) q r =
               let at = block_there P f.function f.block block q in kept.instr n f fs at.0 block i t h at.1 r
 
-      facts_invariant : IsInvariant on_top IsBehindCall P I
+      facts_invariant : IsInvariant on_top IsAfterCall P I
       facts_invariant = record {
         first = record { all = tt };
         each = λ n f fs t s. record { is = facts_kept f _ s.0 (deed_gives n f fs t s.0 (code_at P f) refl).is };
       }
 
       values_below : (h : ℕ) (dest : Option (List ℕ)) (fs : List Frame)
-          → below_hold on_top IsBehindCall (main_number P) h dest fs → values_in_frames fs
+          → below_hold on_top IsAfterCall (main_number P) h dest fs → values_in_frames fs
       values_below h dest [] u = tt
       values_below h dest (g ∷ fs) u = (u.0.hold, values_below g.function g.dest fs u.1)
 
-      all_frames : (fs : List Frame) → frames_hold on_top IsBehindCall (main_number P) fs → values_in_frames fs
+      all_frames : (fs : List Frame) → frames_hold on_top IsAfterCall (main_number P) fs → values_in_frames fs
       all_frames [] s = tt
       all_frames (f ∷ fs) s = (s.0, values_below f.function f.dest fs s.1)
 
       -- so it holds of each register of each frame
       pub actions_keep_facts : (n : ℕ) → values_in_frames (run P I n).frames
-      actions_keep_facts n = all_frames (run P I n).frames (invariant_holds on_top IsBehindCall P I facts_invariant n)
+      actions_keep_facts n = all_frames (run P I n).frames (invariant_holds on_top IsAfterCall P I facts_invariant n)

@@ -10,5 +10,5 @@ returns-clause-kind c = λ P bytes whole e e' k k' m m'. (one-misfit P bytes who
 pub returns-clause-none : goal.returns-clause-none
 returns-clause-none c = no-misfit
 
-pub returns-clause-behind : goal.returns-clause-behind
-returns-clause-behind c = behind-header
+pub returns-clause-after : goal.returns-clause-after
+returns-clause-after c = behind-header

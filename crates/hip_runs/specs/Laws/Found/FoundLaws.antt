@@ -5,6 +5,7 @@ use Rattle.hip_tree.specs.declared.site.Site.{Site}
 use Rattle.std.specs.Cmp.{IsEquivalence, both_ways, nat_eq_equiv}
 use Rattle.std.specs.List.{list_any, IsDistinct}
 use Rattle.hip_types.specs.Laws.DistinctLaws.{met-distinct}
+use Rattle.hip_tree.specs.Laws.SiteLaws.{same_site_equal, site_same}
 use Rattle.hip_tree.specs.Sites.{same_site}
 use Rattle.hip_runs.specs.declared.event.Object.{Object}
 use Rattle.hip_runs.specs.declared.report.Mark.{Mark}
@@ -25,19 +26,6 @@ use Rattle.hip_runs.specs.declared.report.Marks.{Marks}
 use Rattle.hip_runs.specs.Found.Scores.{Worth, is_worth_of, worth_at, is_marked, with_mark, worth, worth_in, worth_of, worths, worths_from}
 use Rattle.hip_runs.specs.Laws.Members.{both_true, equal_true, true_both, true_equal}
 use Rattle.hip_runs.specs.declared.event.Object.TheVariants as objects
-
-pub same_site_equal : (a b : Site) → same_site a b ≡ true → a ≡ b
-same_site_equal a b h =
-    let p = both_true _ _ h in
-    let q = both_true _ _ p.1 in
-    ap₂ (λ (f : ℕ) (r : Site). record { function = f; block = r.block; index = r.index }) (equal_true _ _ p.0)
-    (ap₂ (λ (x y : ℕ). record { function = a.function; block = x; index = y }) (equal_true _ _ q.0)
-    (equal_true _ _ q.1))
-
-pub site_same : (a : Site) → same_site a a ≡ true
-site_same a =
-    true_both (true_equal a.function a.function refl)
-    (true_both (true_equal a.block a.block refl) (true_equal a.index a.index refl))
 
 pub same_object_equal : (a b : Object) → same_object a b ≡ true → a ≡ b
 same_object_equal (objects.Global a) (objects.Global b) h = ap objects.Global (equal_true a b h)

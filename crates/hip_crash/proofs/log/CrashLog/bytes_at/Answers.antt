@@ -11,8 +11,8 @@ view-view-requires c = reach c.self.inside c.self.invariant c.self.inside.input.
 pub overflow_mul-line : goal.overflow_mul-line
 overflow_mul-line c = let low = start-low c.self.inside c.self.invariant c.self.inside.input.now.image refl c.args.self.now c.self.view_is c.args.line c.requires.line in omega (arith, low)
 
-pub behind-requires : goal.behind-requires
-behind-requires c = subst (λ n. n ≤ number_or n c.args.number) (bounds-least c.self.inside c.self.invariant c.self.inside.input.now.image refl c.args.self.now c.self.view_is c.args.line c.requires.line c.view-view.result.bytes c.view-view.result.least (later_in c.view-view.result) (c.args.line * 64) c.view-view.ensures.bytes c.view-view.ensures.least c.view-view.ensures.later (omega arith)) c.requires.within.least
+pub later_count-requires : goal.later_count-requires
+later_count-requires c = subst (λ n. n ≤ number_or n c.args.number) (bounds-least c.self.inside c.self.invariant c.self.inside.input.now.image refl c.args.self.now c.self.view_is c.args.line c.requires.line c.view-view.result.bytes c.view-view.result.least (later_in c.view-view.result) (c.args.line * 64) c.view-view.ensures.bytes c.view-view.ensures.least c.view-view.ensures.later (omega arith)) c.requires.within.least
 
 pub bytes_after-requires-clause-start : goal.bytes_after-requires-clause-start
 bytes_after-requires-clause-start c = let low = start-low c.self.inside c.self.invariant c.self.inside.input.now.image refl c.args.self.now c.self.view_is c.args.line c.requires.line in omega (arith, low)
@@ -21,11 +21,11 @@ pub bytes_after-requires-clause-count : goal.bytes_after-requires-clause-count
 bytes_after-requires-clause-count c =
     let most = bounds-most c.self.inside c.self.invariant c.self.inside.input.now.image refl c.args.self.now c.self.view_is c.args.line c.requires.line c.view-view.result.bytes c.view-view.result.least (later_in c.view-view.result) (c.args.line * 64) c.view-view.ensures.bytes c.view-view.ensures.least c.view-view.ensures.later (omega arith) in
     let same : number_or (bounds_of (state_of c.args.self.now) c.args.line).least c.args.number ≡ number_or c.view-view.result.least c.args.number = ap (λ n. number_or n c.args.number) (bounds-least c.self.inside c.self.invariant c.self.inside.input.now.image refl c.args.self.now c.self.view_is c.args.line c.requires.line c.view-view.result.bytes c.view-view.result.least (later_in c.view-view.result) (c.args.line * 64) c.view-view.ensures.bytes c.view-view.ensures.least c.view-view.ensures.later (omega arith)) in
-    omega (arith, c.behind.ensures, most, same, c.requires.within.most)
+    omega (arith, c.later_count.ensures, most, same, c.requires.within.most)
 
 pub returns : goal.returns
 returns c = λ pick e.
     let least = bounds-least c.self.inside c.self.invariant c.self.inside.input.now.image refl c.args.self.now c.self.view_is c.args.line c.requires.line c.view-view.result.bytes c.view-view.result.least (later_in c.view-view.result) (c.args.line * 64) c.view-view.ensures.bytes c.view-view.ensures.least c.view-view.ensures.later (omega arith) in
     let q = number_or c.view-view.result.least c.args.number in
-    piece-viewed c.self.inside c.self.invariant c.self.inside.input.now.image refl c.args.self.now c.self.view_is c.args.line c.requires.line c.view-view.result.bytes c.view-view.result.least (later_in c.view-view.result) (c.args.line * 64) c.view-view.ensures.bytes c.view-view.ensures.least c.view-view.ensures.later (omega arith) pick q c.behind.result c.bytes_after.result
-    (subst (λ n. n ≤ number_or n c.args.number) least c.requires.within.least) c.behind.ensures (e ∙ ap (λ n. number_or n c.args.number) least) c.bytes_after.ensures
+    piece-viewed c.self.inside c.self.invariant c.self.inside.input.now.image refl c.args.self.now c.self.view_is c.args.line c.requires.line c.view-view.result.bytes c.view-view.result.least (later_in c.view-view.result) (c.args.line * 64) c.view-view.ensures.bytes c.view-view.ensures.least c.view-view.ensures.later (omega arith) pick q c.later_count.result c.bytes_after.result
+    (subst (λ n. n ≤ number_or n c.args.number) least c.requires.within.least) c.later_count.ensures (e ∙ ap (λ n. number_or n c.args.number) least) c.bytes_after.ensures

@@ -1,4 +1,4 @@
-use Rattle.std.proofs.Common.{◌≡◌, ℕ, ◌+◌, ◌-◌, ◌∙◌, ap, sym, arith}
+use Rattle.std.proofs.Common.{◌≡◌, ◌+◌, ◌-◌, ◌∙◌, ap, arith}
 use Rattle.hip_directory.specs.Directories.{number_at}
 use Rattle.hip_mem.proofs.PageKeys.{stack-place, zero-byte}
 use Rattle.hip_mem.proofs.pages.Pages.first_made.Goals as goal

@@ -36,7 +36,7 @@ use Rattle.hip_sound.specs.Sound.{IsBlockAt, IsSound, callee_names}
 use Rattle.hip_runs.specs.Places.{blocks_in, blocks_of}
 use Rattle.hip_runs.specs.StoredParts.Parts.{In}
 use Rattle.hip_runs.specs.Laws.PartLaws.{in-append, in-map}
-use Rattle.hip_invariants.specs.PointerLevels.{PointerLevel, is_at_most, number_level, const_level, behind_offset, known_path}
+use Rattle.hip_invariants.specs.PointerLevels.{PointerLevel, is_at_most, number_level, const_level, after_offset, known_path}
 use Rattle.hip_repairs.specs.Direct.{allocates, allocates_in, is_volatile_global, names_volatile, stores_outside, direct}
 use Rattle.hip_repairs.proofs.soundness.HeadsAgain.{names_of_globals}
 use Rattle.hip_repairs.proofs.quiet.OutsideAddresses.{volatile_number}
@@ -179,13 +179,13 @@ module _ (P : Program) (sound : Passes P) (g : ℕ) (q : List ℕ) (all : alloca
       met r i false e = at_most_next _ _ _ (bound_more (lowered A) A (lowered_below A) r.least) (closed.met r i)
 
   -- so the least one has level 0 there
-  pub stack_register_low : is_some (behind_offset (least_levels P (Register g q)) 0) ≡ true
+  pub stack_register_low : is_some (after_offset (least_levels P (Register g q)) 0) ≡ true
   stack_register_low = go (least_levels P (Register g q)) (subst (is_at_most (least_levels P (Register g q))) is ((program_is_least P).below (lowered (least_levels P)) (lowered_closed (least_levels P) (program_is_least P).closed) (Register g q)))
     where
       is : lowered (least_levels P) (Register g q) ≡ Some 0
       is = ap (λ b. cond b (Some 0) (least_levels P (Register g q))) (same_as_itself (Register g q))
 
-      go : (a : PointerLevel) → is_at_most a (Some 0) → is_some (behind_offset a 0) ≡ true
+      go : (a : PointerLevel) → is_at_most a (Some 0) → is_some (after_offset a 0) ≡ true
       go None h = absurd h
       go (Some t) h = refl
 

@@ -74,7 +74,7 @@ returns-in_err-sight-clause-err c =
       quiet = steps_then c.args.machine.now c.steps.machine c.pass_along.new.machine c.steps.invariant.quiet c.pass_along.ensures.passes;
       is = inl refl;
     } in
-    on_err c.from_residual.result stops
+    on_err c.from_residual-in_err-sight.result stops
 
 pub returns-in_err-event-clause-err : goal.returns-in_err-event-clause-err
 returns-in_err-event-clause-err c =

@@ -1,6 +1,8 @@
 ghost use Rattle.std.specs.Prelude.{◌≡◌, ◌↔◌, [], ◌∷◌, ◌++◌, IsTrue, IfOk, OnOk};
 
-use hip_types::{BinaryOp, Bits, CastOp, NoMemory, Pred, Row, Scalar, Ty, Width, copy_ty, same_ty};
+use hip_types::{
+    BinaryOp, Bits, CastOp, Link, NoMemory, Pred, Row, Scalar, Ty, Width, copy_ty, same_ty,
+};
 use std::alloc::Global;
 
 /// A type whose values contracts compare by their structure.
@@ -91,6 +93,17 @@ impl Structural for Ty {
 
     fn same(&self, other: &Ty) -> bool {
         same_ty(self, other)
+    }
+}
+
+impl<T: Structural> Structural for Link<T> {
+    fn copy(&self, alloc: Global) -> Result<Link<T>, NoMemory> {
+        let value = self.get().copy(alloc)?;
+        Link::new(alloc, value)
+    }
+
+    fn same(&self, other: &Link<T>) -> bool {
+        self.get().same(other.get())
     }
 }
 

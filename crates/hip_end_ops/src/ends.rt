@@ -191,7 +191,7 @@ pub fn end_op(
             Ok(op)
         }
         End::CondBr { cond, yes, no } => {
-            let op = branch_on(scope, tables, made, source, cond, &Labels { yes, no })?;
+            let op = branch_on(scope, tables, made, source, cond.get(), &Labels { yes, no })?;
             Ok(op)
         }
         End::Switch {
@@ -202,7 +202,7 @@ pub fn end_op(
         } => {
             let cases = cases.as_slice();
             let targets = Targets { cases, other };
-            let op = switch(scope, tables, made, source, value, &targets)?;
+            let op = switch(scope, tables, made, source, value.get(), &targets)?;
             Ok(op)
         }
         End::Ret(value) => {

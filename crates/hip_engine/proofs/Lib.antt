@@ -6,6 +6,7 @@ pub mod Reached
 pub mod Quickly
 pub mod Locally
 pub mod Within
+pub mod Crossed
 pub mod StoresTold
 pub mod MainPlace
 pub mod StartStands

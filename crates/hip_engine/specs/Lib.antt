@@ -6,5 +6,6 @@ pub mod Silent
 pub mod QuickSteps
 pub mod LocalSteps
 pub mod Reaches
+pub mod Crossing
 pub mod StoresAhead
 pub mod Laws

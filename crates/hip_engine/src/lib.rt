@@ -3,6 +3,7 @@
 #![tactic(auto)]
 
 mod ahead;
+mod crossing;
 mod going;
 mod here;
 mod moves;
@@ -16,4 +17,5 @@ mod runner;
 mod stepping;
 
 pub use ahead::StoreAhead;
+pub use crossing::Crossing;
 pub use runner::Runner;

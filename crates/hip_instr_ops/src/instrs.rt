@@ -70,7 +70,7 @@ fn value_op(scope: &Scope<'_, '_>, tables: &mut Growing, instr: &Instr) -> Resul
             a,
             b,
             ..
-        } => { select(scope, tables, dest, cond, &Operands { a, b }) }
+        } => { select(scope, tables, dest, cond.get(), &Operands { a, b }) }
         Instr::Cast {
             dest,
             op,

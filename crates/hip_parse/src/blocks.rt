@@ -15,7 +15,7 @@ use crate::parts::{Production, Repeated, fitted};
 use crate::words::{Scalars, Widths};
 use hip_grammar::{Fault, Keyword};
 use hip_tree::{Block, Case, Edge, End, Instr, Phi};
-use hip_types::{Name, Row, Scalar, Width};
+use hip_types::{Link, Name, Row, Scalar, Width};
 use std::alloc::Global;
 
 /// An edge of a phi of this type.
@@ -167,6 +167,7 @@ impl<'a> Parser<'a> {
         let cond = self.operand(alloc, Scalar::Int(Width::W1))?;
         let yes = self.next_target(alloc)?;
         let no = self.next_target(alloc)?;
+        let cond = Link::new(alloc, cond)?;
         Ok(End::CondBr { cond, yes, no })
     }
 
@@ -214,7 +215,7 @@ impl<'a> Parser<'a> {
         let cases = self.cases(alloc, width)?;
         Ok(End::Switch {
             width,
-            value,
+            value: Link::new(alloc, value)?,
             other,
             cases,
         })

@@ -14,7 +14,7 @@ use crate::parser::Parser;
 use crate::words::{BinaryOps, FlagsAfter, IntCasts, Preds, Results, Scalars, Widths};
 use hip_grammar::{Fault, Keyword};
 use hip_tree::{Arg, Flag, Flags, Instr, Operand};
-use hip_types::{BinaryOp, CastOp, DEEPEST_NESTING, Name, Row, Scalar, Width};
+use hip_types::{BinaryOp, CastOp, DEEPEST_NESTING, Link, Name, Row, Scalar, Width};
 use std::alloc::Global;
 
 /// The flags and one more.
@@ -146,7 +146,7 @@ impl<'a> Parser<'a> {
         let (ty, a, b) = self.alternatives(alloc)?;
         Ok(Instr::Select {
             dest,
-            cond,
+            cond: Link::new(alloc, cond)?,
             ty,
             a,
             b,

@@ -3,3 +3,4 @@ pub mod Noted
 pub mod Stepping
 pub mod Locally
 pub mod Sighted
+pub mod Crossed

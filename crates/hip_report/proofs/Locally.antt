@@ -159,7 +159,7 @@ module _ (P : Program) (I : Input) (s : State) (f : Frame) (fs : List Frame) (at
 
 -- ---- steps
 
-goes_on : (P : Program) (I : Input) (s : State) → event P I s ≡ events.Quiet → has_ended s ≡ false
+pub goes_on : (P : Program) (I : Input) (s : State) → event P I s ≡ events.Quiet → has_ended s ≡ false
 unfolding event
 goes_on P I s q = by s.world.ending q
   where

@@ -1,5 +1,5 @@
 -- What is known before a step whose notes are taken after it.
-use Rattle.std.specs.Prelude.{◌≡◌, ℕ, ◌-◌, ◌<◌, ◌^◌, false, length, map, Option, None, Some}
+use Rattle.std.specs.Prelude.{◌≡◌, ℕ, ◌-◌, ◌<◌, ◌^◌, Bool, true, false, length, map, Option, None, Some}
 use Rattle.hip_tree.specs.declared.program.Program.{Program}
 use Rattle.hip_runs.specs.Ends.{longest}
 use Rattle.hip_runs.specs.Found.Objects.{global_at}
@@ -10,6 +10,8 @@ use Rattle.hip_runs.specs.declared.event.Event.{Event}
 use Rattle.hip_runs.specs.declared.event.Object.{Object}
 use Rattle.hip_runs.specs.declared.event.Object.TheVariants as objects
 use Rattle.hip_runs.specs.declared.input.Input.{Input}
+use Rattle.hip_engine.specs.Crossing.{Crosses}
+use Rattle.hip_engine.specs.declared.crossing.Crossing.{Crossing}
 use Rattle.hip_notes.specs.Noted.{AreNoted}
 use Rattle.hip_notes.specs.Sights.{AddUnlessEnded, marks_ahead}
 use Rattle.hip_notes.specs.declared.notes.Notes.{Notes}
@@ -67,3 +69,14 @@ pub record HasStepped (m : Seen) (e : Event) (c : Notes) (sight : Sight) : Type 
   pub takes : TakesStep before m e
   pub tracks : Tracks before c
   pub sees : Sees before.program before.input (state_of before) c sight
+
+-- A machine has taken a call or a return before which this was seen; before it the notes were these.
+pub record HasCrossed (m : Seen) (seen : Crossing) (c : Notes) : Type 0 where
+  pub before : Seen
+  pub crosses : Crosses before seen m
+  pub tracks : Tracks before c
+
+-- a machine took a step, or stands where it stood
+abbrev pub HasPassed : Bool → Seen → Seen → Type 0
+HasPassed true old new = old.taken < new.taken
+HasPassed false old new = new ≡ old

@@ -95,8 +95,9 @@ fn pointed_from(
     }
 }
 
+/// What a step without a pointer operand points into.
 #[inline(always)]
-fn nothing_pointed(alloc: Global) -> Pointed
+pub fn nothing_pointed(alloc: Global) -> Pointed
     ensures marks { result.marks ≡ [] }
     ensures last { result.last ≡ None }
 {

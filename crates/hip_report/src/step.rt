@@ -8,10 +8,11 @@ ghost use Rattle.hip_runs.specs.StoredParts.Shown.{shown};
 ghost use Rattle.hip_notes.specs.MetMarks.{WereHit};
 ghost use Rattle.hip_notes.specs.Noted.{AreNoted};
 ghost use Rattle.hip_notes.specs.Sights.{is_still};
-ghost use Rattle.hip_report.specs.Stepping.{HasStepped, HasTaken, TellsGlobal, global_of};
+ghost use Rattle.hip_report.specs.Stepping.{HasCrossed, HasStepped, HasTaken, TellsGlobal, global_of};
 
-use crate::sight::{Sight, Target, target_at};
+use crate::sight::{Sight, Target, nothing_pointed, target_at};
 use hip_cache::Machine;
+use hip_engine::Crossing;
 use hip_invariants::{runs_are_bounded, stack_keeps_its_shape};
 use hip_notes::{Moment, Notes, Region, meet_global};
 use hip_runs::{Event, Mark, Object};
@@ -125,6 +126,27 @@ fn note_calls_alone(
     notes.note_calls(moment, sight.depth, machine.depth())?;
     notes.steps += 1;
     Ok(())
+}
+
+/// Notes the call or return that a machine has taken.
+#[inline(always)]
+pub fn note_crossing(
+    alloc: Global,
+    notes: &mut Notes,
+    seen: Crossing,
+    machine: &Machine<'_>,
+) -> Result<(), NoMemory>
+    requires { HasCrossed machine.now seen notes.old }
+    ensures noted { OnOk result (AreNoted machine.now.program machine.now.input machine.now.taken notes.new) }
+    ensures header { OnOk result (notes.new.header ≡ notes.old.header) }
+{
+    let sight = Sight {
+        ended: false,
+        site: seen.site,
+        depth: seen.depth,
+        pointed: nothing_pointed(alloc),
+    };
+    note_calls_alone(notes, &sight, Event::Quiet, machine)
 }
 
 // Drops the notes that no check will need, after a step that was noted, if there are many.

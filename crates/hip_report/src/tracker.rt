@@ -9,7 +9,7 @@ ghost use Rattle.hip_report.specs.Passing.{StopsShort};
 ghost use Rattle.hip_report.specs.Stepping.{TakesStep};
 ghost use Rattle.hip_report.specs.Tracking.{HasNoted, HasNotes, IsSource, MayAdvance, MayNote};
 
-use crate::passing::{is_quiet, pass_locally};
+use crate::passing::{is_quiet, pass_along};
 use crate::sight::look;
 use crate::step::note_step;
 use hip_cache::Machine;
@@ -199,7 +199,7 @@ fn next_event_in<'a>(
 {
     begin(source, notes, machine);
     'steps: loop {
-        pass_locally(notes, machine);
+        pass_along(alloc, notes, machine)?;
         let sight = look(alloc, notes, machine)?;
         let event = machine.step()?;
         note_step(alloc, notes, &sight, event, machine)?;

@@ -353,7 +353,9 @@ impl KeepsRules for Instr {
                 ty,
                 a,
                 b,
-            } => { is_name(dest.as_slice()) && spelled_test(cond) && spelled_operands(*ty, a, b) }
+            } => {
+                is_name(dest.as_slice()) && spelled_test(cond.get()) && spelled_operands(*ty, a, b)
+            }
             Instr::Cast {
                 dest,
                 op,
@@ -412,7 +414,7 @@ fn spelled_end(end: &End) -> bool
     match end {
         End::Br { label } => is_name(label.as_slice()),
         End::CondBr { cond, yes, no } => {
-            spelled_test(cond) && is_name(yes.as_slice()) && is_name(no.as_slice())
+            spelled_test(cond.get()) && is_name(yes.as_slice()) && is_name(no.as_slice())
         }
         End::Switch {
             width,
@@ -420,7 +422,7 @@ fn spelled_end(end: &End) -> bool
             other,
             cases,
         } => {
-            spelled_operand(Scalar::Int(*width), value)
+            spelled_operand(Scalar::Int(*width), value.get())
                 && is_name(other.as_slice())
                 && spelled_cases(*width, cases.as_slice())
         }

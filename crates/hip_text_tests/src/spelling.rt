@@ -196,7 +196,7 @@ fn switch(rt: &impl Abort, alloc: Global, width: Width) -> End {
     };
     End::Switch {
         width: Width::W64,
-        value: number(Width::W64),
+        value: Link::new(alloc, number(Width::W64)).expect(rt, AMPLE),
         other: name(rt, alloc, "entry"),
         cases: one(rt, alloc, case),
     }

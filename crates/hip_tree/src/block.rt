@@ -1,5 +1,5 @@
 use crate::instr::{Arg, Instr, Operand};
-use hip_types::{Bits, Name, Row, Scalar, Width};
+use hip_types::{Bits, Link, Name, Row, Scalar, Width};
 
 /// What a phi instruction takes if control comes from one block.
 #[derive(Drop)]
@@ -32,14 +32,14 @@ pub enum End {
     },
     /// A branch to one of two blocks, by a value of type i1.
     CondBr {
-        cond: Operand,
+        cond: Link<Operand>,
         yes: Name,
         no: Name,
     },
     /// A branch to the block of the case with the value, else to `other`.
     Switch {
         width: Width,
-        value: Operand,
+        value: Link<Operand>,
         other: Name,
         cases: Row<Case>,
     },

@@ -1,5 +1,5 @@
 use crate::constant::Const;
-use hip_types::{BinaryOp, CastOp, Name, Pred, Row, Scalar, Ty, Width};
+use hip_types::{BinaryOp, CastOp, Link, Name, Pred, Row, Scalar, Ty, Width};
 
 /// A value that an instruction takes: a register's or a constant.
 pub enum Operand {
@@ -60,7 +60,7 @@ pub enum Instr {
     },
     Select {
         dest: Name,
-        cond: Operand,
+        cond: Link<Operand>,
         ty: Scalar,
         a: Operand,
         b: Operand,

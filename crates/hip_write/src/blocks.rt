@@ -105,13 +105,13 @@ fn put_end<S: Sink>(before: Put, out: &mut S, end: &End) -> Put
 {
     match end {
         End::Br { label } => put_branch(before, out, label),
-        End::CondBr { cond, yes, no } => put_cond_branch(before, out, cond, yes, no),
+        End::CondBr { cond, yes, no } => put_cond_branch(before, out, cond.get(), yes, no),
         End::Switch {
             width,
             value,
             other,
             cases,
-        } => put_switch(before, out, *width, value, other, cases),
+        } => put_switch(before, out, *width, value.get(), other, cases),
         End::Ret(None) => put_after(before, out, b"ret void"),
         End::Ret(Some(arg)) => put_returned(before, out, arg),
         End::Unreachable => put_after(before, out, b"unreachable"),

@@ -328,7 +328,7 @@ pub fn put_instr<S: Sink>(before: Put, out: &mut S, instr: &Instr) -> Put
             a,
             b,
         } => {
-            let put = put_condition(before, out, dest, cond);
+            let put = put_condition(before, out, dest, cond.get());
             put_choices(put, out, *ty, a, b)
         }
         Instr::Cast {

@@ -103,7 +103,7 @@ impl<'a> Uses<'a> {
                 Uses::two(a, ty, b, ty)
             }
             Instr::Compare { ty, a, b, .. } => Uses::two(a, *ty, b, *ty),
-            Instr::Select { cond, ty, a, b, .. } => Uses::choice(cond, a, b, *ty),
+            Instr::Select { cond, ty, a, b, .. } => Uses::choice(cond.get(), a, b, *ty),
             Instr::Cast { from, a, .. } => Uses::one(a, *from),
             Instr::Alloca { .. } => Uses::of_args(&[]),
             Instr::Load { addr, .. } => Uses::one(addr, Scalar::Ptr),
@@ -123,8 +123,8 @@ impl<'a> Uses<'a> {
         ensures { uses_seen result ≡ end_uses end.now }
     {
         match end {
-            End::CondBr { cond, .. } => Uses::one(cond, Scalar::Int(Width::W1)),
-            End::Switch { width, value, .. } => Uses::one(value, Scalar::Int(*width)),
+            End::CondBr { cond, .. } => Uses::one(cond.get(), Scalar::Int(Width::W1)),
+            End::Switch { width, value, .. } => Uses::one(value.get(), Scalar::Int(*width)),
             End::Ret(Some(arg)) => Uses::one(&arg.value, arg.ty),
             End::Ret(None) => Uses::of_args(&[]),
             End::Br { .. } => Uses::of_args(&[]),

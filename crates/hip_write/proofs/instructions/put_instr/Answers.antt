@@ -6,8 +6,8 @@ use Rattle.hip_write.proofs.instructions.put_instr.Goals as goal
 
 pub returns-in-Select : goal.returns-in-Select
 returns-in-Select g c =
-    rw c.in-Select.is
-    (after_four (assigned_text c.in-Select.dest) (codes "select i1 ") (operand_text c.in-Select.cond) (codes ", ") c.put_condition-put.ensures c.put_choices.ensures)
+    rw (c.in-Select.is, ← c.get.ensures)
+    (after_four (assigned_text c.in-Select.dest) (codes "select i1 ") (operand_text c.get.result.now) (codes ", ") c.put_condition-put.ensures c.put_choices.ensures)
 
 pub returns-in-Cast : goal.returns-in-Cast
 returns-in-Cast g c =

@@ -7,7 +7,7 @@
 
 enum { POOL_BYTES = 1024 };
 
-// Blocks are named by their offset in the pool; 0 is none. `size` counts the bytes behind the head.
+// Blocks are named by their offset in the pool; 0 is none. `size` counts the bytes after the head.
 struct block {
   uint64_t size;
   uint64_t next;

@@ -1,4 +1,4 @@
-// A persistent log. A record is written behind the last one and made durable, and then the count takes it in. So after
+// A persistent log. A record is written after the last one and made durable, and then the count includes it. So after
 // a crash the first `count` records are whole.
 //
 // The bug: a record has 24 bytes, so that some records lie in two cache lines, and `append` flushes the first one only.

@@ -66,7 +66,7 @@ static void open_gap(uint64_t *words, uint64_t count, uint64_t place) {
   for (uint64_t i = count; i > place; i--) words[i] = words[i - 1];
 }
 
-// Moves the words behind a place back by one, over what stood there.
+// Moves the words after a place back by one, over what stood there.
 static void close_gap(uint64_t *words, uint64_t count, uint64_t place) {
   for (uint64_t i = place; i + 1 < count; i++) words[i] = words[i + 1];
 }

@@ -2989,9 +2989,9 @@ entry:
   %after.head = sub i64 %count, %head
   %whole = and i64 %after.head, -8
   %tail = and i64 %after.head, 7
-  %behind = add i64 %head, %whole
+  %to.tail = add i64 %head, %whole
   %target.words = getelementptr i8, ptr %target, i64 %head
-  %target.tail = getelementptr i8, ptr %target, i64 %behind
+  %target.tail = getelementptr i8, ptr %target, i64 %to.tail
   %wide = zext i8 %byte to i64
   %word = mul i64 %wide, 72340172838076673
   call void @memset.1(ptr %target, i8 %byte, i64 %head)
@@ -3034,11 +3034,11 @@ entry:
   %after.head = sub i64 %count, %head
   %whole = and i64 %after.head, -8
   %tail = and i64 %after.head, 7
-  %behind = add i64 %head, %whole
+  %to.tail = add i64 %head, %whole
   %target.words = getelementptr i8, ptr %target, i64 %head
-  %target.tail = getelementptr i8, ptr %target, i64 %behind
+  %target.tail = getelementptr i8, ptr %target, i64 %to.tail
   %source.words = getelementptr i8, ptr %source, i64 %head
-  %source.tail = getelementptr i8, ptr %source, i64 %behind
+  %source.tail = getelementptr i8, ptr %source, i64 %to.tail
   call void @memcpy.1(ptr %target, ptr %source, i64 %head)
   %no.words = icmp eq i64 %whole, 0
   br i1 %no.words, label %done, label %words

@@ -81,7 +81,7 @@ def entries_of(text: str | None) -> tuple[int, int]:
 
 def single_point(options, first: int, last: int) -> Point:
     if first != last:
-        raise Trouble('--pick stands with one entry: --entries N')
+        raise Trouble('--pick needs one entry: --entries N')
     if strange := [pick for pick in options.picks if not re.fullmatch(r'\d+:\d+', pick)]:
         raise Trouble(f'--pick {strange[0]}: not LINE:UPTO')
     return Point(first, tuple(tuple(map(int, pick.split(':'))) for pick in options.picks), ())

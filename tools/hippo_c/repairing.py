@@ -23,7 +23,7 @@ def add_options(command) -> None:
     """The options that repair has besides those of every command."""
     command.add_argument('-o', dest='out', required=True, metavar='OUT', help='the repaired program, .ll or .o')
     command.add_argument('--inputs', metavar='FILE', help='a file with an input in each line; one repair serves all')
-    command.add_argument('--thin', action='store_true', help='leave out flushes in clones that cannot matter')
+    command.add_argument('--thin', action='store_true', help='leave out the flushes of stores in clones that are never persistent')
     command.add_argument('--for', dest='parts', action='append', metavar='PART.c',
                          help='write the functions of this file only; may be given again')
     command.add_argument('-g', dest='debug', action='store_true', help='put debug information into a .ll, too')
@@ -132,5 +132,5 @@ def print_counts(printer: Printer, results: list[Checked], ended: running.Ended,
     for number, (checked, (left, trace)) in enumerate(zip(results, after), 1):
         which = f'input {number}: ' if len(results) > 1 else ''
         printer.line(f'{which}{amount(checked.reports, "report")} before, {left} after; '
-                     f'in this run {checked.trace.flushes:,} flushes before, {trace.flushes:,} after; '
-                     f'{checked.trace.fences:,} fences before, {trace.fences:,} after')
+                     f'in this run {counted(checked.trace.flushes, "flush", "flushes")} before, {trace.flushes:,} after; '
+                     f'{counted(checked.trace.fences, "fence", "fences")} before, {trace.fences:,} after')

@@ -37,7 +37,7 @@ Each command with an example, given in examples/:
   rerun   writes the trace of the repaired program          hippo rerun one_store/one_store.ll one_store/one_store.trace
   many    repairs a program for several traces              hippo many two_inputs/account.ll two_inputs/move.trace two_inputs/pay.trace
   crash   runs a program from what a crash may leave        hippo crash one_store/one_store.ll one_store/one_store.trace 3
-  thin    repairs without flushes that cannot matter        hippo thin one_store/one_store.ll one_store/one_store.trace
+  thin    repairs without flushes that nothing needs        hippo thin one_store/one_store.ll one_store/one_store.trace
   demo    generates, records, repairs and records again     hippo demo 1 8
 
 The launcher's own words:

@@ -117,9 +117,9 @@ entry:
   %after.head = sub i64 %count, %head
   %whole = and i64 %after.head, -8
   %tail = and i64 %after.head, 7
-  %behind = add i64 %head, %whole
+  %to.tail = add i64 %head, %whole
   %target.words = getelementptr i8, ptr %target, i64 %head
-  %target.tail = getelementptr i8, ptr %target, i64 %behind
+  %target.tail = getelementptr i8, ptr %target, i64 %to.tail
 ${sources}\
 ${order}\
 }''')
@@ -168,7 +168,7 @@ def any_helper(name: str, kind: str, bytes_: str) -> str:
         order = ANY_FORWARD.substitute(bytes_=bytes_, head='i8 %byte', tail='i8 %byte', before='entry', word='')
         return ANY.substitute(name=name, operand='i8 %byte', sources=widen, order=order)
     sources = ('  %source.words = getelementptr i8, ptr %source, i64 %head\n'
-               '  %source.tail = getelementptr i8, ptr %source, i64 %behind\n')
+               '  %source.tail = getelementptr i8, ptr %source, i64 %to.tail\n')
     word = '  %from = getelementptr i8, ptr %source.words, i64 %i\n  %word = load i64, ptr %from, align 1\n'
     overlapping = kind == 'memmove'
     order = ANY_FORWARD.substitute(bytes_=bytes_, head='ptr %source', tail='ptr %source.tail', word=word,

@@ -1,5 +1,5 @@
 -- Marks are equal exactly where the test of the definitions says so.
-use Rattle.std.proofs.Common.{◌≡◌, refl, ℕ, Bool, true, false, ◌&&◌, nat_eq, sym, ◌∙◌}
+use Rattle.std.proofs.Common.{◌≡◌, refl, ℕ, true, sym, ◌∙◌}
 use Rattle.hip_tree.specs.declared.site.Site.{Site}
 use Rattle.hip_runs.specs.Found.Marks.{same_mark}
 use Rattle.hip_runs.specs.Laws.Found.FoundLaws.{same_mark_equal}

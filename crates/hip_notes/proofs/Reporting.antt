@@ -35,7 +35,6 @@ use Rattle.hip_runs.specs.declared.report.Kind.{Kind}
 use Rattle.hip_runs.specs.declared.report.Report.{Report}
 use Rattle.hip_findings.specs.CallPaths.{call_sites, closed_by}
 use Rattle.hip_findings.specs.Shared.{report_at}
-use Rattle.hip_findings.specs.declared.store_report.StoreReport.{StoreReport}
 use Rattle.hip_notes.specs.CallPaths.{births_of}
 use Rattle.hip_notes.specs.Checking as told
 use Rattle.hip_notes.specs.Checking.{group_from, reports_told, site_told, store_in, store_told, stores_told}

@@ -1,5 +1,5 @@
 -- What a tracker notes of a run.
-use Rattle.std.specs.Prelude.{◌≡◌, ◌⊎◌, ℕ, ◌+◌, ◌-◌, ◌≤◌, ◌<◌, ◌^◌, ◌*◌, ◌/◌, Bool, true, cond, filter, List, [], ◌∷◌, ◌++◌, map, nat_lt, length, take, drop, Option, Some, None, option_map, IsSome}
+use Rattle.std.specs.Prelude.{◌≡◌, ◌⊎◌, ℕ, ◌+◌, ◌-◌, ◌≤◌, ◌<◌, ◌^◌, ◌*◌, ◌/◌, Bool, true, cond, filter, List, [], ◌∷◌, ◌++◌, nat_lt, length, take, drop, Option, Some, None, option_map, IsSome}
 use Rattle.hip_tree.specs.declared.program.Program.{Program}
 use Rattle.hip_tree.specs.declared.site.Site.{Site}
 use Rattle.std.specs.BTreeMap as tree
@@ -141,6 +141,15 @@ flush_among steps f = cond (steps f.step) (f ∷ []) []
 pub record IsThinned (ws : List (Waiting Part)) (j : ℕ) (old new : List FlushNote) : Type 0 where
   pub ascend : (a b : ℕ) → FlushesAscend a b old → FlushesAscend a b new
   pub first : (x : LooseByte) → In x (loose_of_line ws j) → first_after x.tag new ≡ first_after x.tag old
+
+-- Line j is in the region, and each offset in the region is below 2^64.
+abbrev pub HasLine : List (Waiting Part) → ℕ → Type 0
+HasLine ws j = (j < length ws) × (LINE_SIZE * length ws < 2 ^ 64)
+
+-- The notes after have the note of line j, if it has one, and that of each line that has one in the notes before.
+pub record KeepsNote (notes : BTreeMap ℕ LineNote) (j : ℕ) (old new : BTreeMap ℕ LineNote) : Type 0 where
+  pub here : IsSome (lines_of notes j) → IsSome (lines_of new j)
+  pub others : (i : ℕ) → IsSome (lines_of old i) → IsSome (lines_of new i)
 
 -- line j has no note any more, or its note, perhaps with fewer flushes
 abbrev pub MayThin : List (Waiting Part) → ℕ → Option LineNote → Option LineNote → Type 0

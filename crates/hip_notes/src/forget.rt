@@ -7,7 +7,7 @@ ghost use Rattle.hip_lines.specs.declared.part.LooseByte.{LooseByte as Byte};
 ghost use Rattle.hip_runs.specs.StoredParts.Parts.{In};
 ghost use Rattle.hip_notes.specs.declared.pending.FlushNote.{FlushNote as Flush};
 ghost use Rattle.hip_notes.specs.declared.pending.LineNote.{LineNote as Line};
-ghost use Rattle.hip_notes.specs.Noted.{IsForgotten, IsThinned, MayThin, flush_among};
+ghost use Rattle.hip_notes.specs.Noted.{HasLine, IsForgotten, IsThinned, KeepsNote, MayThin, flush_among};
 ghost use Rattle.hip_notes.specs.Pending.{FlushesAscend, first_after, lines_of};
 
 use crate::pending::{FlushNote, LineNote, Pending, first_after};
@@ -120,14 +120,12 @@ fn meet_line(
     line: u64,
     kept: &mut BTreeMap<u64, LineNote>,
 ) -> Result<(), NoMemory>
-    requires within { line < length lines.now.lines }
-    requires small { LINE_SIZE * length lines.now.lines < 2 ^ 64 }
+    requires line { HasLine lines.now.lines line }
     requires flushes { (j : ℕ) → (l : Line) → lines_of notes.now j ≡ Some l
         → FlushesAscend 0 (2 ^ 128) l.flushes }
     requires last { (j : ℕ) → last ≡ Some j → IsSome (lines_of notes.now j) → IsSome (lines_of kept.old j) }
     requires old { (j : ℕ) → MayThin lines.now.lines j (lines_of notes.now j) (lines_of kept.old j) }
-    ensures here { OnOk result (IsSome (lines_of notes.now line) → IsSome (lines_of kept.new line)) }
-    ensures others { OnOk result ((j : ℕ) → IsSome (lines_of kept.old j) → IsSome (lines_of kept.new j)) }
+    ensures kept { OnOk result (KeepsNote notes.now line kept.old kept.new) }
     ensures new { OnOk result ((j : ℕ) → MayThin lines.now.lines j (lines_of notes.now j) (lines_of kept.new j)) }
 {
     if last == Some(line) || kept.contains_key(&line) {
@@ -163,8 +161,7 @@ fn thinned(
     lines: &Lines,
     line: u64,
 ) -> Result<Row<FlushNote>, NoMemory>
-    requires within { line < length lines.now.lines }
-    requires small { LINE_SIZE * length lines.now.lines < 2 ^ 64 }
+    requires line { HasLine lines.now.lines line }
     requires flushes { FlushesAscend 0 (2 ^ 128) flushes.now }
     ensures { IfOk result (λ new. IsThinned lines.now.lines line flushes.now new) }
 {

@@ -1,31 +1,11 @@
 //! Long runs, of which little is kept.
 
 use crate::runs::{checked, in_chunks, input, record, replayed};
-use hip_examples::AMPLE;
+use hip_examples::{AMPLE, DURABLE_STORES};
 use hip_io::MemSink;
 use hip_sound::Checked;
 use std::alloc::Global;
 use std::process::Abort;
-
-/// A number is stored, flushed and fenced 100,000 times.
-const MANY_FENCES: &str = "@x = global i64 0, section \".pm\"
-declare void @llvm.x86.clwb(ptr)
-declare void @llvm.x86.sse.sfence()
-define i32 @main() {
-entry:
-  br label %loop
-loop:
-  %i = phi i64 [ 0, %entry ], [ %j, %loop ]
-  store i64 %i, ptr @x
-  call void @llvm.x86.clwb(ptr @x)
-  call void @llvm.x86.sse.sfence()
-  %j = add i64 %i, 1
-  %c = icmp ult i64 %j, 100000
-  br i1 %c, label %loop, label %done
-done:
-  ret i32 0
-}
-";
 
 /// A million stores under 4,001 calls, and then a flush of each line and a fence.
 const DEEP_STORES: &str = "@a = global [1000000 x i64] zeroinitializer, section \".pm\"
@@ -90,7 +70,7 @@ fn assert_replayed(rt: &impl Abort, alloc: Global, checked: &Checked, trace: &[u
     assert!(rt; found.entries == entries);
 }
 
-const OF_MANY_FENCES: Counts = Counts {
+const OF_DURABLE_STORES: Counts = Counts {
     entries: 300_003,
     reports: 0,
     hit: 1,
@@ -98,15 +78,15 @@ const OF_MANY_FENCES: Counts = Counts {
 
 #[test]
 fn many_fences(rt: HostRuntime) {
-    let checked = checked(&rt, rt.alloc(), MANY_FENCES);
+    let checked = checked(&rt, rt.alloc(), DURABLE_STORES);
     let mut out = MemSink::new(rt.alloc(), 10_000_000).expect(&rt, AMPLE);
-    assert!(rt; counts_of(&rt, rt.alloc(), &checked, &mut out) == OF_MANY_FENCES);
+    assert!(rt; counts_of(&rt, rt.alloc(), &checked, &mut out) == OF_DURABLE_STORES);
     assert_replayed(
         &rt,
         rt.alloc(),
         &checked,
         out.bytes(),
-        OF_MANY_FENCES.entries,
+        OF_DURABLE_STORES.entries,
     );
 }
 

@@ -74,7 +74,7 @@ fn fault_before_and_after_a_misfit(rt: HostRuntime) {
                 6,
                 "",
                 "hippo: trace entry 3: differs\n",
-                "behind",
+                "after",
             );
         }
     }

@@ -128,15 +128,13 @@ entry:
 }
 ";
 
+/// A trace whose only store is of the number 9.
+const ONE_STORE_OF_NINE: &str =
+    "START;1000000000|REGISTER;0x100000000;0x40|STORE;0x100000000;0x9;0x8|STOP;0";
+
 const COPIES: &[Case] = &[Case {
     words: &["repair", "a", "b"],
-    files: &[
-        ("a", COPY),
-        (
-            "b",
-            "START;1000000000|REGISTER;0x100000000;0x40|STORE;0x100000000;0x9;0x8|STOP;0",
-        ),
-    ],
+    files: &[("a", COPY), ("b", ONE_STORE_OF_NINE)],
     code: 0,
     out: COPY_REPAIRED,
     notes: ONE_HOIST,
@@ -187,13 +185,7 @@ fn assert_inside_callee(rt: HostRuntime) {
 
 const TIES: &[Case] = &[Case {
     words: &["repair", "a", "b"],
-    files: &[
-        ("a", TIE),
-        (
-            "b",
-            "START;1000000000|REGISTER;0x100000000;0x40|STORE;0x100000000;0x9;0x8|STOP;0",
-        ),
-    ],
+    files: &[("a", TIE), ("b", ONE_STORE_OF_NINE)],
     code: 0,
     out: TIE_REPAIRED,
     notes: "reports 1\nflushes 1\nfences 1\nhoists 0\nclones 0\n",
@@ -225,13 +217,7 @@ fn mutual_recursion(rt: HostRuntime) {
 
 const TAKEN_NAMES: &[Case] = &[Case {
     words: &["repair", "a", "b"],
-    files: &[
-        ("a", NAME_TAKEN),
-        (
-            "b",
-            "START;1000000000|REGISTER;0x100000000;0x40|STORE;0x100000000;0x9;0x8|STOP;0",
-        ),
-    ],
+    files: &[("a", NAME_TAKEN), ("b", ONE_STORE_OF_NINE)],
     code: 0,
     out: NAME_TAKEN_REPAIRED,
     notes: ONE_HOIST,

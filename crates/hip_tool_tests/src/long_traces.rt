@@ -1,28 +1,9 @@
 //! Traces of many entries.
 
 use crate::commands::{Outcome, outcome_in_room, outcome_of_bytes};
+use hip_examples::DURABLE_STORES;
 use std::alloc::Global;
 use std::process::Abort;
-
-/// It stores a number 100,000 times, and flushes and fences each store.
-const DURABLE_STORES: &str = "@x = global i64 0, section \".pm\"
-declare void @llvm.x86.clwb(ptr)
-declare void @llvm.x86.sse.sfence()
-define i32 @main() {
-entry:
-  br label %turn
-turn:
-  %i = phi i64 [ 0, %entry ], [ %next, %turn ]
-  store i64 %i, ptr @x
-  call void @llvm.x86.clwb(ptr @x)
-  call void @llvm.x86.sse.sfence()
-  %next = add i64 %i, 1
-  %more = icmp ult i64 %next, 100000
-  br i1 %more, label %turn, label %done
-done:
-  ret i32 0
-}
-";
 
 /// How many lines the text has.
 fn lines_of(bytes: &[u8]) -> usize {

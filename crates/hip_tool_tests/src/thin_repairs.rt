@@ -41,42 +41,28 @@ entry:
 }
 ";
 
+/// The trace of the run of `NOTES`.
+const NOTES_TRACE: &str =
+    "START;1000000000|REGISTER;0x100000000;0x40|STORE;0x100000000;0x2;0x8|STOP;0";
+
 const SPARED: &[Case] = &[
     Case {
         words: &["check", "a", "b"],
-        files: &[
-            ("a", NOTES),
-            (
-                "b",
-                "START;1000000000|REGISTER;0x100000000;0x40|STORE;0x100000000;0x2;0x8|STOP;0",
-            ),
-        ],
+        files: &[("a", NOTES), ("b", NOTES_TRACE)],
         code: 0,
         out: "report both entry 3 check 4 closed 1 path @work:entry:1 @main:entry:2\n",
         notes: "reports 1\n",
     },
     Case {
         words: &["repair", "a", "b"],
-        files: &[
-            ("a", NOTES),
-            (
-                "b",
-                "START;1000000000|REGISTER;0x100000000;0x40|STORE;0x100000000;0x2;0x8|STOP;0",
-            ),
-        ],
+        files: &[("a", NOTES), ("b", NOTES_TRACE)],
         code: 0,
         out: NOTES_REPAIRED,
         notes: "reports 1\nflushes 0\nfences 0\nhoists 1\nclones 2\n",
     },
     Case {
         words: &["thin", "a", "b"],
-        files: &[
-            ("a", NOTES),
-            (
-                "b",
-                "START;1000000000|REGISTER;0x100000000;0x40|STORE;0x100000000;0x2;0x8|STOP;0",
-            ),
-        ],
+        files: &[("a", NOTES), ("b", NOTES_TRACE)],
         code: 0,
         out: NOTES_THIN,
         notes: "reports 1\nflushes 0\nfences 0\nhoists 1\nclones 2\nspared 1\n",

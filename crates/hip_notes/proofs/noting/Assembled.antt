@@ -1,5 +1,5 @@
 -- The notes after all parts of a step.
-use Rattle.std.proofs.Common.{◌≡◌, ℕ, suc, ◌+◌, ◌*◌, ◌<◌, ◌≤◌, ◌^◌, Bool, true, false, cond, List, [], ◌∷◌, length, map, Option, Some, refl, sym, ap, ap₂, ◌∙◌, subst, arith, nat_eq, inl, inr}
+use Rattle.std.proofs.Common.{◌≡◌, ℕ, suc, ◌+◌, ◌*◌, ◌<◌, ◌≤◌, ◌^◌, Bool, true, false, cond, List, [], ◌∷◌, length, Option, Some, refl, sym, ap, ap₂, ◌∙◌, subst, arith, nat_eq, inl, inr}
 use Rattle.std.proofs.lemmas.Nat.{mul-le}
 use Rattle.hip_types.specs.Distinct.{met}
 use Rattle.hip_tree.specs.declared.program.Program.{Program}

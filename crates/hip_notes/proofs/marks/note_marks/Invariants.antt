@@ -1,4 +1,4 @@
-use Rattle.std.proofs.Common.{◌≡◌, drop, map}
+use Rattle.std.proofs.Common.{◌≡◌, drop}
 use Rattle.hip_types.specs.Distinct.{met}
 use Rattle.hip_runs.specs.Found.Marks.{same_mark}
 use Rattle.hip_notes.specs.MetMarks.{AreMet}

@@ -7,6 +7,7 @@ mod crossing;
 mod going;
 mod here;
 mod moves;
+mod next;
 mod printing;
 mod quick_calls;
 mod quick_effects;

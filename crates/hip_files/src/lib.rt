@@ -2,6 +2,7 @@
 #![tactic(auto)]
 
 mod files;
+mod held_bytes;
 mod stream;
 
 pub use files::FileCabinet;

@@ -3,21 +3,22 @@
 ghost use Rattle.std.specs.Prelude.{◌≡◌, ◌+◌, ◌/◌, ◌%◌, ◌<◌, ◌≤◌, ◌++◌, ◌∷◌, ℕ, [], codes, decimal, drop, false, length};
 ghost use Rattle.std.specs.Fmt.{digit_glyph, digits, signed_decimal};
 ghost use Rattle.hex.specs.Hex.{encode_lower};
-ghost use Rattle.hip_io.specs.Sinks.{Wrote};
+ghost use Rattle.hip_io.specs.Sinks.{HasPut, Wrote};
 ghost use Rattle.hip_num.specs.Texts.{hexadecimal};
 ghost use Rattle.hip_tokens.specs.Bytes.{byte};
 ghost use Rattle.hip_trace.specs.Texts.{line_of, with_fields};
 ghost use Rattle.hip_trace.specs.Usuals.{usual_entry};
+ghost use Rattle.hip_trace.specs.declared.entry.Entry.TheVariants as entries;
 
 use crate::entry::Entry;
 use crate::usual::Usual;
-use hip_io::{Put, Sink, WriteFault};
+use hip_io::{Put, Sink, WriteFault, put_after};
 use std::marker::Model;
 
 /// A line of a trace, which is made from its end on: each piece is put before those that are there.
 #[derive(Drop)]
 struct EntryLine {
-    bytes: [u8; 256],
+    bytes: [u8; 64],
     start: usize,
 }
 
@@ -28,22 +29,32 @@ impl Model for EntryLine {
 
     ghost view = { λ l. drop l.start l.bytes };
 
-    ghost invariant = { λ l. l.start ≤ 256 };
+    ghost invariant = { λ l. l.start ≤ 64 };
 }
 
 impl EntryLine {
+    #[inline(always)]
+    fn empty() -> EntryLine
+        ensures { result ≡ [] }
+    {
+        EntryLine {
+            bytes: [0; 64],
+            start: 64,
+        }
+    }
+
     /// The line feed that ends a line.
+    #[inline(always)]
     fn new() -> EntryLine
         ensures { result ≡ codes "\n" }
     {
-        let mut line = EntryLine {
-            bytes: [0; 256],
-            start: 256,
-        };
-        line.put(b"\n");
-        line
+        EntryLine {
+            bytes: [b'\n'; 64],
+            start: 63,
+        }
     }
 
+    #[inline(always)]
     fn as_slice(&self) -> &[u8]
         ensures { result.now ≡ self.now }
     {
@@ -52,7 +63,7 @@ impl EntryLine {
 
     #[inline(always)]
     fn put(&mut self, piece: &[u8])
-        requires { length self.old + length piece.now ≤ 256 }
+        requires { length self.old + length piece.now ≤ 64 }
         ensures { self.new ≡ piece.now ++ self.old }
     {
         let start = self.start - piece.len();
@@ -61,131 +72,28 @@ impl EntryLine {
     }
 
     fn put_field(&mut self, piece: &[u8])
-        requires { length self.old + length piece.now < 256 }
+        requires { length self.old + length piece.now < 64 }
         ensures { self.new ≡ byte ";" ∷ (piece.now ++ self.old) }
     {
         self.put(piece);
         self.put(b";");
     }
 
+    #[inline(always)]
     fn put_hexadecimal(&mut self, number: u64)
-        requires { length self.old ≤ 200 }
+        requires { length self.old ≤ 45 }
         ensures text { self.new ≡ byte ";" ∷ (hexadecimal number ++ self.old) }
         ensures length { length self.new ≤ length self.old + 19 }
     {
-        self.start = digits_before(&mut self.bytes, self.start, number);
-        self.put(b";0x");
-    }
-
-    /// Writes a word with one number in decimal.
-    fn write_natural(&mut self, word: &[u8], number: u64)
-        requires word { length word.now ≤ 16 }
-        requires end { self.old ≡ codes "\n" }
-        ensures { self.new ≡ with_fields word.now (decimal number ∷ []) ++ codes "\n" }
-    {
-        let mut digits = [0; 40];
-        let len = hip_num::natural_into(&mut digits, u128::from(number));
-        self.write_word(word, &digits[..len]);
-    }
-
-    /// Writes a word with one number in signed decimal.
-    fn write_signed(&mut self, word: &[u8], number: i64)
-        requires word { length word.now ≤ 16 }
-        requires end { self.old ≡ codes "\n" }
-        ensures { self.new ≡ with_fields word.now (signed_decimal number ∷ []) ++ codes "\n" }
-    {
-        let mut digits = [0; 40];
-        let len = hip_num::decimal_into(&mut digits, number);
-        self.write_word(word, &digits[..len]);
-    }
-
-    /// Writes a word with two numbers in hexadecimal.
-    fn write_numbers(&mut self, word: &[u8], a: u64, b: u64)
-        requires word { length word.now ≤ 16 }
-        requires end { self.old ≡ codes "\n" }
-        ensures { self.new ≡ with_fields word.now (hexadecimal a ∷ hexadecimal b ∷ []) ++ codes "\n" }
-    {
-        self.put_hexadecimal(b);
-        self.put_hexadecimal(a);
-        self.put(word);
-    }
-
-    fn write_store(&mut self, addr: u64, value: u64, size: u64)
-        requires { self.old ≡ codes "\n" }
-        ensures { self.new ≡ with_fields (codes "STORE")
-            (hexadecimal addr ∷ hexadecimal value ∷ hexadecimal size ∷ []) ++ codes "\n" }
-    {
-        self.put_hexadecimal(size);
-        self.put_hexadecimal(value);
-        self.put_hexadecimal(addr);
-        self.put(b"STORE");
-    }
-
-    fn write_image(&mut self, addr: u64, bytes: &[u8; 64])
-        requires { self.old ≡ codes "\n" }
-        ensures { self.new ≡ with_fields (codes "IMAGE") (hexadecimal addr ∷ encode_lower bytes.now ∷ []) ++ codes "\n" }
-    {
-        let mut digits = [0; 128];
-        line_digits(bytes, &mut digits);
-        self.put_field(&digits);
-        self.put_hexadecimal(addr);
-        self.put(b"IMAGE");
-    }
-
-    /// Writes a word with one field.
-    fn write_word(&mut self, word: &[u8], field: &[u8])
-        requires word { length word.now ≤ 16 }
-        requires field { length field.now ≤ 40 }
-        requires end { self.old ≡ codes "\n" }
-        ensures { self.new ≡ with_fields word.now (field.now ∷ []) ++ codes "\n" }
-    {
-        self.put_field(field);
-        self.put(word);
-    }
-
-    /// Writes the canonical text of a usual entry.
-    #[inline(always)]
-    #[tactic(auto, unfolding(crate::specs::Texts::text_of))]
-    fn write_usual(&mut self, usual: Usual)
-        requires { self.old ≡ codes "\n" }
-        ensures { self.new ≡ line_of (usual_entry usual) }
-    {
-        match usual {
-            Usual::Store { addr, value, size } => self.write_store(addr, value, u64::from(size)),
-            Usual::Flush { addr, size } => self.write_numbers(b"FLUSH", addr, size),
-            Usual::Fence => self.put(b"FENCE"),
-            Usual::Persist { addr, size } => self.write_numbers(b"PERSIST", addr, size),
-            Usual::Assert { addr, size } => self.write_numbers(b"ASSERT", addr, size),
-        }
-    }
-
-    /// Writes the canonical text of an entry.
-    #[tactic(auto, unfolding(crate::specs::Texts::text_of))]
-    fn write(&mut self, entry: &Entry)
-        requires { self.old ≡ codes "\n" }
-        ensures { self.new ≡ line_of entry.now }
-    {
-        match entry {
-            Entry::Start { limit } => self.write_natural(b"START", *limit),
-            Entry::Register { base, size } => self.write_numbers(b"REGISTER", *base, *size),
-            Entry::Input { number } => self.write_signed(b"INPUT", *number),
-            Entry::Image { addr, bytes } => self.write_image(*addr, bytes),
-            Entry::Store { addr, value, size } => self.write_store(*addr, *value, u64::from(*size)),
-            Entry::Flush { addr, size } => self.write_numbers(b"FLUSH", *addr, *size),
-            Entry::Fence => self.put(b"FENCE"),
-            Entry::Persist { addr, size } => self.write_numbers(b"PERSIST", *addr, *size),
-            Entry::Assert { addr, size } => self.write_numbers(b"ASSERT", *addr, *size),
-            Entry::Stop { code } => self.write_signed(b"STOP", i64::from(*code)),
-            Entry::Trap { kind } => self.write_word(b"TRAP", kind.text()),
-            Entry::Cut => self.put(b"CUT"),
-        }
+        let at = digits_before(&mut self.bytes, self.start, number);
+        self.start = prefix_before(&mut self.bytes, at);
     }
 }
 
 /// Puts a piece before a place.
 #[inline(always)]
-fn copy_before(bytes: &mut [u8; 256], end: usize, piece: &[u8])
-    requires inside { end ≤ 256 }
+fn copy_before(bytes: &mut [u8; 64], end: usize, piece: &[u8])
+    requires inside { end ≤ 64 }
     requires room { length piece.now ≤ end }
     ensures { (start : ℕ) → start + length piece.now ≡ end → drop start bytes.new ≡ piece.now ++ drop end bytes.old }
 {
@@ -193,13 +101,29 @@ fn copy_before(bytes: &mut [u8; 256], end: usize, piece: &[u8])
     bytes[start..end].copy_from_slice(piece);
 }
 
+/// Puts what comes before the digits of a number, and answers where it begins.
+#[inline(always)]
+fn prefix_before(bytes: &mut [u8; 64], end: usize) -> usize
+    requires room { 3 ≤ end }
+    requires inside { end ≤ 64 }
+    ensures text { drop result bytes.new ≡ codes ";0x" ++ drop end bytes.old }
+    ensures start { result + 3 ≡ end }
+{
+    bytes[end - 1] = b'x';
+    bytes[end - 2] = b'0';
+    bytes[end - 3] = b';';
+    end - 3
+}
+
 /// Writes the digits of a number to base 16 before a place, and answers where they begin.
-fn digits_before(bytes: &mut [u8; 256], end: usize, number: u64) -> usize
+#[inline(always)]
+fn digits_before(bytes: &mut [u8; 64], end: usize, number: u64) -> usize
     requires room { 16 ≤ end }
-    requires inside { end ≤ 256 }
+    requires inside { end ≤ 64 }
     ensures text { drop result bytes.new ≡ digits 16 false number ++ drop end bytes.old }
     ensures length { length (drop result bytes.new) ≤ length (drop end bytes.old) + 16 }
     ensures start { result < end }
+    ensures few { end ≤ result + 16 }
 {
     let mut at = end - 1;
     let mut rest = number;
@@ -262,27 +186,145 @@ fn line_digits(bytes: &[u8; 64], digits: &mut [u8; 128])
     }
 }
 
-/// Writes the canonical text of an entry, with a line feed after it. Any entry is written, also one that no text
-/// spells (as a store of 3 bytes).
-pub fn write_entry<S: Sink>(entry: &Entry, out: &mut S) -> Result<(), WriteFault>
-    ensures { Wrote (S.state out.old) (S.state out.new) (line_of entry.now) result }
+/// Writes a word with one number in decimal.
+fn put_natural<S: Sink>(word: &[u8], number: u64, out: &mut S) -> Result<(), WriteFault>
+    requires { length word.now ≤ 16 }
+    ensures { Wrote (S.state out.old) (S.state out.new) (with_fields word.now (decimal number ∷ []) ++ codes "\n") result }
+{
+    let mut digits = [0; 40];
+    let len = hip_num::natural_into(&mut digits, u128::from(number));
+    put_word(word, &digits[..len], out)
+}
+
+/// Writes a word with one number in signed decimal.
+fn put_signed<S: Sink>(word: &[u8], number: i64, out: &mut S) -> Result<(), WriteFault>
+    requires { length word.now ≤ 16 }
+    ensures { Wrote (S.state out.old) (S.state out.new)
+        (with_fields word.now (signed_decimal number ∷ []) ++ codes "\n") result }
+{
+    let mut digits = [0; 40];
+    let len = hip_num::decimal_into(&mut digits, number);
+    put_word(word, &digits[..len], out)
+}
+
+/// Writes a word with one field.
+fn put_word<S: Sink>(word: &[u8], field: &[u8], out: &mut S) -> Result<(), WriteFault>
+    requires word { length word.now ≤ 16 }
+    requires field { length field.now ≤ 40 }
+    ensures { Wrote (S.state out.old) (S.state out.new) (with_fields word.now (field.now ∷ []) ++ codes "\n") result }
 {
     let mut line = EntryLine::new();
-    line.write(entry);
+    line.put_field(field);
+    line.put(word);
     put_line(line.as_slice(), out)
 }
 
+/// Writes a word with two numbers in hexadecimal.
+#[inline(always)]
+fn put_numbers<S: Sink>(word: &[u8], a: u64, b: u64, out: &mut S) -> Result<(), WriteFault>
+    requires { length word.now ≤ 16 }
+    ensures { Wrote (S.state out.old) (S.state out.new)
+        (with_fields word.now (hexadecimal a ∷ hexadecimal b ∷ []) ++ codes "\n") result }
+{
+    let mut line = EntryLine::new();
+    line.put_hexadecimal(b);
+    line.put_hexadecimal(a);
+    line.put(word);
+    put_line(line.as_slice(), out)
+}
+
+#[tactic(auto, unfolding(crate::specs::Texts::text_of))]
+fn put_store<S: Sink>(addr: u64, value: u64, size: u32, out: &mut S) -> Result<(), WriteFault>
+    ensures { Wrote (S.state out.old) (S.state out.new) (line_of (entries.Store addr value size)) result }
+{
+    let mut line = EntryLine::new();
+    line.put_hexadecimal(u64::from(size));
+    line.put_hexadecimal(value);
+    line.put_hexadecimal(addr);
+    line.put(b"STORE");
+    put_line(line.as_slice(), out)
+}
+
+#[tactic(auto, unfolding(crate::specs::Texts::text_of))]
+fn put_flush<S: Sink>(addr: u64, size: u64, out: &mut S) -> Result<(), WriteFault>
+    ensures { Wrote (S.state out.old) (S.state out.new) (line_of (entries.Flush addr size)) result }
+{
+    put_numbers(b"FLUSH", addr, size, out)
+}
+
+#[tactic(auto, unfolding(crate::specs::Texts::text_of))]
+fn put_persist<S: Sink>(addr: u64, size: u64, out: &mut S) -> Result<(), WriteFault>
+    ensures { Wrote (S.state out.old) (S.state out.new) (line_of (entries.Persist addr size)) result }
+{
+    put_numbers(b"PERSIST", addr, size, out)
+}
+
+#[tactic(auto, unfolding(crate::specs::Texts::text_of))]
+fn put_assert<S: Sink>(addr: u64, size: u64, out: &mut S) -> Result<(), WriteFault>
+    ensures { Wrote (S.state out.old) (S.state out.new) (line_of (entries.Assert addr size)) result }
+{
+    put_numbers(b"ASSERT", addr, size, out)
+}
+
+/// Puts a line with the bytes of a cache line, in three pieces, since it is longer than an `EntryLine`.
+#[tactic(auto, unfolding(crate::specs::Texts::text_of))]
+fn put_pieces<S: Sink>(addr: u64, bytes: &[u8; 64], out: &mut S) -> Put
+    ensures { HasPut (S.state out.old) (S.state out.new) (line_of (entries.Image addr bytes.now)) result }
+{
+    let mut front = EntryLine::empty();
+    front.put(b";");
+    front.put_hexadecimal(addr);
+    front.put(b"IMAGE");
+    let mut digits = [0; 128];
+    line_digits(bytes, &mut digits);
+    let put = put_after(Put::Done, out, front.as_slice());
+    let put = put_after(put, out, digits.as_slice());
+    put_after(put, out, b"\n")
+}
+
+fn put_image<S: Sink>(addr: u64, bytes: &[u8; 64], out: &mut S) -> Result<(), WriteFault>
+    ensures { Wrote (S.state out.old) (S.state out.new) (line_of (entries.Image addr bytes.now)) result }
+{
+    match put_pieces(addr, bytes, out) {
+        Put::Done => Ok(()),
+        Put::Failed => Err(WriteFault),
+    }
+}
+
+/// Writes the canonical text of an entry, with a line feed after it. Any entry is written, also one that no text
+/// spells (as a store of 3 bytes).
+#[tactic(auto, unfolding(crate::specs::Texts::text_of))]
+pub fn write_entry<S: Sink>(entry: &Entry, out: &mut S) -> Result<(), WriteFault>
+    ensures { Wrote (S.state out.old) (S.state out.new) (line_of entry.now) result }
+{
+    match entry {
+        Entry::Start { limit } => put_natural(b"START", *limit, out),
+        Entry::Register { base, size } => put_numbers(b"REGISTER", *base, *size, out),
+        Entry::Input { number } => put_signed(b"INPUT", *number, out),
+        Entry::Image { addr, bytes } => put_image(*addr, bytes, out),
+        Entry::Store { addr, value, size } => put_store(*addr, *value, *size, out),
+        Entry::Flush { addr, size } => put_flush(*addr, *size, out),
+        Entry::Fence => put_line(b"FENCE\n", out),
+        Entry::Persist { addr, size } => put_persist(*addr, *size, out),
+        Entry::Assert { addr, size } => put_assert(*addr, *size, out),
+        Entry::Stop { code } => put_signed(b"STOP", i64::from(*code), out),
+        Entry::Trap { kind } => put_word(b"TRAP", kind.text(), out),
+        Entry::Cut => put_line(b"CUT\n", out),
+    }
+}
+
 /// Writes the canonical text of a usual entry, with a line feed after it.
+#[inline(always)]
+#[tactic(auto, unfolding(crate::specs::Texts::text_of))]
 pub fn write_usual<S: Sink>(usual: Usual, out: &mut S) -> Result<(), WriteFault>
     ensures { Wrote (S.state out.old) (S.state out.new) (line_of (usual_entry usual)) result }
 {
     match usual {
+        Usual::Store { addr, value, size } => put_store(addr, value, size, out),
+        Usual::Flush { addr, size } => put_flush(addr, size, out),
         Usual::Fence => put_line(b"FENCE\n", out),
-        _ => {
-            let mut line = EntryLine::new();
-            line.write_usual(usual);
-            put_line(line.as_slice(), out)
-        }
+        Usual::Persist { addr, size } => put_persist(addr, size, out),
+        Usual::Assert { addr, size } => put_assert(addr, size, out),
     }
 }
 

@@ -54,3 +54,10 @@ returns-clause-text c =
     let some : 1 ≤ at + 16 - c.args.end = has_place (at + 16 - c.args.end) rest more i.room in
     let first : 1 ≤ at = omega (arith, some, c.requires.room, i.low) in
     last_pair (at + 16 - c.args.end) at rest c.low_digit-2.result c.high_digit-2.result c.pairs.bytes _ more less some first (omega arith) c.low_digit-2.ensures c.high_digit-2.ensures i.text
+
+pub returns-clause-few : goal.returns-clause-few
+returns-clause-few c =
+    let i = c.pairs.invariant in
+    let more : 16 ≤ c.pairs.rest = omega (arith, c.if-rest-lt16.false) in
+    let some : 1 ≤ c.pairs.at + 16 - c.args.end = has_place (c.pairs.at + 16 - c.args.end) c.pairs.rest more i.room in
+    omega (arith, some, i.low, c.requires.room)

@@ -7,6 +7,7 @@ pub mod Quickly
 pub mod Locally
 pub mod Within
 pub mod Crossed
+pub mod Acted
 pub mod StoresTold
 pub mod MainPlace
 pub mod StartStands

@@ -7,5 +7,6 @@ pub mod QuickSteps
 pub mod LocalSteps
 pub mod Reaches
 pub mod Crossing
+pub mod Acting
 pub mod StoresAhead
 pub mod Laws

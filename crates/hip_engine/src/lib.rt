@@ -2,6 +2,7 @@
 //! lines.
 #![tactic(auto)]
 
+mod acting;
 mod ahead;
 mod crossing;
 mod going;

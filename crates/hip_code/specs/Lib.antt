@@ -10,5 +10,6 @@ pub mod Translated
 pub mod Paths
 pub mod Calls
 pub mod Edges
+pub mod Extents
 pub mod Whole
 pub mod Laws

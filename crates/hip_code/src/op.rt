@@ -237,8 +237,8 @@ pub enum Go {
     },
 }
 
-/// A call of the function of that number, which begins at a place and has that number of registers; `frame` is the number of
-/// registers of the caller, and the arguments are moves into the slots of the callee.
+/// A call of the function of that number, which begins at a place and has that number of registers; `frame` is how many
+/// slots the caller keeps, and the arguments are moves into the slots of the callee.
 #[derive(Clone, Copy)]
 pub struct Call {
     pub target: u32,

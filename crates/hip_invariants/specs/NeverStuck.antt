@@ -44,8 +44,9 @@ pub record ReadsAssigned (P : Program) (f : Frame) : Type 0 where
       IsAmong (edge_labels p.edges) (label_of (block_at P f.function f.block))
 
 -- After n steps: a frame stands; each register that was assigned on the way to a frame's place has a value, except the
--- one that waits for a call's result; the next step reads no other register, and only values that fit their types; and
--- it traps as unreachable only at an `unreachable`. (The progress of a typed machine: Wright and Felleisen, 1994.)
+-- one that waits for a call's result, and only registers that this way assigns by the end of its block have one; the
+-- next step reads no other register, and only values that fit their types; and it traps as unreachable only at an
+-- `unreachable`. (The progress of a typed machine: Wright and Felleisen, 1994.)
 pub record IsNeverStuck (P : Program) (I : Input) (n : ℕ) : Type 0 where
   pub frame : (f : Frame) × (fs : List Frame) × ((run P I n).frames ≡ f ∷ fs)
   pub frames : frames_hold (top_is_reached P) (caller_is_reached P) (main_number P) (run P I n).frames

@@ -6,7 +6,7 @@ use Rattle.hip_tree.specs.declared.program.Function.{Function}
 use Rattle.hip_tree.specs.declared.program.Program.{Program}
 use Rattle.hip_names.specs.Names.{IsAmong}
 use Rattle.hip_sound.specs.Paths.{IsPathTo, assigned_on}
-use Rattle.hip_sound.specs.declared.point.Point.TheVariants.{Before}
+use Rattle.hip_sound.specs.declared.point.Point.TheVariants.{Before, AtEnd}
 use Rattle.hip_runs.specs.Places.{code_at, end_at}
 use Rattle.hip_runs.specs.State.{Registers, Frame}
 
@@ -20,7 +20,8 @@ has_or_awaits rs awaited name = IsAmong (assigned_names rs) name ⊎ (awaited �
 
 -- A path from the entry block reaches the place before instruction k of block b of function g. Each register that is
 -- assigned on that path has a value, except one that waits for the result of a call. (LLVM, "well-formedness": a
--- definition dominates its uses.)
+-- definition dominates its uses.) No other register has a value or waits than those that the path assigns by the end
+-- of the block.
 pub record IsReached (P : Program) (awaited : Option (List ℕ)) (g b k : ℕ) (rs : Registers) : Type 0 where
   pub fn : Function
   pub here : slice_get P.functions g ≡ Some fn
@@ -29,6 +30,7 @@ pub record IsReached (P : Program) (awaited : Option (List ℕ)) (g b k : ℕ) (
   pub earlier : List ℕ
   pub leads : IsPathTo fn (earlier ++ b ∷ []) b
   pub among : (name : List ℕ) → IsAmong (assigned_on fn earlier b (Before k)) name → has_or_awaits rs awaited name
+  pub only : (name : List ℕ) → has_or_awaits rs awaited name → IsAmong (assigned_on fn earlier b AtEnd) name
 
 -- The frame stands at the end of a block, and that end is `unreachable`.
 abbrev pub StandsAtUnreachable : Program → Frame → Type 0

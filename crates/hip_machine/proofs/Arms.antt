@@ -117,7 +117,7 @@ pub acts_value : {code : Code} {old new : Core} {dest : ℕ} {value : Value} (v 
 acts_value {code} {old} {new} {dest} {value} v gives is slots = record {
   acts = λ m b placed next.
       let name = name_at (names_at m.program m.top.function) dest in
-      subst (λ r. Stepped m.program m.input new events.Quiet (acted m true (gave name r)) (seen_of m (gave name r))) (sym gives) (assigns new dest v is slots placed (next refl) b);
+      subst (λ r. Stepped m.program m.input new events.Quiet (acted m true (gave name r)) (seen_of m (gave name r))) (sym gives) (assigns new dest v is slots placed.0 (next refl) b);
 }
 
 pub acts_value_trap : {code : Code} {old new : Core} {dest : ℕ} {value : Value} {e : Event} (trap : NumTrap) → value_result (numbers_of code old) value ≡ Err trap → e ≡ events.End (Trap (trap_of trap)) →

@@ -23,11 +23,11 @@ use Rattle.hip_code.specs.declared.op.Move.{Move}
 use Rattle.hip_code.specs.declared.op.Op.TheVariants as ops
 use Rattle.hip_machine.specs.declared.core_parts.Core.{Core}
 use Rattle.hip_machine.specs.Acts.{Acts, Does, IsLonger, Keeps, acted, numbers_of, seen_of}
-use Rattle.hip_machine.specs.Below.{AreSaved}
+use Rattle.hip_machine.specs.Below.{AreSaved, EndsBefore}
 use Rattle.hip_machine.specs.Puts.{put_values}
 use Rattle.hip_machine.specs.Stands.{Stands, Stepped}
 use Rattle.hip_machine.proofs.Arms.{counted_next, turn_next, placed_next}
-use Rattle.hip_machine.proofs.Slots.{holds_kept, kept_longer, kept_put, kept_then, put_is, saved_kept, saved_length}
+use Rattle.hip_machine.proofs.Slots.{all_before, holds_kept, kept_longer, kept_put, kept_then, put_is, saved_kept, saved_length}
 
 -- longer slots hold the same state, whatever is kept for moves
 pub keeps_longer : {old : Core} (read mid : Core) → read ≡ record old { values = read.values } → IsLonger read.slots.items mid.slots.items → mid.saved.items ≡ read.saved.items → Keeps old (record read { slots = mid.slots; saved = mid.saved })
@@ -39,7 +39,7 @@ keeps_longer {old} read mid same l kept =
       keeps = λ P I w f fs n s.
           let low : old.top.base ≤ old.top.base = omega arith in
           let room = old.top.base + length (names_at P f.function) in
-          let high : old.top.base + length (names_at P f.function) ≤ room = omega arith in
+          let high = all_before (names_at P f.function) f.registers old.top.base in
           record {
             limit = s.limit;
             turns = s.turns;
@@ -89,15 +89,14 @@ acts_call {code} {old} {new} {call} longer mid few l room pushed made is = recor
       let base = old.top.base + call.frame in
       let count = saved_length s.saved in
       let shallow : nat_lt (length m.rest) (MOST_FRAMES - 1) ≡ true = lt-ltb _ _ (omega (arith, few, count)) in
-      let frame = placed.frame in
-      let size = placed.size in
-      let begins = placed.begins in
+      let size = placed.0.size in
+      let begins = placed.0.begins in
       let level : Option Level = Some (record { call = site_of m.top; birth = m.before.steps }) in
       let registers = moved called n ms [] in
       let name = result_name names call.dest in
       let callee : Frame = record { function = call.function; block = 0; place = 0; registers = registers; mark = m.world.mark; slots = []; dest = name; level = level } in
       let low : old.top.base ≤ base = omega arith in
-      let before : old.top.base + length names ≤ base = omega (arith, frame) in
+      let before : EndsBefore names m.top.registers old.top.base base = record { at = λ name slot q a. let b = placed.1.at name slot q a in omega (arith, b) } in
       let same : base ≤ base = omega arith in
       let changed = kept_then base old.slots.items longer (put n base ms longer) (kept_longer base old.slots.items longer l) (kept_put n base base ms longer same) in
       let changed_low = kept_then old.top.base old.slots.items longer (put n base ms longer) (kept_longer old.top.base old.slots.items longer l) (kept_put n old.top.base base ms longer low) in
@@ -110,7 +109,7 @@ acts_call {code} {old} {new} {call} longer mid few l room pushed made is = recor
           ending = s.ending;
           left = s.left;
           placed = record { stands = begins; begins = begins.is ∙ add-zero _; function = refl; block = refl };
-          registers = subst (λ xs. HoldsFrame called xs base registers) (sym made) (holds_moved n base called longer [] ms placed.arguments (holds_none called longer base long));
+          registers = subst (λ xs. HoldsFrame called xs base registers) (sym made) (holds_moved n base called longer [] ms placed.0.arguments (holds_none called longer base long));
           mark = s.storage.memory.mark_is;
           saved = record {
             are = (
@@ -120,8 +119,9 @@ acts_call {code} {old} {new} {call} longer mid few l room pushed made is = recor
               record {
                 placed = placed_next s.placed (behind refl);
                 registers = subst (λ xs. HoldsFrame names xs old.top.base m.top.registers) (sym made) (holds_kept names old.top.base m.top.registers base old.slots.items (put n base ms longer) before changed s.registers);
+                lower = low;
                 apart = before;
-                result = result_goes names call.dest placed.result;
+                result = result_goes names call.dest placed.0.result;
                 mark = s.mark;
                 blocks = s.blocks.below;
                 call = record { index = m.top.place; birth = m.before.steps; behind = refl; is = refl };

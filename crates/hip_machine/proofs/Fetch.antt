@@ -14,6 +14,7 @@ use Rattle.hip_runs.specs.Places.{body_of, body_at, end_of, code_at, end_at}
 use Rattle.hip_runs.specs.State.{Frame, Slot, State}
 use Rattle.hip_runs.specs.Step.{event_at, stop, is_cut, carry_out, deed_at, counted, on_frames, on_ending, step, event_on_frames, event_on_ending, event}
 use Rattle.hip_invariants.specs.NeverStuck.{ReadsAssigned}
+use Rattle.hip_invariants.specs.Reached.{top_is_reached}
 use Rattle.hip_invariants.specs.StackShape.{lie_between, lie_in_order, HasShape}
 use Rattle.hip_invariants.specs.Laws.StackShape.{lower}
 use Rattle.hip_objects.specs.Blocks.{IsBehind, nonempty}
@@ -23,14 +24,14 @@ use Rattle.hip_code.specs.declared.code.Code.{Code}
 use Rattle.hip_code.specs.Entries.{StandsAt, entry}
 use Rattle.hip_code.specs.Numbers.{tables_of}
 use Rattle.hip_code.specs.Ops.{op_turn, is_end, OpWithin}
-use Rattle.hip_code.specs.Resolved.{is_placed}
+use Rattle.hip_code.specs.Frames.{names_at}
 use Rattle.hip_code.specs.Whole.{IsCodeOf}
 use Rattle.hip_code.specs.declared.op.Op.{Op}
 use Rattle.hip_machine.specs.declared.core_parts.Core.{Core}
-use Rattle.hip_machine.specs.Acts.{Acts, ActsOn, Before, Carries, CarriesHere, HasNext, IsLaid, IsReady, Keeps, Moment, action_here, acted, carried, numbers_of, seen_at, seen_of}
+use Rattle.hip_machine.specs.Acts.{Acts, ActsOn, Before, Carries, CarriesHere, Fits, HasNext, IsLaid, IsReady, Keeps, Moment, action_here, acted, carried, numbers_of, seen_at, seen_of}
 use Rattle.hip_machine.specs.Stands.{Stands, StandsOn, StandsFor, Stepped}
 use Rattle.hip_machine.proofs.Arms.{counted_next, mark_is_high, mark_is_low}
-use Rattle.hip_machine.proofs.Known.{all_known, phis_known}
+use Rattle.hip_machine.proofs.Known.{all_known, end_keeps, phis_known, values_kept}
 use Rattle.hip_machine.proofs.Slots.{result_within}
 
 -- ---- turns
@@ -109,7 +110,7 @@ pub record Fetched (code : Code) (c : Core) (m : Moment) : Type 0 where
   pub op : Op
   pub here : slice_get code.ops.items c.top.place ≡ Some op
   pub within : OpWithin (numbers_of code c) op
-  pub placed : is_placed m.program m.top.function (numbers_of code c) op
+  pub fits : Fits code c m op
   pub next : is_end op ≡ false → HasNext c m
   pub deed : record { turn = op_turn op; action = action_here code c op m } ≡ deed_at m.program m.input m.world m.top m.rest
 
@@ -117,8 +118,8 @@ abbrev deed : Bool → Action → Deed
 deed t x = record { turn = t; action = x }
 
 module _ (code : Code) (c : Core) (m : Moment) (whole : IsCodeOf m.program m.input code.ops.items (tables_of code)) (s : Stands m.program m.input c m.world m.top m.rest m.before.steps) where
-  pub fetched : ReadsAssigned m.program m.top → Fetched code c m
-  fetched reads = go (code_at m.program m.top) refl
+  pub fetched : ReadsAssigned m.program m.top → top_is_reached m.program m.top → Fetched code c m
+  fetched reads reached = go (code_at m.program m.top) refl
     where
       at : StandsAt m.program c.top.place m.top.function m.top.block m.top.place
       at = s.placed.stands
@@ -140,7 +141,7 @@ module _ (code : Code) (c : Core) (m : Moment) (whole : IsCodeOf m.program m.inp
             op = o.op;
             here = ap (slice_get code.ops.items) (at.is ∙ ap (λ n. entry m.program m.top.function m.top.block + n) k) ∙ o.here;
             within = a.within;
-            placed = a.placed;
+            fits = (a.placed, end_keeps (names_at m.program m.top.function) m.top.registers o.op o.end_is);
             next = λ z. absurd (let y = o.end_is in let q : ⊥ = cc in q);
             deed = ap₂ deed a.turn a.acts ∙ sym (ap₂ (λ z is. deed_of m.program m.input m.world (length m.rest) m.top z is) end_at_is e);
           }
@@ -152,7 +153,7 @@ module _ (code : Code) (c : Core) (m : Moment) (whole : IsCodeOf m.program m.inp
             op = o.op;
             here = ap (slice_get code.ops.items) at.is ∙ o.here;
             within = a.within;
-            placed = a.placed;
+            fits = (a.placed, values_kept m.program m.top.function m.top.block m.top.place m.top.registers o.op reached o.extent);
             next = λ z. record { block = at.block; here = at.here; within = got.1; is = (let q = at.is in omega (arith, q)) };
             deed = ap₂ deed a.turn a.acts ∙ sym (ap (λ is. deed_of m.program m.input m.world (length m.rest) m.top (end_at m.program m.top) is) e);
           }
@@ -200,6 +201,7 @@ laid c m b =
 -- what is known of a state of a run before the next step
 pub record IsSteady (P : Program) (I : Input) (s : State) : Type 0 where
   pub reads : (f : Frame) (fs : List Frame) → s.world.ending ≡ None → s.frames ≡ f ∷ fs → ReadsAssigned P f
+  pub reached : (f : Frame) (fs : List Frame) → s.world.ending ≡ None → s.frames ≡ f ∷ fs → top_is_reached P f
   pub shaped : HasShape s.world.mark s.frames
 
 module _ (P : Program) (I : Input) (code : Code) (whole : IsCodeOf P I code.ops.items (tables_of code)) where
@@ -215,7 +217,7 @@ module _ (P : Program) (I : Input) (code : Code) (whole : IsCodeOf P I code.ops.
       go [] q x = absurd x
       go (f ∷ fs) q x =
           let m = moment s f fs in
-          let a = fetched code c m whole x (steady.reads f fs going q) in
+          let a = fetched code c m whole x (steady.reads f fs going q) (steady.reached f fs going q) in
           let before : Before c m = record { going = going; counted = refl; stands = x; shaped = subst (HasShape s.world.mark) q steady.shaped } in
           record { op = a.op; here = a.here; within = a.within; laid = laid c m before }
 
@@ -228,11 +230,11 @@ module _ (P : Program) (I : Input) (code : Code) (whole : IsCodeOf P I code.ops.
       go [] q x = absurd x
       go (f ∷ fs) q x =
           let m = moment s f fs in
-          let a = fetched code old m whole x (steady.reads f fs going q) in
+          let a = fetched code old m whole x (steady.reads f fs going q) (steady.reached f fs going q) in
           let same : c.op ≡ a.op = same_Some _ _ (sym c.here ∙ a.here) in
           let carried_out = subst (λ (o : Op). Carries I code old new e o) same c.carries in
           let before : Before old m = record { going = going; counted = refl; stands = x; shaped = subst (HasShape s.world.mark) q steady.shaped } in
-          subst (λ d. Stepped P I new e (carry_out I s.world f fs s.lines s.counts m.after d) (event_at I s.world fs d)) a.deed (carried_out.carries m refl before a.placed a.next)
+          subst (λ d. Stepped P I new e (carry_out I s.world f fs s.lines s.counts m.after d) (event_at I s.world fs d)) a.deed (carried_out.carries m refl before a.fits a.next)
 
 -- ---- the run
 

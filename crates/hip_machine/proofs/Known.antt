@@ -1,5 +1,5 @@
 -- What the next step of a run reads is there.
-use Rattle.std.proofs.Common.{◌≡◌, inl, inr, ℕ, Bool, true, false, cond, List, [], ◌∷◌, ◌++◌, refl, ap}
+use Rattle.std.proofs.Common.{◌≡◌, inl, inr, ℕ, Bool, true, false, cond, List, [], ◌∷◌, ◌++◌, None, refl, ap, arith}
 use Rattle.std.specs.Prelude.{All}
 use Rattle.std.specs.Str.{bytes_eq}
 use Rattle.std.proofs.lemmas.List.Elements.{All-head, All-tail}
@@ -12,9 +12,15 @@ use Rattle.hip_sound.specs.Registers.{Use, operand_registers, used_registers}
 use Rattle.hip_runs.specs.Places.{code_at}
 use Rattle.hip_runs.specs.State.{Frame, Registers}
 use Rattle.hip_invariants.specs.NeverStuck.{ReadsAssigned}
-use Rattle.hip_invariants.specs.Reached.{assigned_names}
-use Rattle.hip_code.specs.Frames.{are_known, AreKnown, IsKnown, is_assigned}
+use Rattle.hip_invariants.specs.Reached.{assigned_names, IsReached}
+use Rattle.hip_code.specs.Extents.{keeps_extent}
+use Rattle.hip_code.specs.Frames.{are_known, AreKnown, IsKnown, is_assigned, names_at}
+use Rattle.hip_code.specs.Ops.{is_end}
 use Rattle.hip_code.specs.Resolved.{KnowsPhis}
+use Rattle.hip_code.specs.declared.op.Control.TheVariants as controls
+use Rattle.hip_code.specs.declared.op.Op.{Op}
+use Rattle.hip_code.specs.declared.op.Op.TheVariants as ops
+use Rattle.hip_machine.specs.Acts.{keeps_values}
 
 assigned_is : (rs : Registers) (name : List ℕ) → IsAmong (assigned_names rs) name → is_assigned rs name ≡ true
 assigned_is [] name h = absurd h
@@ -24,6 +30,35 @@ assigned_is (r ∷ rs) name (inr h) = go (bytes_eq r.0 name) (assigned_is rs nam
     go : (b : Bool) → is_assigned rs name ≡ true → cond b true (is_assigned rs name) ≡ true
     go true e = refl
     go false e = e
+
+-- a register that has a value is one of those that have one
+pub among_assigned : (rs : Registers) (name : List ℕ) → is_assigned rs name ≡ true → IsAmong (assigned_names rs) name
+among_assigned [] name e = cc
+among_assigned (r ∷ rs) name e = go (bytes_eq r.0 name) refl e (λ q. among_assigned rs name q)
+  where
+    go : (b : Bool) → bytes_eq r.0 name ≡ b → cond b true (is_assigned rs name) ≡ true → (is_assigned rs name ≡ true → IsAmong (assigned_names rs) name) → IsAmong (r.0 ∷ assigned_names rs) name
+    go true t q later = inl ((bytes_eq-Decides r.0 name).0 t)
+    go false t q later = inr (later q)
+
+-- a call keeps the slots of the registers that have a value
+pub values_kept : (P : Program) (f b k : ℕ) (rs : Registers) (o : Op) → IsReached P None f b k rs → keeps_extent P f b o → keeps_values (names_at P f) rs o
+values_kept P f b k rs (ops.Value dest value) r e = tt
+values_kept P f b k rs (ops.Memory memory) r e = tt
+values_kept P f b k rs (ops.Control (controls.Go go)) r e = tt
+values_kept P f b k rs (ops.Control (controls.Call call)) r e = record {
+  at = λ name slot n a.
+      let below = e.covers r.fn name slot r.here (record { earlier = r.earlier; leads = r.leads; assigned = r.only name (inl (among_assigned rs name a)) }) n in
+      omega (arith, below);
+}
+values_kept P f b k rs (ops.Control (controls.Exit exit)) r e = tt
+
+-- the end of a block is no call
+pub end_keeps : (names : List (List ℕ)) (rs : Registers) (o : Op) → is_end o ≡ true → keeps_values names rs o
+end_keeps names rs (ops.Value dest value) e = tt
+end_keeps names rs (ops.Memory memory) e = tt
+end_keeps names rs (ops.Control (controls.Go go)) e = tt
+end_keeps names rs (ops.Control (controls.Call call)) e = absurd (let z : ⊥ = cc in z)
+end_keeps names rs (ops.Control (controls.Exit exit)) e = tt
 
 module _ (rs : Registers) where
   abbrev HasValue : List ℕ → Type 0

@@ -196,7 +196,7 @@ acts_load {code} {old} {new} {dest} {align} {width} {addr} a n value v at_a is_n
       let done = load_done (point_of m true) b.stands.storage {dest = Some name} (modulus width) some loaded refl in
       let of : ℕ → ℕ → Action = λ k j. accessed P m.input m.world k j align (Assigns (Some name) (little_endian (bytes_at (memory_of P m.input m.world) k j) % modulus width)) in
       let step = λ (x : Action). Stepped P m.input new events.Quiet (acted m true x) (seen_of m x) in
-      subst (λ k. step (of k (bytes_of width))) at_a (subst (λ j. step (of a j)) is_n (subst step (sym done.is) (subst (λ u. step (Assigns (Some name) u)) is_v (assigns new dest v is slots placed (behind refl) b))));
+      subst (λ k. step (of k (bytes_of width))) at_a (subst (λ j. step (of a j)) is_n (subst step (sym done.is) (subst (λ u. step (Assigns (Some name) u)) is_v (assigns new dest v is slots placed.0 (behind refl) b))));
 }
 
 pub acts_load_trap : {code : Code} {old new : Core} {e : Event} {dest align : ℕ} {width : Width} {addr : Operand} (a n : ℕ) (kind : TrapKind) → a ≡ operand_value (numbers_of code old) addr → n ≡ bytes_of width → access_trap old.storage a n align ≡ Some kind →
@@ -288,7 +288,7 @@ acts_alloca {old} {new} {dest} {size} {align} st a pushed is slots code = record
           ending = s.ending;
           left = s.left;
           placed = placed_next s.placed (behind refl);
-          registers = subst (λ xs. HoldsFrame names xs old.top.base ((name, a) ∷ m.top.registers)) (sym slots) (holds_assigned names old.slots.items old.top.base m.top.registers name dest a placed s.registers);
+          registers = subst (λ xs. HoldsFrame names xs old.top.base ((name, a) ∷ m.top.registers)) (sym slots) (holds_assigned names old.slots.items old.top.base m.top.registers name dest a placed.0 s.registers);
           mark = s.mark;
           saved = subst (λ xs. AreSaved P xs old.top.base old.top.dest m.top.dest m.top.level old.saved.items m.rest) (sym slots) (saved_kept same (kept_set old.top.base old.slots.items (old.top.base + dest) a high) s.saved);
           blocks = record {

@@ -12,7 +12,7 @@ use Rattle.hip_code.specs.Laws.Slots.{holds_assigned, slot_within}
 use Rattle.hip_code.specs.declared.op.Move.{Move}
 use Rattle.hip_machine.specs.declared.core_parts.Activation.{Activation}
 use Rattle.hip_machine.specs.Acts.{IsLonger}
-use Rattle.hip_machine.specs.Below.{are_saved, AreSaved}
+use Rattle.hip_machine.specs.Below.{are_saved, AreSaved, EndsBefore}
 use Rattle.hip_machine.specs.Puts.{put_values, with_result}
 
 -- ---- the slots alone
@@ -57,14 +57,18 @@ pub kept_result : (from base v : ℕ) (slot : Option ℕ) (xs : List ℕ) → fr
 kept_result from base v None xs h = record { longer = omega arith; kept = λ i b q. refl }
 kept_result from base v (Some slot) xs h = kept_set from xs (base + slot) v (omega (arith, h))
 
--- a frame whose slots lie before that place
-pub holds_kept : (names : List (List ℕ)) (base : ℕ) (rs : Registers) (from : ℕ) (old new : List ℕ) → base + length names ≤ from → AreKept from old new → HoldsFrame names old base rs → HoldsFrame names new base rs
+-- all slots of a frame end before the place after them
+pub all_before : (names : List (List ℕ)) (rs : Registers) (base : ℕ) → EndsBefore names rs base (base + length names)
+all_before names rs base = record { at = λ name slot q a. let t = slot_within names name slot q in omega (arith, t) }
+
+-- a frame whose values lie before that place
+pub holds_kept : (names : List (List ℕ)) (base : ℕ) (rs : Registers) (from : ℕ) (old new : List ℕ) → EndsBefore names rs base from → AreKept from old new → HoldsFrame names old base rs → HoldsFrame names new base rs
 holds_kept names base rs from old new before k h = record {
   room = (let a = h.room in let b = k.longer in omega (arith, a, b));
   holds = λ name slot q a.
       let t = slot_within names name slot q in
       let r = h.room in
-      k.kept (base + slot) (omega (arith, t, before)) (omega (arith, t, r)) ∙ h.holds name slot q a;
+      k.kept (base + slot) (before.at name slot q a) (omega (arith, t, r)) ∙ h.holds name slot q a;
 }
 
 are_kept : (P : Program) (from : ℕ) (old new : List ℕ) → AreKept from old new → (base : ℕ) (slot : Option ℕ) (name : Option (List ℕ)) (level : Option Level) (saved : List Activation) (fs : List Frame) → base ≤ from →
@@ -72,20 +76,22 @@ are_kept : (P : Program) (from : ℕ) (old new : List ℕ) → AreKept from old 
 are_kept P from old new k base slot name level saved [] le a = a
 are_kept P from old new k base slot name level saved (g ∷ gs) le a =
     let s = a.3 in
-    let apart = s.apart in (
+    let lower = s.lower in
+    let before : EndsBefore (names_at P g.function) g.registers a.1.base from = record { at = λ n k q t. let b = s.apart.at n k q t in omega (arith, b, le) } in (
       a.0,
       a.1,
       a.2,
       record {
         placed = s.placed;
-        registers = holds_kept (names_at P g.function) a.1.base g.registers from old new (omega (arith, apart, le)) k s.registers;
+        registers = holds_kept (names_at P g.function) a.1.base g.registers from old new before k s.registers;
+        lower = s.lower;
         apart = s.apart;
         result = s.result;
         mark = s.mark;
         blocks = s.blocks;
         call = s.call;
       },
-      are_kept P from old new k a.1.base a.1.dest g.dest g.level a.0 gs (omega (arith, apart, le)) a.4,
+      are_kept P from old new k a.1.base a.1.dest g.dest g.level a.0 gs (omega (arith, lower, le)) a.4,
     )
 
 -- frames below a base, where only slots from it on change

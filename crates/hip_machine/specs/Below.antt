@@ -1,8 +1,9 @@
 -- The frames below the top one, and what the code keeps of them.
-use Rattle.std.specs.Prelude.{ℕ, suc, ◌+◌, ◌≤◌, ◌≡◌, List, [], ◌∷◌, ◌++◌, length, Option, Some}
+use Rattle.std.specs.Prelude.{ℕ, suc, ◌+◌, ◌<◌, ◌≤◌, ◌≡◌, true, List, [], ◌∷◌, ◌++◌, length, Option, Some}
 use Rattle.hip_tree.specs.declared.program.Program.{Program}
-use Rattle.hip_runs.specs.State.{Frame, Level}
-use Rattle.hip_code.specs.Frames.{names_at, HoldsFrame}
+use Rattle.hip_names.specs.Names.{number_of}
+use Rattle.hip_runs.specs.State.{Frame, Level, Registers}
+use Rattle.hip_code.specs.Frames.{names_at, is_assigned, HoldsFrame}
 use Rattle.hip_code.specs.Resolved.{is_result}
 use Rattle.hip_machine.specs.declared.core_parts.Activation.{Activation}
 use Rattle.hip_machine.specs.Blocks.{blocks_of}
@@ -18,13 +19,20 @@ pub record IsCallOf (g : Frame) (level : Option Level) : Type 0 where
     birth = birth;
   })
 
--- What is kept of a frame g with the frames gs below it. Its slots end before a base. The frame above it was made by a
--- call of g, whose result goes to a register.
+-- Each register that has a value has a slot, counted from a base on, before a place.
+pub record EndsBefore (names : List (List ℕ)) (rs : Registers) (base place : ℕ) : Type 0 where
+  pub at : (name : List ℕ) (slot : ℕ) → number_of names name ≡ Some slot → is_assigned rs name ≡ true
+      → base + slot < place
+
+-- What is kept of a frame g with the frames gs below it. The slots of its registers that have a value end before the
+-- base of the frame above it, which may use the others. That frame was made by a call of g, whose result goes to a
+-- register.
 pub record IsSaved (P : Program) (slots : List ℕ) (base : ℕ) (slot : Option ℕ) (name : Option (List ℕ))
     (level : Option Level) (x : Activation) (g : Frame) (gs : List Frame) : Type 0 where
   pub placed : placed_at P x g
   pub registers : HoldsFrame (names_at P g.function) slots x.base g.registers
-  pub apart : x.base + length (names_at P g.function) ≤ base
+  pub lower : x.base ≤ base
+  pub apart : EndsBefore (names_at P g.function) g.registers x.base base
   pub result : is_result (names_at P g.function) slot name
   pub mark : x.mark ≡ g.mark
   pub blocks : x.blocks ≡ length (blocks_of gs)

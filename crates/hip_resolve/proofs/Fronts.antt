@@ -9,6 +9,7 @@ use Rattle.hip_tree.specs.declared.program.Program.{Program}
 use Rattle.hip_runs.specs.Places.{block_at}
 use Rattle.hip_runs.specs.declared.input.Input.{Input}
 use Rattle.hip_code.specs.Entries.{entry}
+use Rattle.hip_code.specs.Extents.{keeps_extent}
 use Rattle.hip_code.specs.Numbers.{Tables}
 use Rattle.hip_code.specs.Ops.{is_end}
 use Rattle.hip_code.specs.Whole.{IsCodeOf}
@@ -25,7 +26,7 @@ module _ (P : Program) (base : ℕ) where
 
   pub front_grows : (ops : List Op) (t u : Tables) → IsFront P base ops t → Grows t u → IsFront P base ops u
   front_grows ops t u front g = record {
-    body = λ f b k block i h e lt. let m = front.body f b k block i h e lt in record { op = m.op; here = m.here; does = λ v more. m.does v (grows_on g more) };
+    body = λ f b k block i h e lt. let m = front.body f b k block i h e lt in record { op = m.op; here = m.here; does = λ v more. m.does v (grows_on g more); extent = m.extent };
     last = λ f b block h lt. let m = front.last f b block h lt in record { op = m.op; here = m.here; end_is = m.end_is; ends = λ v more. m.ends v (grows_on g more) };
   }
 
@@ -34,7 +35,7 @@ module _ (P : Program) (base : ℕ) where
   place_cases ops o n lt = let l = length-append ops (o ∷ []) in eq-or-lt_of_le (omega (arith, l, lt))
 
   kept_body : (ops : List Op) (t : Tables) (o : Op) (f b k : ℕ) (i : Instr) → HasMade P base ops t f b k i → HasMade P base (ops ++ o ∷ []) t f b k i
-  kept_body ops t o f b k i m = record { op = m.op; here = get_kept ops (o ∷ []) (entry P f b + k) m.op m.here; does = m.does }
+  kept_body ops t o f b k i m = record { op = m.op; here = get_kept ops (o ∷ []) (entry P f b + k) m.op m.here; does = m.does; extent = m.extent }
 
   kept_end : (ops : List Op) (t : Tables) (o : Op) (f b : ℕ) (block : Block) → HasMadeEnd P base ops t f b block → HasMadeEnd P base (ops ++ o ∷ []) t f b block
   kept_end ops t o f b block m = record { op = m.op; here = get_kept ops (o ∷ []) (entry P f b + length block.body) m.op m.here; end_is = m.end_is; ends = m.ends }
@@ -44,8 +45,8 @@ module _ (P : Program) (base : ℕ) where
 
   -- the op of an instruction
   pub front_op : (ops : List Op) (t : Tables) (o : Op) (f b k : ℕ) (block : Block) (i : Instr) → IsFront P base ops t → block_at P f b ≡ Some block → slice_get block.body k ≡ Some i → length ops ≡ entry P f b + k →
-      ((u : Tables) → Grows t u → Does P base f u o i) → IsFront P base (ops ++ o ∷ []) t
-  front_op ops t o f b k block i front at is long does = record { body = body; last = last }
+      ((u : Tables) → Grows t u → Does P base f u o i) → keeps_extent P f b o → IsFront P base (ops ++ o ∷ []) t
+  front_op ops t o f b k block i front at is long does extent = record { body = body; last = last }
     where
       body : (g c j : ℕ) (x : Block) (d : Instr) → block_at P g c ≡ Some x → slice_get x.body j ≡ Some d → entry P g c + j < length (ops ++ o ∷ []) → HasMade P base (ops ++ o ∷ []) t g c j d
       body g c j x d h e lt = ⊎_elim now (λ before. kept_body ops t o g c j d (front.body g c j x d h e before)) (place_cases ops o _ lt)
@@ -57,7 +58,12 @@ module _ (P : Program) (base : ℕ) where
               let s = one_place P f b k g c j block x at (omega (arith, m)) h (omega (arith, n)) (sym long ∙ sym q) in
               let same : block ≡ x = same_Some block x (sym at ∙ subst (λ z. block_at P z b ≡ Some x) (sym s.function) (subst (λ z. block_at P g z ≡ Some x) (sym s.block) h)) in
               let item : i ≡ d = same_Some i d (sym is ∙ ap (λ (z : Block). slice_get z.body k) same ∙ subst (λ z. slice_get x.body z ≡ Some d) (sym s.index) e) in
-              record { op = o; here = here_is ops o _ q; does = λ u more. subst (λ z. Does P base z u o d) s.function (subst (Does P base f u o) item (does u more)) }
+              record {
+                op = o;
+                here = here_is ops o _ q;
+                does = λ u more. subst (λ z. Does P base z u o d) s.function (subst (Does P base f u o) item (does u more));
+                extent = subst (λ z. keeps_extent P z c o) s.function (subst (λ z. keeps_extent P f z o) s.block extent);
+              }
 
       last : (g c : ℕ) (x : Block) → block_at P g c ≡ Some x → entry P g c + length x.body < length (ops ++ o ∷ []) → HasMadeEnd P base (ops ++ o ∷ []) t g c x
       last g c x h lt = ⊎_elim never (λ before. kept_end ops t o g c x (front.last g c x h before)) (place_cases ops o _ lt)
@@ -109,7 +115,7 @@ module _ (P : Program) (base : ℕ) where
         let w = slice_get_within block.body k i is in
         let lt = place_within P f b k block h (omega (arith, w)) in
         let m = front.body f b k block i h is (omega (arith, lt, long)) in
-        record { op = m.op; here = m.here; resolves = (m.does t (grows_same t)).on I e };
+        record { op = m.op; here = m.here; resolves = (m.does t (grows_same t)).on I e; extent = m.extent };
     last = λ f b block h.
         let lt = place_within P f b (length block.body) block h (omega arith) in
         let m = front.last f b block h (omega (arith, lt, long)) in

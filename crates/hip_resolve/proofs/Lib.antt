@@ -1,3 +1,4 @@
 pub mod BlockOps
 pub mod Fronts
 pub mod Scoped
+pub mod Walks

@@ -5,17 +5,20 @@ use Rattle.hip_tree.specs.declared.instr.Instr.{Instr}
 use Rattle.hip_tree.specs.declared.program.Program.{Program}
 use Rattle.hip_runs.specs.Places.{block_at}
 use Rattle.hip_code.specs.Entries.{entry}
+use Rattle.hip_code.specs.Extents.{keeps_extent}
 use Rattle.hip_code.specs.Numbers.{Tables}
 use Rattle.hip_code.specs.Ops.{is_end}
 use Rattle.hip_code.specs.declared.op.Op.{Op}
 use Rattle.hip_scope.specs.Growth.{Grows}
 use Rattle.hip_scope.specs.Scopes.{Does, Ends}
 
--- the op at the place of the instruction resolves it, however the tables grow
+-- the op at the place of the instruction resolves it, however the tables grow, and keeps the slots of the block's
+-- extent if it is a call
 pub record HasMade (P : Program) (base : ℕ) (ops : List Op) (t : Tables) (f b k : ℕ) (i : Instr) : Type 0 where
   pub op : Op
   pub here : slice_get ops (entry P f b + k) ≡ Some op
   pub does : (u : Tables) → Grows t u → Does P base f u op i
+  pub extent : keeps_extent P f b op
 
 -- the same for the end of a block
 pub record HasMadeEnd (P : Program) (base : ℕ) (ops : List Op) (t : Tables) (f b : ℕ) (block : Block) : Type 0 where

@@ -2,15 +2,26 @@ ghost use Rattle.std.specs.Prelude.{◌≡◌, ◌+◌, Some, length, suc, IfOk}
 ghost use Rattle.hip_code.specs.Entries.{entry};
 ghost use Rattle.hip_runs.specs.Places.{block_at};
 ghost use Rattle.hip_scope.specs.Grown.{grown};
+ghost use Rattle.hip_resolve.specs.Extents.{with_frame};
 ghost use Rattle.hip_resolve.specs.Made.{IsFront};
 ghost use Rattle.hip_scope.specs.Scopes.{Describes};
 
-use hip_code::Op;
+use hip_code::{Call, Control, Op};
 use hip_end_ops::{Source, end_op};
 use hip_instr_ops::instr_op;
-use hip_scope::{Growing, Scope};
+use hip_scope::{Growing, Scope, number_at};
 use hip_tree::Block;
 use hip_types::{NoMemory, Row};
+
+/// The op with that number of slots that a call keeps of its caller. An op of another kind stays as it is.
+fn keeping(op: Op, frame: u32) -> Op
+    ensures { result ≡ with_frame frame op }
+{
+    match op {
+        Op::Control(Control::Call(call)) => Op::Control(Control::Call(Call { frame, ..call })),
+        _ => op,
+    }
+}
 
 /// Puts the ops of a block's instructions after the others.
 fn body_ops(
@@ -29,10 +40,11 @@ fn body_ops(
         length ops.new ≡ entry scope.now.program.now scope.now.number number + length block.now.body) }
 {
     let body = block.body.as_slice();
+    let extent = number_at(scope.extents.as_slice(), number);
     'translating: for index in 0..body.len() {
         let instr = &body[index];
         let op = instr_op(scope, tables, instr)?;
-        ops.push(op)?;
+        ops.push(keeping(op, extent))?;
     }
     Ok(())
 }

@@ -6,6 +6,7 @@ ghost use Rattle.hip_code.specs.Frames.{names_at, names_in};
 ghost use Rattle.hip_scope.specs.Listed.{Lists, RegistersDiffer, SourcesOf};
 ghost use Rattle.hip_scope.specs.Scopes.{Describes, IsKnown, OfFunctions};
 
+use crate::extents::extents;
 use crate::name_sets::{label_names, register_names};
 use crate::phi_numbers::numbers_of_phis;
 use hip_scope::{EdgeNumbers, Known, Scope, number_at, place};
@@ -127,6 +128,7 @@ pub fn scope_of<'p, 'a>(known: &Known<'p, 'a>, number: usize) -> Result<Scope<'p
             let start = number_at(known.starts, number);
             let places = block_places(known.alloc, start, function.blocks.as_slice())?;
             let sources = phi_sources(known.alloc, function.blocks.as_slice())?;
+            let extents = extents(known.alloc, &labels, registers.len(), function)?;
             Ok(Scope {
                 alloc: known.alloc,
                 program: known.program,
@@ -141,6 +143,7 @@ pub fn scope_of<'p, 'a>(known: &Known<'p, 'a>, number: usize) -> Result<Scope<'p
                 labels,
                 places,
                 sources,
+                extents,
             })
         }
         None => unreachable!(),

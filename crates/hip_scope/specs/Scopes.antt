@@ -17,7 +17,7 @@ use Rattle.hip_code.specs.Numbers.{Tables}
 use Rattle.hip_code.specs.Resolved.{IsOperandIn, Resolves, EndResolves}
 use Rattle.hip_code.specs.declared.op.Op.{Op}
 use Rattle.hip_code.specs.declared.op.Operand.{Operand}
-use Rattle.hip_scope.specs.Listed.{Lists}
+use Rattle.hip_scope.specs.Listed.{HasExtents, Lists}
 use Rattle.hip_scope.specs.PhiNumbers.{HasTables}
 use Rattle.hip_scope.specs.declared.scope.Known.{Known}
 use Rattle.hip_scope.specs.declared.scope.Scope.{Scope}
@@ -52,6 +52,7 @@ pub record Describes (s : Scope) : Type 0 where
   pub places : (b : ℕ) → b < length s.places → slice_get s.places b ≡ Some (entry s.program.now s.number b)
   pub sources : (b : ℕ) (block : Block) → block_at s.program.now s.number b ≡ Some block
       → HasTables s.sources b block.phis
+  pub extents : HasExtents s.program.now s.number s.extents
 
 -- the operand resolves one of the function
 abbrev pub StandsFor : Scope → Tables → Operand → named.Operand → Type 0

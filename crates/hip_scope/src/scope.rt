@@ -48,6 +48,8 @@ pub struct Scope<'p, 'a> {
     pub places: Row<u32>,
     /// For each phi of each block the numbers of its edges.
     pub sources: Row<Row<EdgeNumbers<'p>>>,
+    /// For each block how many slots the frame keeps during a call.
+    pub extents: Row<u32>,
 }
 
 /// The slot of a register.

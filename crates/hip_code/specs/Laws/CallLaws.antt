@@ -1,23 +1,26 @@
 -- The law of calls of defined functions.
-use Rattle.std.specs.Prelude.{ℕ, ◌+◌, ◌-◌, ◌≤◌, ◌≡◌, cond, not, nat_lt, List, length, Option, None}
+use Rattle.std.specs.Prelude.{ℕ, ◌+◌, ◌-◌, ◌≤◌, ◌≡◌, cond, not, nat_lt, List, length, Option, Some, None}
 use Rattle.std.proofs.Common.{sym, ap, ap₂, ◌∙◌, subst, arith}
 use Rattle.std.proofs.lemmas.List.{length-map}
 use Rattle.std.proofs.lemmas.Option.{same_Some}
 use Rattle.hip_types.specs.declared.number.Scalar.{Scalar}
 use Rattle.hip_tree.specs.declared.instr.Arg.{Arg}
+use Rattle.hip_tree.specs.declared.instr.Instr.{Instr}
 use Rattle.hip_tree.specs.declared.instr.Instr.TheVariants as instrs
 use Rattle.hip_tree.specs.declared.program.Function.{Function}
 use Rattle.hip_tree.specs.declared.program.Program.{Program}
 use Rattle.hip_externs.specs.Externs.{call_of}
+use Rattle.hip_externs.specs.declared.call.ExternCall.{ExternCall}
 use Rattle.hip_runs.specs.declared.event.TrapKind.TheVariants as traps
 use Rattle.hip_runs.specs.declared.input.Input.{Input}
 use Rattle.hip_runs.specs.declared.limits.TheConstants.{MOST_FRAMES}
 use Rattle.hip_runs.specs.Actions.{Calls, Traps, bound_call, call_action, entered, instr_action, is_flush_or_fence, numbered_call}
 use Rattle.hip_runs.specs.Operands.{value_of, values_of}
+use Rattle.hip_runs.specs.State.{Registers}
 use Rattle.hip_code.specs.Edges.{IsCall}
 use Rattle.hip_code.specs.Frames.{names_at}
-use Rattle.hip_code.specs.Named.{IsCallWith, passes_or_effects}
-use Rattle.hip_code.specs.Numbers.{Tables, entries_of}
+use Rattle.hip_code.specs.Named.{IsCallWith, NamesOperands, names_operands, passes_or_effects}
+use Rattle.hip_code.specs.Numbers.{Numbers, Tables, entries_of}
 use Rattle.hip_code.specs.Resolved.{Resolves, numbers_at}
 use Rattle.hip_code.specs.Laws.MoveLaws.{arguments_are, arguments_move, arguments_pass}
 use Rattle.hip_code.specs.Laws.Operands.{result_is}
@@ -51,7 +54,7 @@ module _ (P : Program) (I : Input) (f : ℕ) (tables : Tables) where
                 written = m.written;
               };
           placed =
-              record { begins = c.begins; frame = c.frame; size = c.size; arguments = m.placed; result = r.placed };
+              record { begins = c.begins; size = c.size; arguments = m.placed; result = r.placed };
           turn = ap (λ o. not (is_flush_or_fence o)) (sym defined);
           acts =
               ap₂ (λ xs to. cond (nat_lt below (MOST_FRAMES - 1)) (Calls call.function xs to)
@@ -83,4 +86,51 @@ module _ (P : Program) (I : Input) (f : ℕ) (tables : Tables) where
           is = subst (λ o. passes_or_effects P n o callee vs (ops.Control (controls.Call call)))
               (sym defined) with;
         };
+  }
+
+  -- a call that keeps another number of slots of its caller has the same operands
+  names_kept : (call : Call) (frame : ℕ) (n : Numbers) (rs : Registers) (i : Instr)
+      → NamesOperands P I n rs (ops.Control (controls.Call call)) i
+      → NamesOperands P I n rs (ops.Control (controls.Call (record call { frame = frame }))) i
+  names_kept call frame n rs i h = record { is = at i h.is }
+    where
+      passed : (callee values : List ℕ) (o : Option ExternCall)
+          → passes_or_effects P n o callee values (ops.Control (controls.Call call))
+          → passes_or_effects P n o callee values (ops.Control (controls.Call (record call { frame = frame })))
+      passed callee values None p = record { numbered = p.numbered; passed = p.passed }
+      passed callee values (Some x) p = absurd p
+
+      at : (j : Instr) → names_operands P I n rs (ops.Control (controls.Call call)) j
+          → names_operands P I n rs (ops.Control (controls.Call (record call { frame = frame }))) j
+      at (instrs.Store ty value addr align) p = absurd p
+      at (instrs.Call dest ret callee args) p = passed callee (values_of P.globals I.base rs args) (call_of callee) p
+      at _ p = tt
+
+  -- and it does the same, as long as the function has these slots
+  pub resolves_kept : (call : Call) (frame : ℕ) (i : Instr) → frame ≤ length (names_at P f)
+      → Resolves P I f tables (ops.Control (controls.Call call)) i
+      → Resolves P I f tables (ops.Control (controls.Call (record call { frame = frame }))) i
+  resolves_kept call frame i few r = record {
+    acts = λ w below slots base rs h k.
+        let a = r.acts w below slots base rs h k in
+        let room = h.room in
+        record {
+          within =
+              record {
+                frame = omega (arith, few, room);
+                span = a.within.span;
+                read = a.within.read;
+                written = a.within.written;
+              };
+          placed =
+              record {
+                begins = a.placed.begins;
+                size = a.placed.size;
+                arguments = a.placed.arguments;
+                result = a.placed.result;
+              };
+          turn = a.turn;
+          acts = a.acts;
+        };
+    names = λ slots base rs h k. names_kept call frame (numbers_at tables slots base) rs i (r.names slots base rs h k);
   }

@@ -29,6 +29,16 @@ taken_more (x ∷ xs) (suc k) i q e h =
     (taken_more xs k i q e r))
     (named_either (assigned_by x) (body_registers (take (suc k) xs)) q h)
 
+-- an instruction of a body assigns a register of the body
+body_assigns : (body : List Instr) (k : ℕ) (i : Instr) (q : List ℕ) → slice_get body k ≡ Some i
+    → IsAmong (names_of (assigned_by i)) q → IsAmong (names_of (body_registers body)) q
+body_assigns [] k i q e h = cc
+body_assigns (x ∷ xs) zero i q e h =
+    named_left (assigned_by x) (body_registers xs) q
+    (subst (λ (z : Instr). IsAmong (names_of (assigned_by z)) q) (sym (same_Some x i e)) h)
+body_assigns (x ∷ xs) (suc k) i q e h =
+    named_right (assigned_by x) (body_registers xs) q (body_assigns xs k i q e h)
+
 pub taken_all : {A : Type 0} (xs : List A) (k : ℕ) → drop k xs ≡ [] → take k xs ≡ xs
 taken_all [] zero e = refl
 taken_all [] (suc k) e = refl
@@ -132,6 +142,40 @@ module _ (fn : Function) where
           → IsAmong (assigned_on fn earlier b AtEnd) q ⊎ IsAmong (names_of (phi_registers to.phis)) q
       none_taken [] h = absurd h
       none_taken (i ∷ is) h = absurd h
+
+  -- what an instruction of the block assigns, is assigned by the end of the block
+  pub by_instr : (earlier : List ℕ) (b k : ℕ) (block : Block) (i : Instr) (q : List ℕ)
+      → slice_get fn.blocks b ≡ Some block → slice_get block.body k ≡ Some i →
+      IsAmong (names_of (assigned_by i)) q → IsAmong (assigned_on fn earlier b AtEnd) q
+  by_instr earlier b k block i q at e h =
+      by_last earlier b block AtEnd q at
+      (named_right (phi_registers block.phis) (body_registers block.body) q (body_assigns block.body k i q e h))
+
+  blocks_kept : (earlier : List ℕ) (b : ℕ) (q : List ℕ)
+      → IsAmong (flat_map (whole_block_names fn) earlier) q ⊎ IsAmong (whole_block_names fn b) q
+      → IsAmong (flat_map (whole_block_names fn) (earlier ++ b ∷ [])) q
+  blocks_kept [] b q (inl h) = absurd h
+  blocks_kept [] b q (inr h) = among-left (whole_block_names fn b) [] q h
+  blocks_kept (c ∷ cs) b q (inl h) =
+      ⊎_elim (λ l. among-left (whole_block_names fn c) _ q l)
+      (λ r. among-right (whole_block_names fn c) _ q (blocks_kept cs b q (inl r)))
+      (among-either (whole_block_names fn c) (flat_map (whole_block_names fn) cs) q h)
+  blocks_kept (c ∷ cs) b q (inr h) = among-right (whole_block_names fn c) _ q (blocks_kept cs b q (inr h))
+
+  -- what is assigned by the end of a block, is also assigned by the end of the next block of a path
+  pub by_earlier : (earlier : List ℕ) (b c : ℕ) (block : Block) (q : List ℕ) → slice_get fn.blocks b ≡ Some block
+      → IsAmong (assigned_on fn earlier b AtEnd) q → IsAmong (assigned_on fn (earlier ++ b ∷ []) c AtEnd) q
+  by_earlier earlier b c block q at h =
+      ⊎_elim (λ l. by_parameter (earlier ++ b ∷ []) c AtEnd q l)
+      (λ r. by_block (earlier ++ b ∷ []) c AtEnd q (blocks_kept earlier b q
+      (⊎_elim (λ l. inl l) (λ m. inr (subst (λ ns. IsAmong ns q) (sym (whole_is b block at)) m)) r)))
+      (on_path earlier b block AtEnd q at h)
+
+  -- the phis of the last block of a path
+  pub by_phi : (earlier : List ℕ) (c : ℕ) (to : Block) (q : List ℕ) → slice_get fn.blocks c ≡ Some to
+      → IsAmong (names_of (phi_registers to.phis)) q → IsAmong (assigned_on fn earlier c AtEnd) q
+  by_phi earlier c to q there h =
+      by_last earlier c to AtEnd q there (named_left (phi_registers to.phis) (body_registers to.body) q h)
 
   -- ---- paths that go on
 

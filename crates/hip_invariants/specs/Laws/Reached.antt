@@ -25,7 +25,7 @@ use Rattle.hip_sound.specs.Laws.GivenLaws.{sound-calls, sound-labels}
 use Rattle.hip_sound.specs.Paths.{label_at, labels_named_at, names_of}
 use Rattle.hip_sound.specs.Registers.{assigned_by, phi_registers, parameter_registers, end_labels}
 use Rattle.hip_sound.specs.Sound.{IsSound, IsBlockAt, TypesAgree, InstrItem, label_number}
-use Rattle.hip_sound.specs.declared.point.Point.TheVariants.{Before}
+use Rattle.hip_sound.specs.declared.point.Point.TheVariants.{Before, AtEnd}
 use Rattle.hip_externs.specs.declared.call.ExternCall.{ExternCall}
 use Rattle.hip_externs.specs.declared.call.ExternCall.TheVariants as calls
 use Rattle.hip_runs.specs.declared.event.TrapKind.TheVariants as traps
@@ -38,7 +38,7 @@ use Rattle.hip_runs.specs.Step.{next, with_register}
 use Rattle.hip_invariants.specs.Laws.Frames.{keeps}
 use Rattle.hip_invariants.specs.Laws.InstrActions.{leaves_registers, CallCases, instr_cases, of_instr_action}
 use Rattle.hip_runs.specs.Laws.Members.{get_drop}
-use Rattle.hip_invariants.specs.Laws.AssignedPaths.{on_path, after_instr, at_end, over_edge, path_more}
+use Rattle.hip_invariants.specs.Laws.AssignedPaths.{on_path, by_parameter, by_instr, by_earlier, by_phi, after_instr, at_end, over_edge, path_more}
 use Rattle.hip_invariants.specs.Laws.Entry.{among_all, entry_block, no_entry_phi, label_there, label_known}
 use Rattle.hip_invariants.specs.Laws.Registers.Names.{named_either}
 use Rattle.hip_invariants.specs.Reached.{assigned_names, has_or_awaits, IsReached, StandsAtUnreachable, top_is_reached, caller_is_reached}
@@ -64,13 +64,22 @@ module _ (P : Program) where
   has_now rs q (inl h) = h
   has_now rs q (inr e) = cc
 
+  -- a register that has a value after an assignment had one before, or it is the one that is assigned
+  had : (dest : Option (List ℕ)) (v : ℕ) (rs : Registers) (q : List ℕ)
+      → IsAmong (assigned_names (assigned dest v rs)) q → has_or_awaits rs dest q
+  had None v rs q h = inl h
+  had (Some name) v rs q (inl e) = inr (ap Some e)
+  had (Some name) v rs q (inr h) = inl h
+
   -- after an instruction
   next_reached : (g b k : ℕ) (rs rs' : Registers) (waiting : Option (List ℕ)) (i : Instr)
       → (r : IsReached P None g b k rs) → slice_get r.block.body k ≡ Some i →
       ((q : List ℕ) → IsAmong (assigned_names rs) q → has_or_awaits rs' waiting q)
       → ((q : List ℕ) → IsAmong (names_of (assigned_by i)) q → has_or_awaits rs' waiting q)
+      → ((q : List ℕ) → has_or_awaits rs' waiting q
+      → IsAmong (assigned_names rs) q ⊎ IsAmong (names_of (assigned_by i)) q)
       → IsReached P waiting g b (suc k) rs'
-  next_reached g b k rs rs' waiting i r e old own = record {
+  next_reached g b k rs rs' waiting i r e old own new = record {
     fn = r.fn;
     here = r.here;
     block = r.block;
@@ -79,6 +88,7 @@ module _ (P : Program) where
     leads = r.leads;
     among = λ q h. ⊎_elim (λ l. old q (has_now rs q (r.among q l))) (λ m. own q m)
         (after_instr r.fn r.earlier b k r.block i q r.at e h);
+    only = λ q h. ⊎_elim (λ l. r.only q (inl l)) (λ m. by_instr r.fn r.earlier b k r.block i q r.at e m) (new q h);
   }
 
   -- after the result of a call
@@ -92,14 +102,16 @@ module _ (P : Program) where
     earlier = r.earlier;
     leads = r.leads;
     among = λ q h. ⊎_elim (λ l. inl (has_still dest v rs q l)) (λ w. inl (has_own dest v rs q w)) (r.among q h);
+    only = λ q h. r.only q (had dest v rs q (has_now (assigned dest v rs) q h));
   }
 
   module _ (s : IsSound P) where
     -- at the start of a function that is entered
     pub entry_reached : (g : ℕ) (fn : Function) (rs : Registers) → slice_get P.functions g ≡ Some fn
         → ((q : List ℕ) → IsAmong (names_of (parameter_registers fn)) q → IsAmong (assigned_names rs) q)
+        → ((q : List ℕ) → IsAmong (assigned_names rs) q → IsAmong (names_of (parameter_registers fn)) q)
         → IsReached P None g 0 0 rs
-    entry_reached g fn rs here params =
+    entry_reached g fn rs here params none_else =
         let entry = entry_block P s g fn here in
         record {
           fn = fn;
@@ -115,6 +127,7 @@ module _ (P : Program) where
               (λ k p e. no_entry_phi P s g fn here entry.0 entry.1 k p e) q p))
               (λ t. absurd (none_taken entry.0.body q t)) (named_either (phi_registers entry.0.phis) _ q m)) r)
               (on_path fn [] 0 entry.0 (Before 0) q entry.1 h);
+          only = λ q h. by_parameter fn [] 0 AtEnd q (none_else q (has_now rs q h));
         }
       where
         none_there : (ps : List Phi) → ((k : ℕ) (p : Phi) → slice_get ps k ≡ Some p → ⊥) → (q : List ℕ)
@@ -130,12 +143,25 @@ module _ (P : Program) where
     -- ---- an instruction
 
     -- an instruction assigns this register, or none
-    abbrev AssignsOnly : Instr → Option (List ℕ) → Type 0
-    AssignsOnly i dest = (q : List ℕ) → IsAmong (names_of (assigned_by i)) q → dest ≡ Some q
+    record AssignsOnly (i : Instr) (dest : Option (List ℕ)) : Type 0 where
+      pub only : (q : List ℕ) → IsAmong (names_of (assigned_by i)) q → dest ≡ Some q
+      pub is : (q : List ℕ) → dest ≡ Some q → IsAmong (names_of (assigned_by i)) q
 
-    own : (name q : List ℕ) → IsAmong (name ∷ []) q → Some name ≡ Some q
-    own name q (inl e) = ap Some e
-    own name q (inr h) = absurd h
+    own : (i : Instr) (name : List ℕ) → names_of (assigned_by i) ≡ name ∷ [] → AssignsOnly i (Some name)
+    own i name e = record {
+      only = λ q h. among_one q (subst (λ ns. IsAmong ns q) e h);
+      is = λ q h. subst (λ ns. IsAmong ns q) (sym e) (inl (same_Some name q h));
+    }
+      where
+        among_one : (q : List ℕ) → IsAmong (name ∷ []) q → Some name ≡ Some q
+        among_one q (inl h) = ap Some h
+        among_one q (inr h) = absurd h
+
+    assigns_none : (i : Instr) → names_of (assigned_by i) ≡ [] → AssignsOnly i None
+    assigns_none i e = record {
+      only = λ q h. absurd (subst (λ ns. IsAmong ns q) e h);
+      is = λ q h. let z : ⊥ = cc in absurd z;
+    }
 
     module _ (I : Input) (w : World) (f : Frame) (r : top_is_reached P f) (i : Instr)
         (at : slice_get r.block.body f.place ≡ Some i) where
@@ -145,13 +171,15 @@ module _ (P : Program) where
 
       reached_behind : AssignsOnly i None → top_is_reached P (next f)
       reached_behind c = next_reached f.function f.block f.place f.registers f.registers None i r at (λ q h. inl h)
-          (λ q h. inr (c q h))
+          (λ q h. inr (c.only q h)) (λ q h. inl (has_now f.registers q h))
 
       reached_assigned : (dest : Option (List ℕ)) (v : ℕ) → AssignsOnly i dest
           → top_is_reached P (with_register dest v (next f))
       reached_assigned dest v c =
           next_reached f.function f.block f.place f.registers (assigned dest v f.registers) None i r at
-          (λ q h. inl (has_still dest v f.registers q h)) (λ q h. inl (has_own dest v f.registers q (c q h)))
+          (λ q h. inl (has_still dest v f.registers q h)) (λ q h. inl (has_own dest v f.registers q (c.only q h)))
+          (λ q h. ⊎_elim (λ l. inl l) (λ e. inr (c.is q e))
+          (had dest v f.registers q (has_now (assigned dest v f.registers) q h)))
 
       assigns_keeps : (dest : Option (List ℕ)) (v : ℕ) → AssignsOnly i dest → InstrKeeps (Assigns dest v)
       assigns_keeps dest v c = record { kept = reached_assigned dest v c; trap = λ e. let z : ⊥ = cc in z }
@@ -182,6 +210,13 @@ module _ (P : Program) where
           let rest : map (λ (x : Param). x.ty) ps ≡ map (λ (x : Arg). x.ty) args = cc in
           inr (params_assigned ps args rs rest q h)
 
+      params_only : (ps : List Param) (vs : List ℕ) (q : List ℕ) → IsAmong (assigned_names (bound ps vs)) q
+          → IsAmong (names_of (map (λ p. record { name = p.name; ty = Some p.ty }) ps)) q
+      params_only [] vs q h = h
+      params_only (p ∷ ps) [] q h = absurd h
+      params_only (p ∷ ps) (v ∷ vs) q (inl e) = inl e
+      params_only (p ∷ ps) (v ∷ vs) q (inr h) = inr (params_only ps vs q h)
+
       -- an external function that has no result assigns no register
       no_result : (x : ExternCall) → x ≢ calls.ReadI64 → (signature x).ret ≡ None
       no_result calls.ReadI64 n = absurd (n refl)
@@ -208,9 +243,10 @@ module _ (P : Program) where
               ≡ map (λ (a : Arg). a.ty) args) same c.params in
               record {
                 kept = (
-                  (λ mark level. entry_reached k fn _ e (params_assigned fn.params args f.registers typed)),
+                  (λ mark level. entry_reached k fn _ e (params_assigned fn.params args f.registers typed)
+                      (params_only fn.params (values_of P.globals I.base f.registers args))),
                   next_reached f.function f.block f.place f.registers f.registers dest i r at (λ q h. inl h)
-                      (λ q h. inr (cover q h)),
+                      (λ q h. inr (cover.only q h)) (λ q h. ⊎_elim (λ l. inl l) (λ w. inr (cover.is q w)) h),
                 );
                 trap = λ e. let z : ⊥ = cc in z;
               }
@@ -233,30 +269,32 @@ module _ (P : Program) where
       case_keeps : (below : ℕ) (i : Instr) → slice_get r.block.body f.place ≡ Some i
           → instr_cases P I w below f.registers (StepKeeps ⊥ f) i
       case_keeps below (Binary dest op flags width x y) e =
-          λ v q. assigns_keeps I w f r (Binary dest op flags width x y) e (Some dest) _ (own dest)
+          λ v q. assigns_keeps I w f r (Binary dest op flags width x y) e (Some dest) _ (own (Binary dest op flags width x y) dest refl)
       case_keeps below (Compare dest pred ty x y) e =
-          assigns_keeps I w f r (Compare dest pred ty x y) e (Some dest) _ (own dest)
+          assigns_keeps I w f r (Compare dest pred ty x y) e (Some dest) _ (own (Compare dest pred ty x y) dest refl)
       case_keeps below (Select dest test ty x y) e =
-          assigns_keeps I w f r (Select dest test ty x y) e (Some dest) _ (own dest)
+          assigns_keeps I w f r (Select dest test ty x y) e (Some dest) _ (own (Select dest test ty x y) dest refl)
       case_keeps below (Cast dest op from x to) e =
-          assigns_keeps I w f r (Cast dest op from x to) e (Some dest) _ (own dest)
+          assigns_keeps I w f r (Cast dest op from x to) e (Some dest) _ (own (Cast dest op from x to) dest refl)
       case_keeps below (Alloca dest ty align) e =
           λ a q within. record {
-            kept = reached_assigned I w f r (Alloca dest ty align) e (Some dest) a (own dest);
+            kept = reached_assigned I w f r (Alloca dest ty align) e (Some dest) a (own (Alloca dest ty align) dest refl);
             trap = λ e. let z : ⊥ = cc in z;
           }
       case_keeps below (Load dest ty addr align) e =
-          assigns_keeps I w f r (Load dest ty addr align) e (Some dest) _ (own dest)
+          assigns_keeps I w f r (Load dest ty addr align) e (Some dest) _ (own (Load dest ty addr align) dest refl)
       case_keeps below (Store ty value addr align) e =
-          still_keeps I w f r (Store ty value addr align) e (λ q h. absurd h) _ tt
+          still_keeps I w f r (Store ty value addr align) e (assigns_none (Store ty value addr align) refl) _ tt
       case_keeps below (Gep dest inbounds ty base indices) e =
-          assigns_keeps I w f r (Gep dest inbounds ty base indices) e (Some dest) _ (own dest)
+          assigns_keeps I w f r (Gep dest inbounds ty base indices) e (Some dest) _ (own (Gep dest inbounds ty base indices) dest refl)
       case_keeps below (Call None ret callee args) e =
-          call_keeps I w f r (Call None ret callee args) e below None ret callee args (λ q h. absurd h)
-          (λ t q h. absurd h) (sound-calls P s f.function f.block f.place r.fn r.block None ret callee args where_at e)
+          call_keeps I w f r (Call None ret callee args) e below None ret callee args
+          (assigns_none (Call None ret callee args) refl) (λ t. assigns_none (Call None ret callee args) refl)
+          (sound-calls P s f.function f.block f.place r.fn r.block None ret callee args where_at e)
       case_keeps below (Call (Some dest) ret callee args) e =
-          call_keeps I w f r (Call (Some dest) ret callee args) e below (Some dest) ret callee args (own dest)
-          (λ t q h. let none : Some dest ≡ None = register t in absurd (let z : ⊥ = cc in z))
+          call_keeps I w f r (Call (Some dest) ret callee args) e below (Some dest) ret callee args
+          (own (Call (Some dest) ret callee args) dest refl)
+          (λ t. let none : Some dest ≡ None = register t in absurd (let z : ⊥ = cc in z))
           (sound-calls P s f.function f.block f.place r.fn r.block (Some dest) ret callee args where_at e)
         where
           register : ret ≡ None → Some dest ≡ None
@@ -282,6 +320,13 @@ module _ (P : Program) where
           → IsAmong (assigned_names (after_phis P.globals I.base f.registers from ps)) q
       rest_assigned from [] q h = h
       rest_assigned from (p ∷ ps) q h = inr (rest_assigned from ps q h)
+
+      phis_only : (from : List ℕ) (ps : List Phi) (q : List ℕ)
+          → IsAmong (assigned_names (after_phis P.globals I.base f.registers from ps)) q
+          → IsAmong (assigned_names f.registers) q ⊎ IsAmong (names_of (phi_registers ps)) q
+      phis_only from [] q h = inl h
+      phis_only from (p ∷ ps) q (inl e) = inr (inl e)
+      phis_only from (p ∷ ps) q (inr h) = ⊎_elim (λ l. inl l) (λ m. inr (inr m)) (phis_only from ps q h)
 
       blocks_are : blocks_of P f.function ≡ r.fn.blocks
       blocks_are = ap blocks_in r.here
@@ -335,6 +380,10 @@ module _ (P : Program) where
                     (at_end r.fn r.earlier f.block f.place r.block q r.at done l))))
                     (λ p. phis_assigned _ t.0.phis q p)
                     (over_edge r.fn r.earlier f.block c r.block t.0 q r.at t.1 h));
+                only = λ q h.
+                    ⊎_elim (λ l. by_earlier r.fn r.earlier f.block c r.block q r.at (r.only q (inl l)))
+                    (λ p. by_phi r.fn (r.earlier ++ f.block ∷ []) c t.0 q t.1 p)
+                    (phis_only _ t.0.phis q (has_now _ q h));
               })
 
       jump_keeps : (stuck : Type 0) (label : List ℕ) → drop f.place r.block.body ≡ []

@@ -21,7 +21,7 @@ module _ (P : Program) (s : IsSound P) (I : Input) where
   main_reached =
       let is : main_number P ≡ s.main.number = ap numbered_main s.main.named in
       subst (λ g. IsReached P None g 0 0 []) (sym is)
-      (entry_reached P s s.main.number s.main.function [] s.main.here none)
+      (entry_reached P s s.main.number s.main.function [] s.main.here none (λ q h. absurd h))
     where
       none : (q : List ℕ) → IsAmong (names_of (parameter_registers s.main.function)) q
           → IsAmong (assigned_names []) q

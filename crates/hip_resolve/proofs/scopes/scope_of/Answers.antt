@@ -5,6 +5,7 @@ use Rattle.hip_code.specs.Entries.{entry}
 use Rattle.hip_code.specs.Frames.{names_in}
 use Rattle.hip_runs.specs.Places.{blocks_in, blocks_of}
 use Rattle.hip_scope.specs.Listed.{Lists}
+use Rattle.hip_resolve.proofs.Walks.{extents_are}
 use Rattle.hip_resolve.proofs.Scoped.{is_there, labels_differ, places_are, sources_are}
 use Rattle.hip_scope.proofs.Sound.{names_differ}
 use Rattle.hip_resolve.proofs.scopes.scope_of.Goals as goal
@@ -36,5 +37,6 @@ returns-clause-describes c =
       labels = c.in_ok-labels-in-Some.ensures ∙ ap (λ o. map (λ b. b.label) (blocks_in o)) (sym here);
       as_long = places.as_long;
       places = λ b lt. places.at b (let long = places.as_long in omega (arith, lt, long));
+      extents = extents_are P c.args.number c.in-Some.function.now c.in_ok-extents-in-Some.extents here c.in_ok-extents-in-Some.ensures;
       sources = sources_are P c.args.number c.in-Some.function.now _ c.in_ok-sources-in-Some.sources here c.as_slice-in-Some.ensures c.in_ok-sources-in-Some.ensures;
     }

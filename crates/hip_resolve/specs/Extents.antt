@@ -1,0 +1,31 @@
+-- The extents of the blocks of a function, as the code finds them.
+use Rattle.std.specs.Prelude.{ℕ, suc, ◌+◌, ◌<◌, ◌≤◌, ◌≡◌, List, length, Some, slice_index, take}
+use Rattle.std.specs.List.{flat_map}
+use Rattle.hip_tree.specs.declared.program.Function.{Function}
+use Rattle.hip_names.specs.Names.{IsAmong, number_of}
+use Rattle.hip_sound.specs.Paths.{LeadsTo}
+use Rattle.hip_sound.specs.Registers.{block_registers, parameter_registers}
+use Rattle.hip_code.specs.declared.op.Control.TheVariants as controls
+use Rattle.hip_code.specs.declared.op.Op.{Op}
+use Rattle.hip_code.specs.declared.op.Op.TheVariants as ops
+
+-- how many slots the parameters of a function and the registers of its first k blocks take
+abbrev pub slots_to : Function → ℕ → ℕ
+slots_to fn k = length (parameter_registers fn) + length (flat_map block_registers (take k fn.blocks))
+
+-- none of these labels is that of a block below a number
+pub record LeadsNoLower (labels named : List (List ℕ)) (lowest : ℕ) : Type 0 where
+  pub at : (label : List ℕ) (c : ℕ) → IsAmong named label → number_of labels label ≡ Some c → lowest ≤ c
+
+-- Each block has at least the slots of the registers up to its end, at most all slots of the function, and no more than
+-- a block to which it leads.
+pub record AreExtents (fn : Function) (extents : List ℕ) : Type 0 where
+  pub as_long : length extents ≡ length fn.blocks
+  pub own : (b : ℕ) → b < length fn.blocks → slots_to fn (suc b) ≤ slice_index extents b
+  pub few : (b : ℕ) → b < length fn.blocks → slice_index extents b ≤ slots_to fn (length fn.blocks)
+  pub rise : (b c : ℕ) → LeadsTo fn b c → slice_index extents b ≤ slice_index extents c
+
+-- the op with that number of slots that a call keeps; an op of another kind stays as it is
+abbrev pub with_frame : ℕ → Op → Op
+with_frame frame (ops.Control (controls.Call call)) = ops.Control (controls.Call (record call { frame = frame }))
+with_frame frame o = o

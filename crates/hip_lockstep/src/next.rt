@@ -58,18 +58,15 @@ pub(crate) fn read_next<C: Cabinet>(
     ensures read { KeepsEntry count reader.old reader.new (C.state cabinet.old) (C.state cabinet.new) next.new result }
     ensures current { IsTrue (C.state cabinet.new).is_current }
 {
-    match reader.next_usual() {
-        Some(usual) => {
-            next.set_usual(usual);
+    if reader.keep_usual(next) {
+        return Ok(());
+    }
+    match next_entry(count, reader, cabinet) {
+        Ok(entry) => {
+            next.set(entry);
             Ok(())
         }
-        None => match next_entry(count, reader, cabinet) {
-            Ok(entry) => {
-                next.set(entry);
-                Ok(())
-            }
-            Err(refusal) => Err(refusal),
-        },
+        Err(refusal) => Err(refusal),
     }
 }
 

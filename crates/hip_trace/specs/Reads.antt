@@ -10,8 +10,6 @@ use Rattle.hip_trace.specs.declared.entry.Entry.{Entry}
 use Rattle.hip_trace.specs.declared.refusal.TraceRefusal.{TraceRefusal}
 use Rattle.hip_trace.specs.declared.refusal.TraceRefusal.TheVariants.{Malformed, ReadFault}
 use Rattle.hip_trace.specs.declared.refusal.Progress.{Progress}
-use Rattle.hip_trace.specs.declared.usual.Usual.{Usual}
-use Rattle.hip_trace.specs.Usuals.{usual_entry}
 use Rattle.hip_trace.specs.declared.refusal.Progress.TheVariants.{Reading, Ended, Refused}
 
 -- The bytes that a reader holds, how many texts of entries it has begun, and whether it has come to an end.
@@ -96,9 +94,9 @@ pub record HasNext (r r' : ReaderState) (s s' : CabinetState) (e : Entry) : Type
   pub count : r'.count ≡ one_more r.count
   pub progress : r'.progress ≡ Reading
 
--- The first piece ahead, which was held with its separator, spells a usual entry; no cabinet was called.
-abbrev pub HasUsual : ReaderState → ReaderState → Usual → Type 0
-HasUsual r r' usual = (s : CabinetState) → s.is_current ≡ true → HasNext r r' s s (usual_entry usual)
+-- The first piece ahead, which was held with its separator, spells the entry; no cabinet was called.
+abbrev pub HasNextHeld : ReaderState → ReaderState → Entry → Type 0
+HasNextHeld r r' e = (s : CabinetState) → s.is_current ≡ true → HasNext r r' s s e
 
 -- Nothing was ahead, and the current file is read to its end.
 pub record HasNone (r r' : ReaderState) (s s' : CabinetState) : Type 0 where

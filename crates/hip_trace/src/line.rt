@@ -87,20 +87,30 @@ fn first_field(bytes: &[u8]) -> Option<(u64, &[u8])>
     first_number(&bytes[3..])
 }
 
-fn first_store(bytes: &[u8]) -> Option<(Usual, &[u8])>
-    ensures { IfSome result (λ r. HasEntry (codes "STORE" ++ bytes.now) (usual_entry r.0) r.1.now) }
+// The hexadecimal number of the field that comes first, whose semicolon and `0x` were read already.
+#[inline(always)]
+fn rest_of_field(bytes: &[u8]) -> Option<(u64, &[u8])>
+    ensures { IfSome result (λ r. HasField (codes ";0x" ++ bytes.now) r.0 r.1.now) }
 {
-    let (addr, rest) = first_field(bytes)?;
+    first_number(bytes)
+}
+
+#[inline(always)]
+fn first_store(bytes: &[u8]) -> Option<(Usual, &[u8])>
+    ensures { IfSome result (λ r. HasEntry (codes "STORE;0x" ++ bytes.now) (usual_entry r.0) r.1.now) }
+{
+    let (addr, rest) = rest_of_field(bytes)?;
     let (value, rest) = first_field(rest)?;
     let (size, rest) = first_field(rest)?;
     let size = store_size(value, size)?;
     Some((Usual::Store { addr, value, size }, rest))
 }
 
+#[inline(always)]
 fn first_flush(bytes: &[u8]) -> Option<(Usual, &[u8])>
-    ensures { IfSome result (λ r. HasEntry (codes "FLUSH" ++ bytes.now) (usual_entry r.0) r.1.now) }
+    ensures { IfSome result (λ r. HasEntry (codes "FLUSH;0x" ++ bytes.now) (usual_entry r.0) r.1.now) }
 {
-    let (addr, rest) = first_field(bytes)?;
+    let (addr, rest) = rest_of_field(bytes)?;
     let (size, rest) = first_field(rest)?;
     let (addr, size) = some_lines(addr, size)?;
     Some((Usual::Flush { addr, size }, rest))
@@ -123,31 +133,35 @@ fn first_assert(bytes: &[u8]) -> Option<(Usual, &[u8])>
     Some((Usual::Assert { addr, size }, rest))
 }
 
+// The entry that comes first, by the words in the order in which most traces have them.
+#[inline(always)]
 fn first_entry(bytes: &[u8]) -> Option<(Usual, &[u8])>
     ensures { IfSome result (λ r. HasEntry bytes.now (usual_entry r.0) r.1.now) }
 {
-    let first = *bytes.first()?;
-    match first {
-        b'S' => first_store(after_word(bytes, b"STORE")?),
-        b'F' => flush_or_fence(bytes),
-        b'P' => first_persist(after_word(bytes, b"PERSIST")?),
-        b'A' => first_assert(after_word(bytes, b"ASSERT")?),
-        _ => None,
+    match after_word(bytes, b"STORE;0x") {
+        Some(rest) => first_store(rest),
+        None => match after_word(bytes, b"FLUSH;0x") {
+            Some(rest) => first_flush(rest),
+            None => match after_word(bytes, b"FENCE") {
+                Some(rest) => Some((Usual::Fence, rest)),
+                None => persist_or_assert(bytes),
+            },
+        },
     }
 }
 
-#[inline(always)]
-fn flush_or_fence(bytes: &[u8]) -> Option<(Usual, &[u8])>
+fn persist_or_assert(bytes: &[u8]) -> Option<(Usual, &[u8])>
     ensures { IfSome result (λ r. HasEntry bytes.now (usual_entry r.0) r.1.now) }
 {
-    match after_word(bytes, b"FENCE") {
-        Some(rest) => Some((Usual::Fence, rest)),
-        None => first_flush(after_word(bytes, b"FLUSH")?),
+    match after_word(bytes, b"PERSIST") {
+        Some(rest) => first_persist(rest),
+        None => first_assert(after_word(bytes, b"ASSERT")?),
     }
 }
 
 /// The line that comes first, if it is STORE, FLUSH, FENCE, PERSIST or ASSERT in its canonical text, and there are 16
 /// bytes or more for the digits of each number.
+#[inline(always)]
 pub(crate) fn first_line(bytes: &[u8]) -> Option<Line>
     ensures { IfSome result (λ line. IsFirstLine bytes.now line) }
 {

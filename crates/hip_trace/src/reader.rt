@@ -1,8 +1,9 @@
 //! The entries of a file, one after the other.
 
-ghost use Rattle.std.specs.Prelude.{◌≡◌, ◌+◌, ◌≤◌, ◌<◌, [], None, drop, length, IfSome, IsTrue};
+ghost use Rattle.std.specs.Prelude.{◌≡◌, ◌+◌, ◌≤◌, ◌<◌, [], None, drop, false, length, IfSome, IsTrue};
 ghost use Rattle.hip_trace.specs.Fronts.{AnswersFront, AnswersPiece, IsFrontOf};
-ghost use Rattle.hip_trace.specs.Reads.{HasUsual, ReadsNext, ReadsOn, TakesAtNeed, one_more};
+ghost use Rattle.hip_trace.specs.Reads.{HasNextHeld, ReadsNext, ReadsOn, TakesAtNeed, one_more};
+ghost use Rattle.hip_trace.specs.Usuals.{usual_entry};
 ghost use Rattle.hip_trace.specs.declared.refusal.Progress.TheVariants.{Reading};
 
 use crate::entry::Entry;
@@ -11,7 +12,7 @@ use crate::held::Held;
 use crate::line::first_line;
 use crate::refusal::{Progress, TraceRefusal};
 use crate::spelled::entry_of;
-use crate::usual::Usual;
+use crate::usual::{KeptEntry, Usual};
 use hip_io::Cabinet;
 use std::marker::Model;
 
@@ -65,11 +66,28 @@ impl Reader {
         }
     }
 
-    /// The entry of the first line, if the reader holds the whole line and some bytes after it, and the line is the
-    /// canonical text of a usual entry. `next` answers the same entry, and reads all other lines too.
-    pub fn next_usual(&mut self) -> Option<Usual>
+    /// Keeps the entry of the first line, if the reader holds the whole line and some bytes after it, and the line is the
+    /// canonical text of a usual entry; it answers whether that is so. `next` answers the same entry, and reads all
+    /// other lines too.
+    pub fn keep_usual(&mut self, kept: &mut KeptEntry) -> bool
         requires { self.old.progress ≡ Reading }
-        ensures read { IfSome result (λ usual. HasUsual self.old self.new usual) }
+        ensures read { IsTrue result → HasNextHeld self.old self.new kept.new }
+        ensures left { result ≡ false → self.new ≡ self.old }
+    {
+        match self.next_usual() {
+            Some(usual) => {
+                kept.set_usual(usual);
+                true
+            }
+            None => false,
+        }
+    }
+
+    // The entry of the first line, if it is a usual one that is held.
+    #[inline(always)]
+    fn next_usual(&mut self) -> Option<Usual>
+        requires { self.old.progress ≡ Reading }
+        ensures read { IfSome result (λ usual. HasNextHeld self.old self.new (usual_entry usual)) }
         ensures left { result ≡ None → self.new ≡ self.old }
     {
         match first_line(self.held.as_slice()) {

@@ -1,7 +1,6 @@
 ghost use Rattle.std.specs.Prelude.{◌≡◌, ◌<◌, ◌≤◌, IfSome, Some, slice_get};
 ghost use Rattle.hip_code.specs.Ops.{OpWithin, is_end};
 ghost use Rattle.hip_machine.specs.Acts.{IsReady, numbers_of};
-ghost use Rattle.hip_engine.specs.LocalSteps.{is_local_op};
 ghost use Rattle.hip_engine.specs.OpsAhead.{may_point, site_by};
 ghost use Rattle.hip_engine.specs.StoresAhead.{store_in};
 
@@ -88,26 +87,4 @@ pub fn may_point_here(core: &Core, code: &Code) -> bool
 {
     let op = &code.ops[core.top.place];
     may_point(op)
-}
-
-// Whether an op may be a local step: it gives a value, loads or branches.
-#[inline(always)]
-fn may_be_local(op: &Op) -> bool
-    ensures { result ≡ is_local_op op.now }
-{
-    match op {
-        Op::Value { .. } => true,
-        Op::Memory(memory) => matches!(memory, Memory::Load { .. }),
-        Op::Control(control) => matches!(control, Control::Go(_)),
-    }
-}
-
-/// Whether the op at the core's place may be a local step.
-#[inline(always)]
-pub fn may_be_local_here(core: &Core, code: &Code) -> bool
-    requires { IsReady code.now core.now }
-    ensures { (op : Op) → slice_get code.now.ops.items core.now.top.place ≡ Some op → result ≡ is_local_op op }
-{
-    let op = &code.ops[core.top.place];
-    may_be_local(op)
 }

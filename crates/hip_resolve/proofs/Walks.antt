@@ -1,5 +1,5 @@
 -- The extents of blocks: how the walk finds them, and what they cover.
-use Rattle.std.proofs.Common.{◌≡◌, ◌⊎◌, ℕ, zero, suc, ◌+◌, ◌<◌, ◌≤◌, Bool, true, false, cond, nat_lt, ltb-true, ltb-false, List, [], ◌∷◌, ◌++◌, length, map, take, drop, get_or, add-one, Option, Some, None, slice_get, slice_index, slice_set, option_map, refl, sym, ap, ◌∙◌, subst, inl, inr, ⊎_elim, arith, append_assoc, get_or-set_same, get_or-set_other, length-set, eq-or-lt_of_le}
+use Rattle.std.proofs.Common.{◌≡◌, ℕ, zero, suc, ◌+◌, ◌<◌, ◌≤◌, Bool, true, false, cond, nat_lt, ltb-true, ltb-false, List, [], ◌∷◌, ◌++◌, length, map, take, drop, get_or, add-one, Option, Some, None, slice_get, slice_index, slice_set, option_map, refl, sym, ap, ◌∙◌, subst, inl, inr, ⊎_elim, arith, append_assoc, get_or-set_same, get_or-set_other, eq-or-lt_of_le}
 use Rattle.std.specs.Prelude.{unwrap_or}
 use Rattle.std.specs.List.{flat_map}
 use Rattle.std.proofs.lemmas.Grind.{flat_map-append}
@@ -15,11 +15,11 @@ use Rattle.hip_types.specs.Laws.DistinctLaws.{get_kept}
 use Rattle.hip_names.specs.Names.{IsAmong, number_of}
 use Rattle.hip_names.specs.Laws.NameLaws.{among-left, among-right, among-either}
 use Rattle.hip_names.specs.Laws.NumberLaws.{number_of-known, number_of-least}
-use Rattle.hip_sound.specs.Paths.{IsChain, LeadsTo, label_at, labels_named_at, names_of, whole_block_names}
+use Rattle.hip_sound.specs.Paths.{IsChain, LeadsTo, label_at, names_of, whole_block_names}
 use Rattle.hip_sound.specs.Registers.{Register, assigned_by, block_registers, body_registers, end_labels, parameter_registers}
 use Rattle.hip_sound.specs.Sound.{register_names}
 use Rattle.hip_runs.specs.Places.{blocks_in}
-use Rattle.hip_code.specs.Extents.{IsExtent, MayHaveValue}
+use Rattle.hip_code.specs.Extents.{MayHaveValue}
 use Rattle.hip_code.specs.Frames.{names_at, names_in}
 use Rattle.hip_scope.specs.Listed.{HasExtents}
 use Rattle.hip_resolve.specs.Extents.{AreExtents, LeadsNoLower, slots_to}

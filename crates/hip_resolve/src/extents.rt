@@ -1,10 +1,9 @@
 //! How many slots a frame keeps during a call, for each block of its function.
 
-ghost use Rattle.std.specs.Prelude.{◌≡◌, ◌+◌, ◌≤◌, nat_lt, length, map, if◌then◌else◌, IfOk, OnOk};
+ghost use Rattle.std.specs.Prelude.{◌≡◌, ◌+◌, ◌≤◌, [], ◌∷◌, nat_lt, length, map, if◌then◌else◌, IfOk, OnOk};
 ghost use Rattle.hip_resolve.specs.Extents.{AreExtents, LeadsNoLower};
 ghost use Rattle.hip_sound.specs.Registers.{assigned_by, block_registers, body_registers, end_labels};
 ghost use Rattle.hip_sound.specs.Sound.{register_names};
-ghost use Rattle.std.specs.Prelude.{[], ◌∷◌};
 
 use hip_names::NameSet;
 use hip_scope::place;

@@ -1,4 +1,4 @@
-use Rattle.std.proofs.Common.{List, [], ◌∷◌, ◌+◌, ◌++◌, map, take, ap, sym, subst, arith}
+use Rattle.std.proofs.Common.{[], ◌∷◌, sym, subst, arith}
 use Rattle.hip_tree.specs.declared.block.Case.{Case}
 use Rattle.hip_resolve.specs.Extents.{LeadsNoLower}
 use Rattle.hip_resolve.proofs.Walks.{case_taken, named_lower, named_more}

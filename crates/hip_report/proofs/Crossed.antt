@@ -23,7 +23,7 @@ use Rattle.hip_report.proofs.Locally.{goes_on, goes_one_more, one_more}
 use Rattle.hip_report.proofs.Stepping.{has_taken}
 
 -- an instruction without a pointer operand has no marks
-none_pointed : (P : Program) (I : Input) (s : State) → pointer_of P I s 0 ≡ None → marks_ahead P I s ≡ []
+pub none_pointed : (P : Program) (I : Input) (s : State) → pointer_of P I s 0 ≡ None → marks_ahead P I s ≡ []
 none_pointed P I s none = by (next_site P s) refl
   where
     by : (o : Option Site) → next_site P s ≡ o → marks_ahead P I s ≡ []

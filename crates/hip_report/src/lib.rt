@@ -1,6 +1,7 @@
 //! What runs find: a tracker that notes each step of a machine, and gives the reports and marks of the run.
 #![tactic(auto)]
 
+mod acting;
 mod passing;
 mod sight;
 mod step;

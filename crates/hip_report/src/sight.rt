@@ -1,5 +1,7 @@
-ghost use Rattle.std.specs.Prelude.{◌≡◌, ◌+◌, ◌++◌, ◌∷◌, ℕ, [], None, Some, map, slice_get, IfOk, OnOk};
+ghost use Rattle.std.specs.Prelude.{◌≡◌, ◌+◌, ◌++◌, ◌∷◌, ℕ, [], None, Some, map, slice_get, IfOk, IfSome, IsTrue, OnOk};
+ghost use Rattle.hip_engine.specs.OpsAhead.{PointsTo};
 ghost use Rattle.hip_engine.specs.Quiet.{next_event};
+ghost use Rattle.hip_runs.specs.Found.Marks.{mark_of};
 ghost use Rattle.hip_runs.specs.Found.Objects.{global_at, object_at};
 ghost use Rattle.hip_runs.specs.Seen.{next_site, pointer_of, state_of};
 ghost use Rattle.hip_notes.specs.MetMarks.{AreMet};
@@ -52,6 +54,93 @@ pub fn look(alloc: Global, notes: &Notes, machine: &Machine<'_>) -> Result<Sight
         depth: machine.depth(),
         pointed,
     })
+}
+
+/// Looks at a store to an address, which is the next instruction. None if its mark may be new, and if the run has ended.
+#[inline(always)]
+pub fn look_at_store(
+    alloc: Global,
+    notes: &Notes,
+    machine: &Machine<'_>,
+    addr: u64,
+) -> Option<Sight>
+    requires known { AreMet notes.now.marks.keys notes.now.recent.items }
+    requires points { PointsTo machine.now addr }
+    ensures { IfSome result (λ s. Sees machine.now.program machine.now.input (state_of machine.now) notes.now s) }
+{
+    if machine.ending().is_some() {
+        return None;
+    }
+    let site = machine.site()?;
+    let pointed = known_at(alloc, notes, machine, site, addr)?;
+    Some(Sight {
+        ended: false,
+        site: Some(site),
+        depth: machine.depth(),
+        pointed,
+    })
+}
+
+/// Looks at a step without a pointer operand. None if it may have one, and if the run has ended.
+#[inline(always)]
+pub fn look_at_nothing(alloc: Global, notes: &Notes, machine: &Machine<'_>) -> Option<Sight>
+    ensures { IfSome result (λ s. Sees machine.now.program machine.now.input (state_of machine.now) notes.now s) }
+{
+    if machine.ending().is_some() {
+        return None;
+    }
+    if machine.may_point() {
+        return None;
+    }
+    Some(Sight {
+        ended: false,
+        site: machine.site(),
+        depth: machine.depth(),
+        pointed: nothing_pointed(alloc),
+    })
+}
+
+// What one pointer operand of this value points into, without a mark. None if its mark may be new.
+#[inline(always)]
+fn known_at(
+    alloc: Global,
+    notes: &Notes,
+    machine: &Machine<'_>,
+    site: Site,
+    addr: u64,
+) -> Option<Pointed>
+    requires { AreMet notes.now.marks.keys notes.now.recent.items }
+    ensures marks { IfSome result (λ pointed. AddAlike notes.now.marks.keys pointed.marks
+        (mark_by machine.now.program machine.now.input (state_of machine.now) site 0 (Some addr))) }
+    ensures last { IfSome result (λ pointed. TellsGlobal machine.now.program machine.now.input pointed.last) }
+{
+    let target = target_at(machine, addr);
+    if !is_known(notes, site, target.object) {
+        return None;
+    }
+    Some(Pointed {
+        marks: Row::new(alloc),
+        last: Some(target),
+    })
+}
+
+// Whether the first operand of the instruction at a site has no mark in an object, or one of the recent ones.
+#[inline(always)]
+fn is_known(notes: &Notes, site: Site, object: Option<Object>) -> bool
+    requires { AreMet notes.now.marks.keys notes.now.recent.items }
+    ensures { IsTrue result → AddAlike notes.now.marks.keys [] (mark_of site 0 object) }
+{
+    match object {
+        None => true,
+        Some(object) => is_recent(
+            notes.recent.as_slice(),
+            Mark {
+                site,
+                operand: 0,
+                object,
+            },
+        ),
+    }
 }
 
 // What the pointer operands of the next step point into.

@@ -169,6 +169,7 @@ fn forget(alloc: Global, notes: &mut Notes, machine: &Machine<'_>)
 }
 
 /// Notes the step that a machine has taken.
+#[inline(always)]
 pub fn note_step(
     alloc: Global,
     notes: &mut Notes,

@@ -9,9 +9,8 @@ ghost use Rattle.hip_report.specs.Passing.{StopsShort};
 ghost use Rattle.hip_report.specs.Stepping.{TakesStep};
 ghost use Rattle.hip_report.specs.Tracking.{HasNoted, HasNotes, IsSource, MayAdvance, MayNote};
 
+use crate::acting::{step_generally, take_step};
 use crate::passing::{is_quiet, pass_along};
-use crate::sight::look;
-use crate::step::note_step;
 use hip_cache::Machine;
 use hip_findings::SharedFindings;
 use hip_notes::{Notes, globals_of, marks_of};
@@ -178,10 +177,7 @@ fn advance_in<'a>(
     ensures err { OnErr result ((machine.new ≡ machine.old) ⊎ (machine.new ≡ after_step machine.old)) }
 {
     begin(source, notes, machine);
-    let sight = look(alloc, notes, machine)?;
-    let event = machine.step()?;
-    note_step(alloc, notes, &sight, event, machine)?;
-    Ok(event)
+    step_generally(alloc, notes, machine)
 }
 
 // Takes a machine's steps up to the next event and notes them.
@@ -200,9 +196,7 @@ fn next_event_in<'a>(
     begin(source, notes, machine);
     'steps: loop {
         pass_along(alloc, notes, machine)?;
-        let sight = look(alloc, notes, machine)?;
-        let event = machine.step()?;
-        note_step(alloc, notes, &sight, event, machine)?;
+        let event = take_step(alloc, notes, machine)?;
         if !is_quiet(event) {
             return Ok(event);
         }

@@ -1,6 +1,6 @@
-use Rattle.std.proofs.Common.{◌≡◌, ◌∙◌, ◌+◌, ◌-◌, ◌^◌, ◌<◌, arith, ap, refl}
+use Rattle.std.proofs.Common.{◌∙◌, ◌^◌, ◌<◌, arith, refl}
 use Rattle.hip_engine.proofs.Quietly.{no_steps, steps_then}
-use Rattle.hip_runs.specs.Seen.{Seen}
+use Rattle.hip_notes.proofs.noting.Assembled.{few_at}
 use Rattle.hip_report.proofs.Locally.{same_short}
 use Rattle.hip_report.proofs.passing.pass_along.Goals as goal
 
@@ -36,3 +36,9 @@ passing-preserved c = record {
   noted = c.in_ok-cross_over.ensures.noted;
   header = c.in_ok-cross_over.ensures.header ∙ c.pass_locally.ensures.header ∙ c.passing.invariant.header;
 }
+
+pub returns-then-acts_next-clause-few : goal.returns-then-acts_next-clause-few
+returns-then-acts_next-clause-few c =
+    let m = c.args.machine.now in
+    let few : m.taken < 2 ^ 127 = few_at m.program m.input m.taken c.args.notes.now c.requires.noted (c.runs_are_bounded.ensures.bounded m.program m.input m.taken) c.input-input.ensures.valid.limit c.requires.short in
+    omega (arith, few)

@@ -1,4 +1,4 @@
-use Rattle.std.proofs.Common.{inl, inr, ◌-◌, ◌^◌, ◌<◌, arith, refl, ap, ◌∙◌, sym}
+use Rattle.std.proofs.Common.{inl, ◌-◌, ◌^◌, ◌<◌, arith, refl, ap, ◌∙◌, sym}
 use Rattle.hip_engine.specs.Quiet.{ComesTo}
 use Rattle.hip_engine.proofs.Quietly.{no_steps, steps_then}
 use Rattle.hip_runs.specs.Seen.{Seen}
@@ -16,18 +16,10 @@ pass_along-requires c = record {
   short = same_short c.args.machine.now c.steps.machine c.steps.invariant.quiet c.begin.ensures.short;
 }
 
-pub look-requires : goal.look-requires
-look-requires c = c.in_ok-pass_along.ensures.noted.recent
-
-pub note_step-requires : goal.note_step-requires
-note_step-requires c = record {
-  before = c.pass_along.new.machine;
-  takes = record { step = c.in_ok-event.ensures.ok; event = c.in_ok-event.ensures.event };
-  sees = c.in_ok-sight.ensures;
-  tracks = record {
-    noted = c.in_ok-pass_along.ensures.noted;
-    short = same_short c.steps.machine c.pass_along.new.machine c.pass_along.ensures.passes (same_short c.args.machine.now c.steps.machine c.steps.invariant.quiet c.begin.ensures.short);
-  };
+pub take_step-requires : goal.take_step-requires
+take_step-requires c = record {
+  noted = c.in_ok-pass_along.ensures.noted;
+  short = same_short c.steps.machine c.pass_along.new.machine c.pass_along.ensures.passes (same_short c.args.machine.now c.steps.machine c.steps.invariant.quiet c.begin.ensures.short);
 }
 
 pub steps-preserved : goal.steps-preserved
@@ -35,64 +27,46 @@ steps-preserved c =
     let quiet = steps_then c.args.machine.now c.steps.machine c.pass_along.new.machine c.steps.invariant.quiet c.pass_along.ensures.passes in
     let none = c.is_quiet.ensures.0 c.if-not-is_quiet.false in
     record {
-      quiet = goes_one_more c.args.machine.now c.pass_along.new.machine c.step.new.self quiet c.in_ok-event.ensures.ok (sym c.in_ok-event.ensures.event ∙ none);
-      noted = c.in_ok-note_step.ensures.noted;
-      header = c.in_ok-note_step.ensures.header ∙ c.in_ok-pass_along.ensures.header ∙ c.steps.invariant.header;
+      quiet = goes_one_more c.args.machine.now c.pass_along.new.machine c.take_step.new.machine quiet c.in_ok-event.ensures.ok.step (sym c.in_ok-event.ensures.ok.event ∙ none);
+      noted = c.in_ok-event.ensures.noted;
+      header = c.in_ok-event.ensures.header ∙ c.in_ok-pass_along.ensures.header ∙ c.steps.invariant.header;
     }
 
 pub steps-smaller : goal.steps-smaller
 steps-smaller c =
     let none = c.is_quiet.ensures.0 c.if-not-is_quiet.false in
     let passed = ap (λ (m : Seen). m.taken) c.pass_along.ensures.passes.is in
-    let next = ap (λ (m : Seen). m.taken) (one_more c.pass_along.new.machine c.step.new.self c.in_ok-event.ensures.ok (sym c.in_ok-event.ensures.event ∙ none)) in
+    let next = ap (λ (m : Seen). m.taken) (one_more c.pass_along.new.machine c.take_step.new.machine c.in_ok-event.ensures.ok.step (sym c.in_ok-event.ensures.ok.event ∙ none)) in
     let before = c.steps.invariant.noted.steps in
-    let after = c.in_ok-note_step.ensures.noted.steps in
+    let after = c.in_ok-event.ensures.noted.steps in
     let few = c.in_ok-pass_along.ensures.few in
-    let e : 2 ^ 128 - c.note_step.new.notes.steps < 2 ^ 128 - c.steps.notes.steps = omega (arith, passed, next, before, after, few) in e
+    let e : 2 ^ 128 - c.take_step.new.notes.steps < 2 ^ 128 - c.steps.notes.steps = omega (arith, passed, next, before, after, few) in e
 
 pub returns-then-not-is_quiet : goal.returns-then-not-is_quiet
 returns-then-not-is_quiet c =
     let m = c.args.machine.now in
-    let there : ComesTo m c.step.new.self c.in_ok-event.event = record {
+    let there : ComesTo m c.take_step.new.machine c.in_ok-event.event = record {
       before = c.pass_along.new.machine;
       quiet = steps_then m c.steps.machine c.pass_along.new.machine c.steps.invariant.quiet c.pass_along.ensures.passes;
-      step = c.in_ok-event.ensures.ok;
-      is = c.in_ok-event.ensures.event;
+      step = c.in_ok-event.ensures.ok.step;
+      is = c.in_ok-event.ensures.ok.event;
       some = λ quiet. let is = c.is_quiet.ensures.1 quiet in let not = c.if-not-is_quiet.true in let z : ⊥ = cc in z;
     } in
     record {
       ok = there;
-      noted = has_notes c.begin.new.source m c.step.new.self c.note_step.new.notes c.begin.ensures.source c.begin.ensures.short (event_in_run m c.step.new.self c.in_ok-event.event there) c.in_ok-note_step.ensures.noted;
-      header = c.in_ok-note_step.ensures.header ∙ c.in_ok-pass_along.ensures.header ∙ c.steps.invariant.header;
+      noted = has_notes c.begin.new.source m c.take_step.new.machine c.take_step.new.notes c.begin.ensures.source c.begin.ensures.short (event_in_run m c.take_step.new.machine c.in_ok-event.event there) c.in_ok-event.ensures.noted;
+      header = c.in_ok-event.ensures.header ∙ c.in_ok-pass_along.ensures.header ∙ c.steps.invariant.header;
       err = tt;
     }
 
-pub returns-in_err-sight-clause-err : goal.returns-in_err-sight-clause-err
-returns-in_err-sight-clause-err c =
-    let stops : StopsShort c.args.machine.now c.pass_along.new.machine = record {
-      before = c.pass_along.new.machine;
-      quiet = steps_then c.args.machine.now c.steps.machine c.pass_along.new.machine c.steps.invariant.quiet c.pass_along.ensures.passes;
-      is = inl refl;
-    } in
-    on_err c.from_residual-in_err-sight.result stops
-
 pub returns-in_err-event-clause-err : goal.returns-in_err-event-clause-err
 returns-in_err-event-clause-err c =
-    let stops : StopsShort c.args.machine.now c.step.new.self = record {
+    let stops : StopsShort c.args.machine.now c.take_step.new.machine = record {
       before = c.pass_along.new.machine;
       quiet = steps_then c.args.machine.now c.steps.machine c.pass_along.new.machine c.steps.invariant.quiet c.pass_along.ensures.passes;
-      is = inl c.in_err-event.ensures.err;
+      is = c.in_err-event.ensures.err;
     } in
     on_err c.from_residual-in_err-event.result stops
-
-pub returns-in_err-note_step-clause-err : goal.returns-in_err-note_step-clause-err
-returns-in_err-note_step-clause-err c =
-    let stops : StopsShort c.args.machine.now c.step.new.self = record {
-      before = c.pass_along.new.machine;
-      quiet = steps_then c.args.machine.now c.steps.machine c.pass_along.new.machine c.steps.invariant.quiet c.pass_along.ensures.passes;
-      is = inr c.in_ok-event.ensures.ok;
-    } in
-    on_err c.from_residual-in_err-note_step.result stops
 
 pub returns-in_err-pass_along-clause-err : goal.returns-in_err-pass_along-clause-err
 returns-in_err-pass_along-clause-err c =

@@ -110,6 +110,7 @@ pub fn note_marks(
 }
 
 /// Appends the number of a global to those that were met, unless it is one of them.
+#[inline(always)]
 pub fn meet_global(
     hit: &mut IndexSet<usize>,
     flags: &mut Vec<bool>,
@@ -122,10 +123,25 @@ pub fn meet_global(
     if was_hit(flags.as_slice(), number) {
         return Ok(());
     }
+    add_global(hit, flags, number)
+}
+
+// The same, by a look-up.
+#[inline(never)]
+fn add_global(
+    hit: &mut IndexSet<usize>,
+    flags: &mut Vec<bool>,
+    number: usize,
+) -> Result<(), NoMemory>
+    requires { WereHit hit.old.keys flags.old.items }
+    ensures hit { OnOk result (hit.new.keys ≡ met nat_eq hit.old.keys (number ∷ [])) }
+    ensures known { OnOk result (WereHit hit.new.keys flags.new.items) }
+{
     let _is_new = hit.insert(number)?;
     flag(flags, number)
 }
 
+#[inline(always)]
 fn was_hit(flags: &[bool], number: usize) -> bool
     ensures { result ≡ true → slice_get flags.now number ≡ Some true }
 {

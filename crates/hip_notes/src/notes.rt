@@ -95,6 +95,7 @@ impl Notes {
     }
 
     /// Appends the reports of what a step with this event checks, whose entry has this number.
+    #[inline(always)]
     pub fn note_check(
         &mut self,
         alloc: Global,
@@ -119,7 +120,9 @@ impl Notes {
         }
     }
 
-    // The reports of a check of a range; only the part of the range in the region counts.
+    // The reports of a check of a range; only the part of the range in the region counts. The code of a caller stays
+    // small, since this is a function of its own.
+    #[inline(never)]
     fn check_within(
         &mut self,
         alloc: Global,
@@ -157,6 +160,7 @@ impl Notes {
     }
 
     /// Notes what a step with this event does to pending stores.
+    #[inline(always)]
     pub fn note_memory(
         &mut self,
         alloc: Global,

@@ -198,7 +198,7 @@ module _ (fn : Function) where
     abbrev pub new : List ℕ
     new = slice_set extents d chosen
 
-    -- what holds of the block and of those behind it
+    -- what holds of the block and of those that were passed
     on_each : (Q : ℕ → ℕ → Type 0) → Q d chosen → ((b : ℕ) → at ≤ b → Q b (slice_index extents b)) → (b : ℕ) → d ≤ b → Q b (slice_index new b)
     on_each Q first later b le =
         ⊎_elim (λ s. subst (λ k. Q k (slice_index new k)) s (subst (Q d) (sym there) first))

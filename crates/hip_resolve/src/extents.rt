@@ -82,8 +82,8 @@ fn lowest(labels: &NameSet<'_>, end: &End, low: usize) -> usize
 
 // ---- extents
 
-/// A walk over the blocks of a function from the last one to the first: how many slots the registers of the blocks ahead
-/// and the parameters take; the lowest block to which a block behind leads; and the extent of the block behind.
+/// A walk over the blocks of a function from the last one to the first: how many slots the parameters and the registers of
+/// the blocks that are left take; the lowest block to which a passed block leads; and the extent of the block passed last.
 #[derive(Drop)]
 struct Walk {
     slots: usize,
@@ -91,7 +91,7 @@ struct Walk {
     extent: u32,
 }
 
-/// Passes a block. If a block behind it leads to it or to one ahead, it has the extent of the block behind, else it has
+/// Passes a block. If a passed block leads to it or to one that is left, it has the extent of the block passed last, else
 /// the slots up to its end.
 fn pass(walk: &mut Walk, labels: &NameSet<'_>, block: &Block, number: usize) -> Result<(), NoMemory>
     requires { length (block_registers block.now) ≤ walk.old.slots }

@@ -2,7 +2,6 @@
 #![tactic(auto)]
 
 mod files;
-mod held_bytes;
 mod stream;
 
 pub use files::FileCabinet;

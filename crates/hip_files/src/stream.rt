@@ -1,28 +1,31 @@
 ghost use Rattle.std.specs.Prelude.{◌≡◌, ◌≤◌, [], None, length};
 ghost use Rattle.hip_io.specs.Counts.{Rose};
 
-use crate::held_bytes::{HeldBytes, MOST_HELD};
 use hip_io::{Put, Sink};
+use std::alloc::Global;
 use std::io::{ErrorKind, Write};
+
+/// How many bytes are held back at most.
+const MOST_HELD: usize = 8_192;
 
 /// A stream of bytes that leaves the process. Contracts see nothing of what was written. It holds bytes back until they
 /// are delivered, until they are many, or, if lines go out at once, until a piece ends in a line feed.
 #[derive(Drop)]
 pub struct Stream<W> {
     out: W,
-    held: HeldBytes,
+    held: Vec<u8>,
     lines: bool,
     faults: u64,
 }
 
 impl<W: Write + Drop> Stream<W> {
     /// A stream that holds nothing back yet.
-    pub fn new(out: W, lines: bool) -> Stream<W>
+    pub fn new(alloc: Global, out: W, lines: bool) -> Stream<W>
         ensures { ⟦<Stream<W> as Sink>⟧.held result ≡ 0 }
     {
         Stream {
             out,
-            held: HeldBytes::new(),
+            held: Vec::new(alloc),
             lines,
             faults: 0,
         }
@@ -33,7 +36,7 @@ impl<W: Write + Drop> Stream<W> {
         ensures fails { result ≡ Put.Failed }
         ensures later { self.old.faults ≤ self.new.faults }
         ensures rose { Rose self.old.faults self.new.faults }
-        ensures held { length self.new.held ≡ length self.old.held }
+        ensures held { length self.new.held.items ≡ length self.old.held.items }
     {
         self.faults = self.faults.saturating_add(1);
         Put::Failed
@@ -41,7 +44,7 @@ impl<W: Write + Drop> Stream<W> {
 
     /// Writes what is held back. What could not be written stays held.
     fn send(&mut self) -> Put
-        ensures all { result ≡ Put.Done → length self.new.held ≡ 0 }
+        ensures all { result ≡ Put.Done → length self.new.held.items ≡ 0 }
         ensures works { result ≡ Put.Done → self.new.faults ≡ self.old.faults }
         ensures later { self.old.faults ≤ self.new.faults }
         ensures rose { result ≡ Put.Failed → Rose self.old.faults self.new.faults }
@@ -51,13 +54,13 @@ impl<W: Write + Drop> Stream<W> {
             self.held.clear();
             return Put::Done;
         }
-        self.held.drop_front(count);
+        self.held.drain(..count);
         self.fail()
     }
 
     /// Writes a piece while nothing is held back.
     fn send_piece(&mut self, piece: &[u8]) -> Put
-        ensures held { length self.new.held ≡ length self.old.held }
+        ensures held { length self.new.held.items ≡ length self.old.held.items }
         ensures works { result ≡ Put.Done → self.new.faults ≡ self.old.faults }
         ensures later { self.old.faults ≤ self.new.faults }
         ensures rose { result ≡ Put.Failed → Rose self.old.faults self.new.faults }
@@ -68,27 +71,19 @@ impl<W: Write + Drop> Stream<W> {
         self.fail()
     }
 
-    /// Puts a piece where there is no room for it, or where lines go out at once.
-    #[inline(never)]
-    fn put_now(&mut self, piece: &[u8]) -> Put
+    /// Holds a piece back, or writes it if it is long or there is no memory to hold it.
+    fn hold(&mut self, piece: &[u8]) -> Put
         ensures works { result ≡ Put.Done → self.new.faults ≡ self.old.faults }
         ensures later { self.old.faults ≤ self.new.faults }
         ensures rose { result ≡ Put.Failed → Rose self.old.faults self.new.faults }
     {
-        if piece.len() > self.held.room() {
-            match self.send() {
-                Put::Done => {}
-                Put::Failed => return Put::Failed,
-            }
+        if piece.len() <= MOST_HELD && self.held.extend_from_slice(piece).is_ok() {
+            return Put::Done;
         }
-        if piece.len() > MOST_HELD {
-            return self.send_piece(piece);
+        match self.send() {
+            Put::Done => self.send_piece(piece),
+            Put::Failed => Put::Failed,
         }
-        self.held.append(piece);
-        if self.lines && piece.ends_with(b"\n") {
-            return self.send();
-        }
-        Put::Done
     }
 }
 
@@ -116,14 +111,21 @@ impl<W: Write + Drop> Sink for Stream<W> {
 
     ghost state = { λ s. record { bytes = None; faults = s.faults } };
 
-    ghost held = { λ s. length s.held };
+    ghost held = { λ s. length s.held.items };
 
     fn put(&mut self, bytes: &[u8]) -> Put {
-        if self.lines || bytes.len() > self.held.room() {
-            return self.put_now(bytes);
+        let held = self.held.len();
+        if held > 0 && bytes.len() > MOST_HELD.saturating_sub(held) {
+            match self.send() {
+                Put::Done => {}
+                Put::Failed => return Put::Failed,
+            }
         }
-        self.held.append(bytes);
-        Put::Done
+        let put = self.hold(bytes);
+        if put == Put::Done && self.lines && bytes.ends_with(b"\n") {
+            return self.send();
+        }
+        put
     }
 
     fn deliver(&mut self) -> Put {

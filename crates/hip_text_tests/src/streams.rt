@@ -3,6 +3,7 @@
 use hip_examples::AMPLE;
 use hip_files::Stream;
 use hip_io::{Put, Sink};
+use std::alloc::Global;
 use std::io::{Result, Write};
 use std::process::Abort;
 
@@ -45,16 +46,16 @@ fn device_with(room: usize) -> Device {
 }
 
 /// Puts pieces into a stream of a device, and delivers nothing.
-fn put_pieces(rt: &impl Abort, device: &mut Device, lines: bool, pieces: &[&[u8]]) {
-    let mut stream = Stream::new(device, lines);
+fn put_pieces(rt: &impl Abort, alloc: Global, device: &mut Device, lines: bool, pieces: &[&[u8]]) {
+    let mut stream = Stream::new(alloc, device, lines);
     for piece in pieces {
         assert!(rt; stream.put(piece) == Put::Done);
     }
 }
 
 /// Puts 10,000 lines into a stream of a device, and delivers them.
-fn put_many(rt: &impl Abort, device: &mut Device) {
-    let mut stream = Stream::new(device, false);
+fn put_many(rt: &impl Abort, alloc: Global, device: &mut Device) {
+    let mut stream = Stream::new(alloc, device, false);
     for _ in 0..10_000 {
         assert!(rt; stream.put(b"12345\n") == Put::Done);
     }
@@ -64,7 +65,7 @@ fn put_many(rt: &impl Abort, device: &mut Device) {
 #[test]
 fn pieces_are_written_together(rt: HostRuntime) {
     let mut device = device_with(100_000);
-    put_many(&rt, &mut device);
+    put_many(&rt, rt.alloc(), &mut device);
     assert_eq!(&rt; device.taken, 60_000);
     assert_eq!(&rt; device.writes, 8);
 }
@@ -72,16 +73,16 @@ fn pieces_are_written_together(rt: HostRuntime) {
 #[test]
 fn lines_are_written_at_once(rt: HostRuntime) {
     let mut held = device_with(100);
-    put_pieces(&rt, &mut held, true, &[b"1"]);
+    put_pieces(&rt, rt.alloc(), &mut held, true, &[b"1"]);
     assert_eq!(&rt; held.writes, 0);
     let mut device = device_with(100);
-    put_pieces(&rt, &mut device, true, &[b"1", b"2\n"]);
+    put_pieces(&rt, rt.alloc(), &mut device, true, &[b"1", b"2\n"]);
     assert_eq!(&rt; (device.taken, device.writes), (3, 1));
 }
 
 /// Delivers a piece twice, to a device that has no room for all of it the first time.
-fn deliver_twice(rt: &impl Abort, device: &mut Device) {
-    let mut stream = Stream::new(device, false);
+fn deliver_twice(rt: &impl Abort, alloc: Global, device: &mut Device) {
+    let mut stream = Stream::new(alloc, device, false);
     assert!(rt; stream.put(b"1234567") == Put::Done);
     assert!(rt; stream.deliver() == Put::Failed);
     assert!(rt; stream.deliver() == Put::Done);
@@ -90,7 +91,7 @@ fn deliver_twice(rt: &impl Abort, device: &mut Device) {
 #[test]
 fn a_failed_write_shows_at_the_delivery(rt: HostRuntime) {
     let mut device = device_with(5);
-    deliver_twice(&rt, &mut device);
+    deliver_twice(&rt, rt.alloc(), &mut device);
     assert_eq!(&rt; (device.taken, device.writes), (7, 3));
 }
 
@@ -100,6 +101,6 @@ fn a_long_piece_follows_what_is_held(rt: HostRuntime) {
     long.resize(9_000, b'x').expect(&rt, AMPLE);
     let mut device = device_with(10_000);
     let pieces = [b"1234567".as_slice(), long.as_slice()];
-    put_pieces(&rt, &mut device, false, &pieces);
+    put_pieces(&rt, rt.alloc(), &mut device, false, &pieces);
     assert_eq!(&rt; (device.taken, device.writes), (9_007, 2));
 }

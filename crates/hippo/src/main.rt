@@ -30,8 +30,8 @@ fn main(rt: HostRuntime) -> ExitCode {
     };
     let mut cabinet = FileCabinet::new(&rt);
     let lines = rt.stdout().is_terminal();
-    let mut out = Stream::new(rt.stdout(), lines);
-    let mut notes = Stream::new(rt.stderr(), true);
+    let mut out = Stream::new(rt.alloc(), rt.stdout(), lines);
+    let mut notes = Stream::new(rt.alloc(), rt.stderr(), true);
     let status = hippo(
         rt.alloc(),
         words.as_slice(),

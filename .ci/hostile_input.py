@@ -33,7 +33,7 @@ def answer(*words, memory=None, seconds=None, stdin=subprocess.DEVNULL, stdout=s
     return ran.returncode, ran.stdout, ran.stderr.decode(errors="replace")
 
 
-def is_told(got):
+def is_answer(got):
     """Whether an answer of `repair` is one of the README: a text with its counts, or the line of a refusal alone."""
     code, out, notes = got
     if code == 0:
@@ -106,7 +106,7 @@ def damaged(text, program, trace):
     for place, (variant, got) in zip(places, repairs(variants, program, trace)):
         line = (TRACE_LINE if program else TEXT_LINE).fullmatch(got[2])
         before = 1 + text[:place].count(b"\n")
-        if not is_told(got) or line and not before <= int(line[1]) <= lines_of(variant) + 1:
+        if not is_answer(got) or line and not before <= int(line[1]) <= lines_of(variant) + 1:
             yield f"byte {place} as {variant[place : place + 1]}: {got}"
 
 
@@ -264,7 +264,7 @@ def main():
     files = [f"{place}.ll", f"{place}.trace"]
     program, trace = (open(file, "rb").read() for file in files)
     whole = answer("repair", *files)
-    case("the whole files", [] if whole[0] == 0 and is_told(whole) else [str(whole)])
+    case("the whole files", [] if whole[0] == 0 and is_answer(whole) else [str(whole)])
     case("each front of a program", list(cut_program(program, files[1], whole)))
     case("each front of a trace", list(cut_trace(trace, files[0], whole)))
     case("each byte of a program as another", list(damaged(program, None, files[1])))

@@ -17,13 +17,13 @@ pub struct FunctionTable<'a> {
 
 impl<'a> Model for FunctionTable<'a> {
     ghost use Rattle.hip_tree.specs.declared.program.Program.{Program};
-    ghost use Rattle.hip_tree.specs.contracts.program.Program as told;
+    ghost use Rattle.hip_tree.specs.contracts.program.Program as stated;
     ghost use Rattle.hip_names.specs.Numbered.{Numbers};
     ghost use Rattle.hip_sound.specs.Numbering.{function_names};
 
     ghost Value = { Program };
 
-    ghost coded = { told.the_row.coded };
+    ghost coded = { stated.the_row.coded };
 
     ghost view = { λ t. t.program.now };
 

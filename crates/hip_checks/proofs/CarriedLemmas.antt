@@ -90,7 +90,7 @@ module _ {ns : List (List ℕ)} {vs : List (Bor Operand)} (edges : List Edge) (i
   pub edge_more : {ms : List (List ℕ)} {us : List (Bor Operand)} {n : List ℕ} {r : Bor Operand} →
       ((entries : List (Entry (Bor Operand))) → StandsFor ns vs entries → StandsFor ms us (entries ++ record { name = n; value = r } ∷ [])) →
       n ≡ x.label → r.now ≡ x.value → carries_again (value_beside ns vs x.label) x.value ≡ true → Carries ms us (take (i + 1) edges)
-  edge_more {n = n} {r = r} adds label behind on =
+  edge_more {n = n} {r = r} adds label past on =
       let it : Entry (Bor Operand) = record { name = n; value = r } in
       record {
         entries = so_far.entries ++ it ∷ [];
@@ -99,7 +99,7 @@ module _ {ns : List (List ℕ)} {vs : List (Bor Operand)} (edges : List Edge) (i
             map-append carried_seen so_far.entries (it ∷ [])
             ∙ ap (λ es. es ++ map carried_seen (it ∷ [])) so_far.are
             ∙ ap (λ (m : List ℕ). map edge_entry (take i edges) ++ record { name = m; value = r.now } ∷ []) label
-            ∙ ap (λ (o : Operand). map edge_entry (take i edges) ++ record { name = x.label; value = o } ∷ []) behind
+            ∙ ap (λ (o : Operand). map edge_entry (take i edges) ++ record { name = x.label; value = o } ∷ []) past
             ∙ sym (ap (map edge_entry) (take_item carry_alike edges i x within is) ∙ map-append edge_entry (take i edges) (x ∷ []));
         agree = step ∙ on;
       }

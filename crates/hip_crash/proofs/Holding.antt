@@ -10,7 +10,7 @@ use Rattle.hip_lines.specs.Laws.LineLaws.{ordered-at, slice_get-change_range}
 use Rattle.hip_types.specs.Bytes.{bytes_of}
 use Rattle.hip_mem.specs.Laws.BytesLaws.{length-bytes_of}
 use Rattle.hip_runs.specs.Crash.{covers, byte_of}
-use Rattle.hip_runs.specs.Laws.ImageLaws.{behind_durable}
+use Rattle.hip_runs.specs.Laws.ImageLaws.{past_durable}
 use Rattle.hip_runs.specs.State.{Counts, Flush, Level, StorePart}
 use Rattle.hip_runs.specs.StoredParts.Persistence.{part_of_store, noted_flush, noted_fence, flush_line, fence_line, fenced_lines}
 use Rattle.hip_crash.specs.Holding.{IsAlike, AreAlike, IsKeptOf, AreKeptOf}
@@ -138,7 +138,7 @@ module _ (image : List ℕ) (j : ℕ) where
         ∙ ap (byte_after stored_covers stored_byte (take k.flushed k.later) (64 * j + i)) (h.bytes i lt)
         ∙ after-alike j (take k.flushed k.later) (take k.flushed (drop l.durable l.parts)) (64 * j + i) (byte_after covers byte_of (take l.durable l.parts) (64 * j + i) first) (alike-take j k.flushed k.later (drop l.durable l.parts) h.later) (omega arith) (omega (arith, lt))
         ∙ ap (λ n. byte_after covers byte_of (take n (drop l.durable l.parts)) (64 * j + i) (byte_after covers byte_of (take l.durable l.parts) (64 * j + i) first)) (sym more)
-        ∙ sym (behind_durable l l.flushed (64 * j + i) first o.durable)
+        ∙ sym (past_durable l l.flushed (64 * j + i) first o.durable)
         ∙ sym (ap (λ ps. byte_after covers byte_of ps (64 * j + i) first) (take-map noted_fence l.flushed l.parts) ∙ after-fence (take l.flushed l.parts) (64 * j + i) first);
   }
 

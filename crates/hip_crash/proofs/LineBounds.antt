@@ -5,7 +5,7 @@ use Rattle.hip_lines.specs.Image.{byte_after}
 use Rattle.hip_lines.specs.Line.{Line}
 use Rattle.hip_runs.specs.Crash.{covers, byte_of, crash_image}
 use Rattle.hip_runs.specs.Laws.CrashLaws.{same_size}
-use Rattle.hip_runs.specs.Laws.ImageLaws.{behind_durable}
+use Rattle.hip_runs.specs.Laws.ImageLaws.{past_durable}
 use Rattle.hip_runs.specs.State.{StorePart}
 use Rattle.hip_runs.specs.Step.{run}
 use Rattle.hip_runs.specs.Seen.{Seen, state_of}
@@ -72,7 +72,7 @@ module _ (x : Inside) (h : IsLogging x) (image : List ℕ) (e : image ≡ x.inpu
         index-bytes_after (take (q - l.durable) later) (64 * j) (seen_at x.region image j).bytes i fit
         ∙ ap (byte_after stored_covers stored_byte (take (q - l.durable) later) (64 * j + i)) (k.bytes i lt)
         ∙ after-alike j (take (q - l.durable) later) (take (q - l.durable) (drop l.durable l.parts)) (64 * j + i) (byte_after covers byte_of (take l.durable l.parts) (64 * j + i) first) (alike-take j (q - l.durable) later (drop l.durable l.parts) k.later) (omega arith) (omega (arith, lt))
-        ∙ sym (behind_durable l q (64 * j + i) first le)
+        ∙ sym (past_durable l q (64 * j + i) first le)
 
     pub bounds-seen : ((bounds_of (state_of s) j).least ≡ (seen_at x.region image j).least) × ((bounds_of (state_of s) j).most ≡ (seen_at x.region image j).least + length (seen_at x.region image j).later)
     bounds-seen =

@@ -9,7 +9,7 @@ use Rattle.hip_types.specs.Bytes.{bytes_of}
 use Rattle.hip_runs.specs.Ends.{longest}
 use Rattle.hip_runs.specs.Laws.HistoryLaws.{lines_ordered}
 use Rattle.hip_runs.specs.Laws.NextLaws.{next_lines, counts-next}
-use Rattle.hip_runs.specs.Laws.OutputLaws.{run_told}
+use Rattle.hip_runs.specs.Laws.OutputLaws.{run_stated}
 use Rattle.hip_runs.specs.Laws.StepLaws.{ordered-flushed_by, length-lines, counted-steps}
 use Rattle.hip_runs.specs.Outputs.{ending_by}
 use Rattle.hip_runs.specs.State.{Counts, Level, StorePart, levels_of}
@@ -99,4 +99,4 @@ module _ (P : Program) (I : Input) (sound : IsSound P) (valid : IsValid P I) (sh
       omega (arith, fit, one)
 
 pub ended-next : (P : Program) (I : Input) (n : ℕ) → has_ended (run P I (suc n)) ≡ is_some (ending_by (event P I (run P I n)))
-ended-next P I n = ap is_some (run_told P I n).ending
+ended-next P I n = ap is_some (run_stated P I n).ending

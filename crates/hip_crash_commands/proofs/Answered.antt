@@ -140,7 +140,7 @@ module _ (fits : FitsGive) (P : Program) (I : Input) (valid : IsValid P I) (entr
           at_entry (record { entries = length traced.0; counted = counted; some = h.0; there = h.1 })
 
 pub answered : FitsGive → CrashesAreAnswered
-answered fits files old new p t P I entry ps told loaded traced met =
+answered fits files old new p t P I entry ps stated loaded traced met =
     let found : (f : Findings) × IsFound P I f = found_exists P I in
     let valid : IsValid P I = (header-given P _ _ I (fit_pieces true traced.bytes) traced.trace.header_is).valid in
     let done = answer fits P I valid entry ps found.0 in (
@@ -148,9 +148,9 @@ answered fits files old new p t P I entry ps told loaded traced met =
       done.1,
       inr (inr (inr (record {
         program = P;
-        loaded = subst (λ (fs : Option (List NamedFile)). IsProgramOf fs p P) (sym told) loaded;
+        loaded = subst (λ (fs : Option (List NamedFile)). IsProgramOf fs p P) (sym stated) loaded;
         input = I;
-        traced = subst (λ (fs : Option (List NamedFile)). IfSome fs (λ files_told. IsTraceFile files_told t P I)) (sym told) traced;
+        traced = subst (λ (fs : Option (List NamedFile)). IfSome fs (λ files_stated. IsTraceFile files_stated t P I)) (sym stated) traced;
         valid = valid;
         found = found.0;
         found_is = found.1;

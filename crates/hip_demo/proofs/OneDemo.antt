@@ -52,7 +52,7 @@ module _ (finds : FindsOne) (traces : TracesOne) (P : Program) (I : Input) where
       ∙ sym k.shown_is
 
 pub one_demo : FindsOne → TracesOne → DemosAreOne
-one_demo finds traces seed size files old new other other_new a b told told' h k =
+one_demo finds traces seed size files old new other other_new a b stated stated' h k =
     let shown = same_shown finds traces (generated_program seed size) (demo_input seed size) h.shown k.shown
     h.has_shown k.has_shown in
     let out : a.out ≡ b.out = h.out_is ∙ ap (demo_text seed size) shown ∙ sym k.out_is in

@@ -46,13 +46,13 @@ pub not_misfit : NoMisfits → (P : Program) (text : List ℕ) (r : ReaderState)
     → ⊥
 not_misfit none P text r old new entry kind traced rest h =
     none P text traced.0 entry kind traced.1
-    (subst (λ (o : Option (List ℕ)). IfSome o (λ bytes. IsMisfit P bytes true entry kind)) rest h.told)
+    (subst (λ (o : Option (List ℕ)). IfSome o (λ bytes. IsMisfit P bytes true entry kind)) rest h.stated)
 
 pub replayed_whole : TracesAreOne → (P : Program) (text : List ℕ) (r : ReaderState) (old new : CabinetState)
     (replayed : Replayed) → old.rest ≡ Some text → HasReplayed P r old new replayed → spec.HasReplayed P text replayed
 replayed_whole one P text r old new replayed rest h =
     let traced : IsTraceOf P text replayed.input =
-    subst (λ (o : Option (List ℕ)). IfSome o (λ bytes. IsTraceOf P bytes replayed.input)) rest h.told in
+    subst (λ (o : Option (List ℕ)). IfSome o (λ bytes. IsTraceOf P bytes replayed.input)) rest h.stated in
     record {
       traced = traced;
       found = h.found;

@@ -1,4 +1,4 @@
-pub mod Told
+pub mod Stated
 pub mod Runs
 pub mod Quietly
 pub mod Silently
@@ -8,7 +8,7 @@ pub mod Locally
 pub mod Within
 pub mod Crossed
 pub mod Acted
-pub mod StoresTold
+pub mod StoresStated
 pub mod MainPlace
 pub mod StartStands
-pub mod OpsTold
+pub mod OpsStated

@@ -37,7 +37,7 @@ impl Cabinet for FileCabinet<'_> {
       faults = c.faults;
     } };
 
-    ghost told = { λ c. tt };
+    ghost stated = { λ c. tt };
 
     /// A file that the open call reports as absent is missing; every other failure is a fault.
     #[inline(never)]

@@ -95,13 +95,13 @@ left_has (x ∷ xs) s t h = by_test (site_before x s) refl (left_has xs s t h)
 
 -- ---- fences
 
-fences_told : (P : Program) (flushes rest ss : List Site) → is_ascending rest ≡ true → is_ascending ss ≡ true → ((t : Site) → In t ss → has_site rest t ≡ has_site flushes t) →
+fences_stated : (P : Program) (flushes rest ss : List Site) → is_ascending rest ≡ true → is_ascending ss ≡ true → ((t : Site) → In t ss → has_site rest t ≡ has_site flushes t) →
     fences_pass P rest ss ≡ list_all (λ s. is_flush_call (instr_of P s) || has_site flushes s) ss
-fences_told P flushes rest [] up e same = refl
-fences_told P flushes rest (s ∷ ss) up e same =
+fences_stated P flushes rest [] up e same = refl
+fences_stated P flushes rest (s ∷ ss) up e same =
     ap (λ b. (is_flush_call (instr_of P s) || b) && fences_pass P (not_before s rest) ss) (begins rest s up ∙ same s (inl refl))
     ∙ ap (λ b. (is_flush_call (instr_of P s) || has_site flushes s) && b)
-    (fences_told P flushes (not_before s rest) ss (left_ascends rest s up) (tail_ascends s ss e) (λ t i. left_has rest s t (all_later s ss e t i) ∙ same t (inr i)))
+    (fences_stated P flushes (not_before s rest) ss (left_ascends rest s up) (tail_ascends s ss e) (λ t i. left_has rest s t (all_later s ss e t i) ∙ same t (inr i)))
 
 -- ---- tests of all sites of a list
 
@@ -135,8 +135,8 @@ module _ (P : Program) (callable : IsCallable P) where
       in_function (Some f) h g = ap (λ o. slice_get (body_of (slice_get (blocks_in o) s.block)) s.index) h ∙ in_block (slice_get f.blocks s.block) g
 
   -- in a sound program a call is of a defined function exactly where it is of no external one
-  call_told : (s : Site) (o : Option Instr) → instr_of P s ≡ o → calls_defined o ≡ is_defined_call P o
-  call_told s (Some (Call dest ret callee args)) e = by_callee (callable.calls s.function s.block s.index dest ret callee args (body_there s (Call dest ret callee args) e))
+  call_stated : (s : Site) (o : Option Instr) → instr_of P s ≡ o → calls_defined o ≡ is_defined_call P o
+  call_stated s (Some (Call dest ret callee args)) e = by_callee (callable.calls s.function s.block s.index dest ret callee args (body_there s (Call dest ret callee args) e))
     where
       by_number : (o : Option ℕ) → function_number P callee ≡ o → (c : ExternCall) → call_of callee ≡ Some c → is_none (call_of callee) ≡ is_some o
       by_number None f c g = ap is_none g
@@ -145,11 +145,11 @@ module _ (P : Program) (callable : IsCallable P) where
       by_callee : ((c : ExternCall) × (call_of callee ≡ Some c)) ⊎ ((g : ℕ) × (function_number P callee ≡ Some g)) → is_none (call_of callee) ≡ is_some (function_number P callee)
       by_callee (inl (c, g)) = by_number (function_number P callee) refl c g
       by_callee (inr (n, f)) = ap is_none (callable.free callee n f) ∙ sym (ap is_some f)
-  call_told s _ e = refl
+  call_stated s _ e = refl
 
   calls_all : (xs : List Site) → list_all (λ s. calls_defined (instr_of P s)) xs ≡ list_all (λ s. is_defined_call P (instr_of P s)) xs
   calls_all [] = refl
-  calls_all (x ∷ xs) = ap (λ b. b && list_all (λ s. calls_defined (instr_of P s)) xs) (call_told x (instr_of P x) refl) ∙ ap (λ b. is_defined_call P (instr_of P x) && b) (calls_all xs)
+  calls_all (x ∷ xs) = ap (λ b. b && list_all (λ s. calls_defined (instr_of P s)) xs) (call_stated x (instr_of P x) refl) ∙ ap (λ b. is_defined_call P (instr_of P x) && b) (calls_all xs)
 
   -- the whole test passes exactly the plans that suit
   pub passes_suits : (plan : Plan) → passes P plan ≡ true → IsSuiting P plan
@@ -162,7 +162,7 @@ module _ (P : Program) (callable : IsCallable P) where
       record {
         flushes = all_pass (λ s. is_store (instr_of P s)) plan.flush_after three.1;
         fences = all_pass (λ s. is_flush_call (instr_of P s) || has_site plan.flush_after s) plan.fence_after
-            (sym (fences_told P plan.flush_after plan.flush_after plan.fence_after five.0 five.1 (λ t i. refl)) ∙ two.1);
+            (sym (fences_stated P plan.flush_after plan.flush_after plan.fence_after five.0 five.1 (λ t i. refl)) ∙ two.1);
         hoists = all_pass (λ s. is_defined_call P (instr_of P s)) plan.hoist (sym (calls_all plan.hoist) ∙ one.1);
         flushes_ascend = five.0;
         fences_ascend = five.1;
@@ -175,6 +175,6 @@ module _ (P : Program) (callable : IsCallable P) where
   pub suits_passes : (plan : Plan) → IsSuiting P plan → passes P plan ≡ true
   suits_passes plan s =
       all_true _ _ _ _ _ _ s.flushes_ascend s.fences_ascend s.hoists_ascend (pass_all (λ s. is_store (instr_of P s)) plan.flush_after s.flushes)
-      (fences_told P plan.flush_after plan.flush_after plan.fence_after s.flushes_ascend s.fences_ascend (λ t i. refl)
+      (fences_stated P plan.flush_after plan.flush_after plan.fence_after s.flushes_ascend s.fences_ascend (λ t i. refl)
       ∙ pass_all (λ s. is_flush_call (instr_of P s) || has_site plan.flush_after s) plan.fence_after s.fences)
       (calls_all plan.hoist ∙ pass_all (λ s. is_defined_call P (instr_of P s)) plan.hoist s.hoists)

@@ -39,7 +39,7 @@ replayed_by P start r0 r s0 s begun followed h f = record {
   is_trace = record { steps = f.steps; ended = ap (λ (o : Option Ending). is_some o) f.over.ended; are = refl };
   ended = f.over.ended;
   entries = f.over.counted;
-  told = f.over.told;
+  stated = f.over.stated;
   left = f.over.left;
   count = f.over.begun;
   progress = f.over.progress;

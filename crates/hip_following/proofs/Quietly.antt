@@ -3,7 +3,7 @@ use Rattle.std.proofs.Common.{◌≡◌, suc, ◌+◌, ◌<◌, true, [], ◌∷
 use Rattle.hip_io.specs.Cabinets.{CabinetState}
 use Rattle.hip_tree.specs.declared.program.Program.{Program}
 use Rattle.hip_engine.specs.Quiet.{ComesTo}
-use Rattle.hip_lockstep.proofs.Going.{IsGoing, IsTold, fewer_if, here, over_if, steps_ahead, taken_next}
+use Rattle.hip_lockstep.proofs.Going.{IsGoing, IsStated, fewer_if, here, over_if, steps_ahead, taken_next}
 use Rattle.hip_lockstep.proofs.Quietly.{goes_quietly, same_trace, taken_is}
 use Rattle.hip_lockstep.specs.InStep.{IsInStep}
 use Rattle.hip_lockstep.specs.Reading.{HasReadEntries}
@@ -17,7 +17,7 @@ use Rattle.hip_runs.specs.declared.input.Input.{Input}
 use Rattle.hip_trace.specs.Reads.{ReaderState}
 
 -- a machine comes to its next event
-module _ {P : Program} {I : Input} {old new : Seen} {e : Event} (told : IsTold P I) (is : IsGoing P I old) (c : ComesTo old new e) where
+module _ {P : Program} {I : Input} {old new : Seen} {e : Event} (stated : IsStated P I) (is : IsGoing P I old) (c : ComesTo old new e) where
   before : IsGoing P I c.before
   before = goes_quietly is c.quiet.steps c.quiet.is c.quiet.quiet
 
@@ -26,7 +26,7 @@ module _ {P : Program} {I : Input} {old new : Seen} {e : Event} (told : IsTold P
 
   -- the event is that of the run's step there
   pub event_there : event P I (run P I c.before.taken) ≡ e
-  event_there = here told before e c.is
+  event_there = here stated before e c.is
 
   pub in_step_there : (start : CabinetState) (r : ReaderState) (s : CabinetState) (at : Lockstep) → IsInStep P I start old.taken r s at → IsInStep P I start c.before.taken r s at
   in_step_there start r s at h = record {
@@ -38,7 +38,7 @@ module _ {P : Program} {I : Input} {old new : Seen} {e : Event} (told : IsTold P
   }
 
   pub taken_there : new.taken ≡ suc c.before.taken
-  taken_there = ap (λ (m : Seen). m.taken) c.step ∙ taken_next told before
+  taken_there = ap (λ (m : Seen). m.taken) c.step ∙ taken_next stated before
 
   pub program_there : new.program ≡ P
   program_there = ap (λ (m : Seen). m.program) c.step ∙ before.program
@@ -49,11 +49,11 @@ module _ {P : Program} {I : Input} {old new : Seen} {e : Event} (told : IsTold P
   -- where the run goes on, fewer steps are left
   pub nearer : (run P I (suc c.before.taken)).world.ending ≡ None → steps_ahead P I new.taken < steps_ahead P I old.taken
   nearer going =
-      let less = fewer_if told before going in
+      let less = fewer_if stated before going in
       let next : steps_ahead P I new.taken ≡ steps_ahead P I (after_step c.before).taken = ap (λ (m : Seen). steps_ahead P I m.taken) c.step in
       let taken = taken_is is c.quiet.steps c.quiet.is c.quiet.quiet in
       omega (arith, less, next, taken)
 
   -- where it has ended there, the machine has ended
   pub over_there : (ending : Ending) → (run P I (suc c.before.taken)).world.ending ≡ Some ending → has_ended (state_of new) ≡ true
-  over_there ending ends = ap (λ (m : Seen). has_ended (state_of m)) c.step ∙ over_if told before ending ends
+  over_there ending ends = ap (λ (m : Seen). has_ended (state_of m)) c.step ∙ over_if stated before ending ends

@@ -28,7 +28,7 @@ pub record HasReplayed (P : Program) (r : ReaderState) (old new : CabinetState) 
   pub is_trace : IsTrace P replayed.input trace
   pub ended : (run P replayed.input is_trace.steps).world.ending ≡ Some replayed.ending
   pub entries : replayed.entries ≡ length trace
-  pub told : IfSome old.rest (λ bytes. IsTraceOf P bytes replayed.input)
+  pub stated : IfSome old.rest (λ bytes. IsTraceOf P bytes replayed.input)
   pub left : IfSome new.rest (λ rest. rest ≡ [])
   pub count : r.count ≡ length trace
   pub progress : r.progress ≡ progresses.Ended

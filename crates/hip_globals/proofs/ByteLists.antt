@@ -23,20 +23,20 @@ take_sum n m xs =
     let front : take n (take (n + m) xs) ≡ take n xs = grind (arith, common_steps) in
     sym (take-append-drop n (take (n + m) xs)) ∙ ap (λ (zs : List ℕ). zs ++ drop n (take (n + m) xs)) front ∙ ap (λ (zs : List ℕ). take n xs ++ zs) (drop-take n m xs)
 
-pub cut_behind : (bytes : List ℕ) (start size : ℕ) → start ≤ length bytes → size ≤ length bytes - start → take (start + size) bytes ≡ take start bytes ++ sized size (drop start bytes)
-cut_behind bytes start size within short =
+pub cut_past : (bytes : List ℕ) (start size : ℕ) → start ≤ length bytes → size ≤ length bytes - start → take (start + size) bytes ≡ take start bytes ++ sized size (drop start bytes)
+cut_past bytes start size within short =
     let none : size - length (drop start bytes) ≡ 0 = omega (arith, length-drop start bytes) in
     rw none (take_sum start size bytes ∙ ap (λ (zs : List ℕ). take start bytes ++ zs) (sym (append-nil (take size (drop start bytes)))))
 
-pub fill_behind : (bytes : List ℕ) (start size : ℕ) → start ≤ length bytes → length bytes - start ≤ size → bytes ++ replicate (size - (length bytes - start)) 0 ≡ take start bytes ++ sized size (drop start bytes)
-fill_behind bytes start size within long =
+pub fill_past : (bytes : List ℕ) (start size : ℕ) → start ≤ length bytes → length bytes - start ≤ size → bytes ++ replicate (size - (length bytes - start)) 0 ≡ take start bytes ++ sized size (drop start bytes)
+fill_past bytes start size within long =
     let len : length (drop start bytes) ≡ length bytes - start = length-drop start bytes in
     let whole : take size (drop start bytes) ≡ drop start bytes = take_all size (drop start bytes) (omega (arith, len)) in
     rw (whole, len)
     (ap (λ (zs : List ℕ). zs ++ replicate (size - (length bytes - start)) 0) (sym (take-append-drop start bytes)) ∙ append_assoc (take start bytes) (drop start bytes) (replicate (size - (length bytes - start)) 0))
 
-pub align_behind : (bytes : List ℕ) (start address align at : ℕ) → start ≤ length bytes → at ≡ address + (length bytes - start) → bytes ++ replicate (next_multiple_of at align - at) 0 ≡ take start bytes ++ aligned address align (drop start bytes)
-align_behind bytes start address align at within e =
+pub align_past : (bytes : List ℕ) (start address align at : ℕ) → start ≤ length bytes → at ≡ address + (length bytes - start) → bytes ++ replicate (next_multiple_of at align - at) 0 ≡ take start bytes ++ aligned address align (drop start bytes)
+align_past bytes start address align at within e =
     let len : address + length (drop start bytes) ≡ at = omega (arith, length-drop start bytes) in
     rw len
     (ap (λ (zs : List ℕ). zs ++ replicate (next_multiple_of at align - at) 0) (sym (take-append-drop start bytes)) ∙ append_assoc (take start bytes) (drop start bytes) (replicate (next_multiple_of at align - at) 0))

@@ -36,8 +36,8 @@ laid_goes_on a k start so_far (g ∷ gs) =
     goes_further (laid_bytes a k start next gs) so_far more.0 (subst (λ (front : List ℕ). GoesOn (laid_bytes a k start next gs) front) more.1 (laid_goes_on a k start next gs))
 
 -- bytes after others
-held_behind : (whole front bytes : List ℕ) → GoesOn whole (front ++ bytes) → HoldsAt whole (length front) bytes
-held_behind whole front bytes g = record {
+held_past : (whole front bytes : List ℕ) → GoesOn whole (front ++ bytes) → HoldsAt whole (length front) bytes
+held_past whole front bytes g = record {
   is =
       ap (λ (w : List ℕ). take (length bytes) (drop (length front) w)) (g.is ∙ append_assoc front bytes g.rest)
       ∙ ap (λ (w : List ℕ). take (length bytes) w) (drop-append_seam front (bytes ++ g.rest)) ∙ take-append_seam bytes g.rest;
@@ -49,7 +49,7 @@ held_first a k start at so_far g gs e kind =
     let bytes = constant_bytes a g.init g.ty in
     let place : length front ≡ global_start at g - start = rw (← e) (omega (arith, length-aligned start (global_align g) so_far)) in
     let on : GoesOn (laid_bytes a k start so_far (g ∷ gs)) (front ++ bytes) = rw kind (laid_goes_on a k start (front ++ bytes) gs) in
-    subst (λ (n : ℕ). HoldsAt (laid_bytes a k start so_far (g ∷ gs)) n bytes) place (held_behind (laid_bytes a k start so_far (g ∷ gs)) front bytes on)
+    subst (λ (n : ℕ). HoldsAt (laid_bytes a k start so_far (g ∷ gs)) n bytes) place (held_past (laid_bytes a k start so_far (g ∷ gs)) front bytes on)
 
 pub held : (a : List ℕ → ℕ) (k : Bool) (start at : ℕ) (so_far : List ℕ) (gs : List GlobalVar) (n : ℕ) (g : GlobalVar) → start + length so_far ≡ at → slice_get gs n ≡ Some g → same_truth g.persistent k ≡ true → HoldsAt (laid_bytes a k start so_far gs) (start_of k at gs n - start) (constant_bytes a g.init g.ty)
 held a k start at so_far [] n g e here kind = cc

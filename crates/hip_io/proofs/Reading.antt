@@ -31,7 +31,7 @@ pub begun : (old mid new : CabinetState) (name : List ℕ) (limit : ℕ) → IsF
 begun old mid new name limit f p = record {
   current = p.stays.current;
   named = subst (λ (x : Option (List ℕ)). IfSome x (λ n. n ≡ name)) (sym p.stays.named) f.named;
-  told = by_files old.files f.told;
+  stated = by_files old.files f.stated;
 }
   where
     left : (bytes xs : List ℕ) (rest : Option (List ℕ)) → Some bytes ≡ option_map (λ rest. xs ++ rest) rest → rest ≡ Some (drop (length xs) bytes)
@@ -63,7 +63,7 @@ whole old mid new name limit bytes f r = record {
   current = r.taken.stays.current;
   named = subst (λ (x : Option (List ℕ)). IfSome x (λ n. n ≡ name)) (sym r.taken.stays.named) f.named;
   fits = r.fits;
-  told = by_files old.files f.told;
+  stated = by_files old.files f.stated;
 }
   where
     all : (first : List ℕ) (rest : Option (List ℕ)) → Some first ≡ option_map (λ rest. bytes ++ rest) rest → IfSome rest (λ xs. xs ≡ []) → (first ≡ bytes) × (rest ≡ Some [])
@@ -89,7 +89,7 @@ too_much old mid new name limit f r = record {
   faults = r.taken.faults ∙ f.faults;
   current = r.taken.stays.current;
   named = subst (λ (x : Option (List ℕ)). IfSome x (λ n. n ≡ name)) (sym r.taken.stays.named) f.named;
-  told = by_files old.files f.told;
+  stated = by_files old.files f.stated;
 }
   where
     long : (first : List ℕ) (rest : Option (List ℕ)) → Some first ≡ option_map (λ rest. r.bytes ++ rest) rest → (limit < length first) × (rest ≡ Some (drop (limit + 1) first))

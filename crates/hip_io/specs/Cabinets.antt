@@ -20,8 +20,8 @@ pub record CabinetState : Type 0 where
   pub faults : ℕ
 
 -- where the files are known and one is current, so are its name and its rest
-abbrev pub IsTold : CabinetState → Type 0
-IsTold s = IfSome s.files (λ files. s.is_current ≡ true → (is_some s.name ≡ true) × (is_some s.rest ≡ true))
+abbrev pub IsStated : CabinetState → Type 0
+IsStated s = IfSome s.files (λ files. s.is_current ≡ true → (is_some s.name ≡ true) × (is_some s.rest ≡ true))
 
 -- the bytes of the first file of that name
 abbrev pub file_of : List NamedFile → List ℕ → Option (List ℕ)
@@ -43,7 +43,7 @@ pub record IsFetched (old new : CabinetState) (name : List ℕ) : Type 0 where
   pub faults : new.faults ≡ old.faults
   pub current : new.is_current ≡ true
   pub named : IfSome new.name (λ n. n ≡ name)
-  pub told : IfSome old.files (λ files. IsFirstFile files name new)
+  pub stated : IfSome old.files (λ files. IsFirstFile files name new)
 
 -- No file has the name, if the files are known; none is current.
 pub record IsMissed (old new : CabinetState) (name : List ℕ) : Type 0 where
@@ -53,7 +53,7 @@ pub record IsMissed (old new : CabinetState) (name : List ℕ) : Type 0 where
   pub rose : Rose old.misses new.misses
   pub faults : new.faults ≡ old.faults
   pub current : new.is_current ≡ false
-  pub told : IfSome old.files (λ files. file_of files name ≡ None)
+  pub stated : IfSome old.files (λ files. file_of files name ≡ None)
 
 -- The fetch failed; no file is current.
 pub record HasFailedFetch (old new : CabinetState) : Type 0 where

@@ -2,7 +2,7 @@
 use Rattle.std.specs.Prelude.{ℕ, ◌≡◌, ◌-◌, ◌≤◌, if◌then◌else◌, true, List, Option, Some, None, is_some, option_map, option_and_then, slice_get, drop}
 use Rattle.std.specs.Str.{bytes_eq}
 use Rattle.std.proofs.Common.{refl}
-use Rattle.hip_io.specs.Cabinets.{CabinetState, IsTold, file_of}
+use Rattle.hip_io.specs.Cabinets.{CabinetState, IsStated, file_of}
 use Rattle.hip_io.specs.Sinks.{SinkState}
 use Rattle.hip_io.specs.declared.cabinet.NamedFile.{NamedFile}
 use Rattle.hip_io.specs.declared.cabinet.Taken.{Taken}
@@ -38,8 +38,8 @@ mem_cabinet_state m = record {
 }
 
 -- the name and the rest of the current file are known
-pub memory_told : (m : MemFiles) → IsTold (mem_cabinet_state m)
-memory_told m = by_file m.current
+pub memory_stated : (m : MemFiles) → IsStated (mem_cabinet_state m)
+memory_stated m = by_file m.current
   where
     by_file : (current : Option OpenFile) → is_some current ≡ true
         → (is_some (option_map (λ (file : OpenFile). file.name) current) ≡ true)
@@ -92,8 +92,8 @@ pub record FailingFiles : Type 0 where
 abbrev pub failing_cabinet_state : FailingFiles → CabinetState
 failing_cabinet_state f = record (mem_cabinet_state f.inner) { fetches = f.fetches; faults = f.faults }
 
-pub failing_told : (f : FailingFiles) → IsTold (failing_cabinet_state f)
-failing_told f = memory_told f.inner
+pub failing_stated : (f : FailingFiles) → IsStated (failing_cabinet_state f)
+failing_stated f = memory_stated f.inner
 
 -- how many bytes a file gives before it fails, if it does not fail at its fetch
 abbrev limit_of : FailAt → Option ℕ

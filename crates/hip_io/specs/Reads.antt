@@ -28,7 +28,7 @@ pub record HasReadWhole (old new : CabinetState) (name : List ℕ) (limit : ℕ)
   pub current : new.is_current ≡ true
   pub named : IfSome new.name (λ n. n ≡ name)
   pub fits : length bytes ≤ limit
-  pub told : IfSome old.files (λ files. IsWholeFile files name bytes new)
+  pub stated : IfSome old.files (λ files. IsWholeFile files name bytes new)
 
 -- The file of that name has more bytes than the limit, and one more than the limit was taken.
 pub record IsLongFile (files : List NamedFile) (name : List ℕ) (limit : ℕ) (new : CabinetState) : Type 0 where
@@ -46,7 +46,7 @@ pub record HasReadTooMuch (old new : CabinetState) (name : List ℕ) (limit : �
   pub faults : new.faults ≡ old.faults
   pub current : new.is_current ≡ true
   pub named : IfSome new.name (λ n. n ≡ name)
-  pub told : IfSome old.files (λ files. IsLongFile files name limit new)
+  pub stated : IfSome old.files (λ files. IsLongFile files name limit new)
 
 -- Some bytes of the file of that name were taken, at most one more than the limit, and the others are left.
 pub record IsPartTaken (files : List NamedFile) (name : List ℕ) (limit : ℕ) (new : CabinetState) : Type 0 where
@@ -61,7 +61,7 @@ pub record IsPartTaken (files : List NamedFile) (name : List ℕ) (limit : ℕ) 
 pub record HasBegun (old new : CabinetState) (name : List ℕ) (limit : ℕ) : Type 0 where
   pub current : new.is_current ≡ true
   pub named : IfSome new.name (λ n. n ≡ name)
-  pub told : IfSome old.files (λ files. IsPartTaken files name limit new)
+  pub stated : IfSome old.files (λ files. IsPartTaken files name limit new)
 
 -- The fetch failed and no file is current, or a read failed.
 pub record HasFailedRead (old new : CabinetState) (name : List ℕ) (limit : ℕ) : Type 0 where

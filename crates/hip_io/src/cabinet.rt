@@ -28,7 +28,7 @@ pub enum Taken {
 
 /// Named files, of which one at a time is current.
 pub trait Cabinet {
-    ghost use Rattle.hip_io.specs.Cabinets.{CabinetState, IsTold};
+    ghost use Rattle.hip_io.specs.Cabinets.{CabinetState, IsStated};
 
     ghost state: { Self → CabinetState };
 
@@ -42,5 +42,5 @@ pub trait Cabinet {
         requires current { IsTrue (state self.old).is_current }
         ensures { HasTaken (state self.old) (state self.new) buf.new result };
 
-    ghost told: { (cabinet : Self) → IsTold (state cabinet) };
+    ghost stated: { (cabinet : Self) → IsStated (state cabinet) };
 }

@@ -74,11 +74,11 @@ impl FailingCabinet {
 }
 
 impl Cabinet for FailingCabinet {
-    ghost use Rattle.hip_io.specs.Fakes.{failing_told};
+    ghost use Rattle.hip_io.specs.Fakes.{failing_stated};
 
     ghost state = { failing_cabinet_state };
 
-    ghost told = { failing_told };
+    ghost stated = { failing_stated };
 
     fn fetch(&mut self, name: &str) -> Fetched
         ensures fetch { HasFetched (failing_cabinet_state self.old) (failing_cabinet_state self.new) name.now result }

@@ -75,11 +75,11 @@ fn position_of(files: &[NamedFile], name: &[u8]) -> Option<usize>
 }
 
 impl Cabinet for MemCabinet {
-    ghost use Rattle.hip_io.specs.Fakes.{memory_told};
+    ghost use Rattle.hip_io.specs.Fakes.{memory_stated};
 
     ghost state = { mem_cabinet_state };
 
-    ghost told = { memory_told };
+    ghost stated = { memory_stated };
 
     fn fetch(&mut self, name: &str) -> Fetched
         ensures fetch { HasFetched (mem_cabinet_state self.old) (mem_cabinet_state self.new) name.now result }

@@ -15,17 +15,17 @@ use Rattle.hip_invariants.specs.PointerLevels.{PointerLevel, after_offset, numbe
 use Rattle.hip_levels.specs.Gathered.{persistence_level, level_with, element_with}
 use Rattle.hip_levels.specs.Numbered.{offset_rank}
 use Rattle.hip_levels.specs.Tables.{level_of}
-use Rattle.hip_levels.proofs.LevelOrder.{behind_is_level}
-use Rattle.hip_levels.proofs.TableLemmas.{level_is_level, level_of_rank, rank_behind, rank_of_level}
+use Rattle.hip_levels.proofs.LevelOrder.{past_is_level}
+use Rattle.hip_levels.proofs.TableLemmas.{level_is_level, level_of_rank, rank_past, rank_of_level}
 
 -- ---- globals
 
 abbrev pub entry_of : GlobalVar → Entry Bool
 entry_of g = record { name = g.name; value = g.persistent }
 
-told : (gs : List GlobalVar) (name : List ℕ) → persistence_level (value_of (map entry_of gs) name) ≡ number_level gs (number_of (map (λ g. g.name) gs) name)
-told [] name = refl
-told (g ∷ gs) name = by_first (bytes_eq g.name name) (told gs name) ∙ ap (number_level (g ∷ gs)) (ap (λ b. cond b (Some 0) (option_map suc (number_of (map (λ g. g.name) gs) name))) (bytes_eq-sym g.name name) ∙ sym (number_of-cons g.name (map (λ g. g.name) gs) name))
+stated : (gs : List GlobalVar) (name : List ℕ) → persistence_level (value_of (map entry_of gs) name) ≡ number_level gs (number_of (map (λ g. g.name) gs) name)
+stated [] name = refl
+stated (g ∷ gs) name = by_first (bytes_eq g.name name) (stated gs name) ∙ ap (number_level (g ∷ gs)) (ap (λ b. cond b (Some 0) (option_map suc (number_of (map (λ g. g.name) gs) name))) (bytes_eq-sym g.name name) ∙ sym (number_of-cons g.name (map (λ g. g.name) gs) name))
   where
     own : (b : Bool) → persistence_level (Some b) ≡ cond b None (Some 0)
     own true = refl
@@ -40,15 +40,15 @@ told (g ∷ gs) name = by_first (bytes_eq g.name name) (told gs name) ∙ ap (nu
     by_first true rest = own g.persistent
     by_first false rest = rest ∙ later (number_of (map (λ g. g.name) gs) name)
 
-pub globals_told : (names : List (List ℕ)) (values : List Bool) (gs : List GlobalVar) → StandsFor names values (map entry_of gs) → (name : List ℕ) → persistence_level (value_beside names values name) ≡ global_level gs name
-globals_told names values gs s name = ap persistence_level (s.finds name) ∙ told gs name
+pub globals_stated : (names : List (List ℕ)) (values : List Bool) (gs : List GlobalVar) → StandsFor names values (map entry_of gs) → (name : List ℕ) → persistence_level (value_beside names values name) ≡ global_level gs name
+globals_stated names values gs s name = ap persistence_level (s.finds name) ∙ stated gs name
 
 -- ---- elements
 
-pub level_behind : (n offset : ℕ) → n ≤ 33 → level_of (offset_rank n offset) ≡ after_offset (level_of n) offset
-level_behind n offset le =
-    ap (λ m. level_of (offset_rank m offset)) (sym (rank_of_level n le)) ∙ ap level_of (sym (rank_behind (level_of n) offset (level_is_level n)))
-    ∙ level_of_rank (after_offset (level_of n) offset) (behind_is_level (level_of n) offset (level_is_level n))
+pub level_past : (n offset : ℕ) → n ≤ 33 → level_of (offset_rank n offset) ≡ after_offset (level_of n) offset
+level_past n offset le =
+    ap (λ m. level_of (offset_rank m offset)) (sym (rank_of_level n le)) ∙ ap level_of (sym (rank_past (level_of n) offset (level_is_level n)))
+    ∙ level_of_rank (after_offset (level_of n) offset) (past_is_level (level_of n) offset (level_is_level n))
 
 pub element_is : (names : List ℕ → PointerLevel) (gep : ConstGep) → element_with names gep ≡ after_offset (level_with names gep.base) (unwrap_or (gep_of gep.ty (map index_of gep.indices)) 0)
 element_is names gep = fold_out-ConstGep PointerLevel PointerLevel PointerLevel (level_step names) gep_level_step item_level_step gep

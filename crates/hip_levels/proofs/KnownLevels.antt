@@ -33,7 +33,7 @@ use Rattle.hip_levels.specs.Bounds.{Bound, Rule, Result, low, free, same_as}
 use Rattle.hip_levels.specs.Closed.{is_level, IsLeast}
 use Rattle.hip_levels.specs.LowStores.{least_levels}
 use Rattle.hip_levels.specs.Rules.{operand_bound, element_bound, rule, rule_for_result, argument_rules, rules_into, entry_rules, call_rules, instr_rules, end_rules, level_rules}
-use Rattle.hip_levels.proofs.LevelOrder.{behind_is_level}
+use Rattle.hip_levels.proofs.LevelOrder.{past_is_level}
 use Rattle.hip_levels.proofs.LeastLevels.{knows_level, KnowsLevel, least_is_least}
 use Rattle.hip_levels.proofs.RuleMembers.{rule_case}
 
@@ -72,7 +72,7 @@ module _ (globals : List GlobalVar) where
       (λ x y is.
       let base : IsLevelOf x.base = subst IsLevelOf (ap (λ g. g.base) is) y.base.1 in
       let level : gep_level globals (roll-ConstGep x) ≡ after_offset (const_level globals x.base) (unwrap_or (gep_of x.ty (map index_of x.indices)) 0) = fold-roll-ConstGep _ _ _ _ _ _ x in
-      subst is_level (sym level) (behind_is_level (const_level globals x.base) _ base))
+      subst is_level (sym level) (past_is_level (const_level globals x.base) _ base))
       (λ x y is. tt)
     where
       of_level : (y : Const-F ((c : Const) × IsLevelOf c) ((g : ConstGep) × IsGepLevel g) ((i : TypedConst) × Nothing i)) → IsLevelOf (roll-Const (map-Const _ _ _ Const ConstGep TypedConst (λ e. e.0) (λ e. e.0) (λ e. e.0) y))
@@ -94,7 +94,7 @@ module _ (P : Program) where
   element_knows : (g : ℕ) (base : Operand) (ty : Ty) (path : Option (List ℕ)) → knows_level (element_bound P g base ty path)
   element_knows g base ty None = tt
   element_knows g (Reg name) ty (Some path) = tt
-  element_knows g (Fixed c) ty (Some path) = behind_is_level _ _ (const_is_level P.globals c)
+  element_knows g (Fixed c) ty (Some path) = past_is_level _ _ (const_is_level P.globals c)
 
   -- the only rule of a list
   only : (r s : Rule) → knows_level r.least → In s (r ∷ []) → KnowsLevel s

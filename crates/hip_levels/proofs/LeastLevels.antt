@@ -6,7 +6,7 @@ use Rattle.hip_runs.specs.StoredParts.Parts.{In}
 use Rattle.hip_invariants.specs.PointerLevels.{PointerLevel, is_at_most}
 use Rattle.hip_levels.specs.Bounds.{Variable, Bound, Rule, Assignment, Known, AtOffset, bound_in, same_variable}
 use Rattle.hip_levels.specs.Closed.{is_level, IsMet, IsClosedUnder, IsLeast, greater, lowest, raised, round, rounds, least_of}
-use Rattle.hip_levels.proofs.LevelOrder.{at_most_same, at_most_next, at_most_both, zero_at_most, greater_first, greater_second, greater_least, greater_level, behind_is_level, bound_more, same_variable_is, same_as_itself}
+use Rattle.hip_levels.proofs.LevelOrder.{at_most_same, at_most_next, at_most_both, zero_at_most, greater_first, greater_second, greater_least, greater_level, past_is_level, bound_more, same_variable_is, same_as_itself}
 
 -- ---- the levels that rules know
 
@@ -20,7 +20,7 @@ pub record KnowsLevel (r : Rule) : Type 0 where
 
 pub bound_is_level : (A : Assignment) → ((v : Variable) → is_level (A v)) → (least : Bound) → knows_level least → is_level (bound_in A least)
 bound_is_level A levels (Known a) h = h
-bound_is_level A levels (AtOffset offset v) h = behind_is_level (A v) offset (levels v)
+bound_is_level A levels (AtOffset offset v) h = past_is_level (A v) offset (levels v)
 
 -- ---- one rule after another
 

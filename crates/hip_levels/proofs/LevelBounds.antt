@@ -41,9 +41,9 @@ use Rattle.hip_levels.specs.Closed.{IsMet, IsClosedUnder}
 use Rattle.hip_levels.specs.Rules.{operand_bound, element_bound, rule, rule_for_result, argument_rules, rules_into, entry_rules, call_rules, instr_rules, end_rules, level_rules}
 use Rattle.hip_levels.proofs.RuleMembers.{of_instr, of_phi, of_end}
 
-nowhere_behind : (a : PointerLevel) → after_offset a 0 ≡ a
-nowhere_behind None = refl
-nowhere_behind (Some t) = refl
+nowhere_past : (a : PointerLevel) → after_offset a 0 ≡ a
+nowhere_past None = refl
+nowhere_past (Some t) = refl
 
 pub record IsWithin (A : Assignment) (g : ℕ) (name : List ℕ) (v : ℕ) : Type 0 where
   pub is : within_level (A (Register g name)) v
@@ -62,7 +62,7 @@ module _ (P : Program) (s : IsSound P) (I : Input) (A : Assignment) where
   register_within g rs h name = (fact_of_value (IsWithin A) (ResultIsWithin A) g rs name h (record { is = zero_within _ })).is
 
   operand_within : (g : ℕ) (rs : Registers) → Holds g rs → (o : Operand) → within_level (bound_in A (operand_bound P g o)) (value_of P.globals I.base rs o)
-  operand_within g rs h (Reg name) = subst (λ a. within_level a (value_of P.globals I.base rs (Reg name))) (sym (nowhere_behind (A (Register g name)))) (register_within g rs h name)
+  operand_within g rs h (Reg name) = subst (λ a. within_level a (value_of P.globals I.base rs (Reg name))) (sym (nowhere_past (A (Register g name)))) (register_within g rs h name)
   operand_within g rs h (Fixed c) = const_within P s I.base c
 
   -- ---- elements
@@ -105,7 +105,7 @@ module _ (P : Program) (s : IsSound P) (I : Input) (A : Assignment) where
         let first : List Rule = rule_for_result P g dest (same_as (Result k)) in
         let second : List Rule = argument_rules P g k fn.params args in (
           record { all = arguments_within g k rs h fn.params args (λ r i. all r (append-right first second r i)) },
-          record { for_result = λ v m. ruled_result g dest (same_as (Result k)) v (λ r i. all r (append-left first second r i)) (subst (λ a. within_level a v) (sym (nowhere_behind (A (Result k)))) m.is) },
+          record { for_result = λ v m. ruled_result g dest (same_as (Result k)) v (λ r i. all r (append-left first second r i)) (subst (λ a. within_level a v) (sym (nowhere_past (A (Result k)))) m.is) },
         );
   }
 

@@ -72,10 +72,10 @@ greater_level (Some t) (Some u) p q = go (nat_lt t u)
 
 -- ---- offsets
 
-pub behind_more : (a b : PointerLevel) (offset : ℕ) → is_at_most a b → is_at_most (after_offset a offset) (after_offset b offset)
-behind_more a None offset p = tt
-behind_more None (Some u) offset p = absurd p
-behind_more (Some t) (Some u) offset p = go (nat_eq offset 0) (nat_lt offset 67108864)
+pub past_more : (a b : PointerLevel) (offset : ℕ) → is_at_most a b → is_at_most (after_offset a offset) (after_offset b offset)
+past_more a None offset p = tt
+past_more None (Some u) offset p = absurd p
+past_more (Some t) (Some u) offset p = go (nat_eq offset 0) (nat_lt offset 67108864)
   where
     step : (x y : Bool) → nat_lt t 32 ≡ x → nat_lt u 32 ≡ y → is_at_most (cond x (Some (suc t)) None) (cond y (Some (suc u)) None)
     step x false e f = tt
@@ -90,9 +90,9 @@ behind_more (Some t) (Some u) offset p = go (nat_eq offset 0) (nat_lt offset 671
     go true y = p
     go false y = near y
 
-pub behind_is_level : (a : PointerLevel) (offset : ℕ) → is_level a → is_level (after_offset a offset)
-behind_is_level None offset p = tt
-behind_is_level (Some t) offset p = go (nat_eq offset 0) (nat_lt offset 67108864)
+pub past_is_level : (a : PointerLevel) (offset : ℕ) → is_level a → is_level (after_offset a offset)
+past_is_level None offset p = tt
+past_is_level (Some t) offset p = go (nat_eq offset 0) (nat_lt offset 67108864)
   where
     step : (x : Bool) → nat_lt t 32 ≡ x → is_level (cond x (Some (suc t)) None)
     step true e = let h : t < 32 = ltb-true t 32 e in omega arith
@@ -108,7 +108,7 @@ behind_is_level (Some t) offset p = go (nat_eq offset 0) (nat_lt offset 67108864
 
 pub bound_more : (A B : Assignment) → ((v : Variable) → is_at_most (A v) (B v)) → (least : Bound) → is_at_most (bound_in A least) (bound_in B least)
 bound_more A B below (Known a) = at_most_same a
-bound_more A B below (AtOffset offset v) = behind_more (A v) (B v) offset (below v)
+bound_more A B below (AtOffset offset v) = past_more (A v) (B v) offset (below v)
 
 -- ---- variables
 

@@ -33,11 +33,11 @@ use Rattle.hip_levels.specs.LowStores.{stores_low}
 use Rattle.hip_levels.specs.Rules.{operand_bound, level_rules}
 use Rattle.hip_levels.proofs.KnownLevels.{const_is_level}
 use Rattle.hip_levels.proofs.LevelBounds.{low_address}
-use Rattle.hip_levels.proofs.LevelOrder.{behind_is_level}
+use Rattle.hip_levels.proofs.LevelOrder.{past_is_level}
 
 module _ (P : Program) (A : Assignment) (sound : IsSound P) (closed : IsClosedUnder (level_rules P) A) where
   operand_is_level : (g : ℕ) (o : Operand) → is_level (bound_in A (operand_bound P g o))
-  operand_is_level g (Reg name) = behind_is_level (A (Register g name)) 0 (closed.levels (Register g name))
+  operand_is_level g (Reg name) = past_is_level (A (Register g name)) 0 (closed.levels (Register g name))
   operand_is_level g (Fixed c) = const_is_level P.globals c
 
   module _ (I : Input) (valid : IsValid P I) where

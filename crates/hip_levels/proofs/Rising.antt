@@ -11,8 +11,8 @@ use Rattle.hip_levels.specs.Numbered.{offset_rank, reached_by, at, reached, rise
 
 -- ---- levels at offsets
 
-behind_small : (level offset : ℕ) → level ≤ 33 → offset_rank level offset ≤ 33
-behind_small level offset h = go (nat_eq offset 0) (nat_lt offset 67108864) (nat_lt level 32) refl
+past_small : (level offset : ℕ) → level ≤ 33 → offset_rank level offset ≤ 33
+past_small level offset h = go (nat_eq offset 0) (nat_lt offset 67108864) (nat_lt level 32) refl
   where
     go : (x y z : Bool) → nat_lt level 32 ≡ z → cond x level (cond y (cond z (suc level) 33) 33) ≤ 33
     go true y z e = h
@@ -20,8 +20,8 @@ behind_small level offset h = go (nat_eq offset 0) (nat_lt offset 67108864) (nat
     go false true false e = omega arith
     go false true true e = let lt : level < 32 = ltb-true level 32 e in omega arith
 
-behind_grows : (a b offset : ℕ) → a ≤ b → offset_rank a offset ≤ offset_rank b offset
-behind_grows a b offset h = go (nat_eq offset 0) (nat_lt offset 67108864) (nat_lt a 32) (nat_lt b 32) refl refl
+past_grows : (a b offset : ℕ) → a ≤ b → offset_rank a offset ≤ offset_rank b offset
+past_grows a b offset h = go (nat_eq offset 0) (nat_lt offset 67108864) (nat_lt a 32) (nat_lt b 32) refl refl
   where
     go : (x y z w : Bool) → nat_lt a 32 ≡ z → nat_lt b 32 ≡ w → cond x a (cond y (cond z (suc a) 33) 33) ≤ cond x b (cond y (cond w (suc b) 33) 33)
     go true y z w e f = h
@@ -33,11 +33,11 @@ behind_grows a b offset h = go (nat_eq offset 0) (nat_lt offset 67108864) (nat_l
 
 pub reached_small : (levels : List ℕ) (l : Least) → LeastIsWithin (length levels) l → ((k : ℕ) → at levels k ≤ 33) → reached levels l ≤ 33
 reached_small levels (least.Known level) w small = w
-reached_small levels (least.AtOffset offset variable) w small = behind_small _ offset (small variable)
+reached_small levels (least.AtOffset offset variable) w small = past_small _ offset (small variable)
 
 pub reached_grows : (M N : ℕ → ℕ) (l : Least) → ((k : ℕ) → M k ≤ N k) → reached_by M l ≤ reached_by N l
 reached_grows M N (least.Known level) h = omega arith
-reached_grows M N (least.AtOffset offset variable) h = behind_grows _ _ offset (h variable)
+reached_grows M N (least.AtOffset offset variable) h = past_grows _ _ offset (h variable)
 
 -- ---- one level is raised
 

@@ -164,14 +164,14 @@ levels_at_most m n le = go (nat_lt m 33) (nat_lt n 33) refl refl
     go true true e f = le
     go false true e f = let lt : n < 33 = ltb-true n 33 f in let ge : 33 ≤ m = grind (arith, nat_tests) in absurd (omega arith)
 
-pub rank_behind : (a : PointerLevel) (offset : ℕ) → is_level a → rank (after_offset a offset) ≡ offset_rank (rank a) offset
-rank_behind None offset h = go (nat_eq offset 0) (nat_lt offset 67108864) 33
+pub rank_past : (a : PointerLevel) (offset : ℕ) → is_level a → rank (after_offset a offset) ≡ offset_rank (rank a) offset
+rank_past None offset h = go (nat_eq offset 0) (nat_lt offset 67108864) 33
   where
     go : (x y : Bool) (n : ℕ) → n ≡ cond x n (cond y n n)
     go true y n = refl
     go false true n = refl
     go false false n = refl
-rank_behind (Some t) offset h = go (nat_eq offset 0) (nat_lt offset 67108864) (nat_lt t 32)
+rank_past (Some t) offset h = go (nat_eq offset 0) (nat_lt offset 67108864) (nat_lt t 32)
   where
     go : (x y z : Bool) → rank (cond x (Some t) (cond y (cond z (Some (suc t)) None) None)) ≡ cond x t (cond y (cond z (suc t) 33) 33)
     go true y z = refl
@@ -190,7 +190,7 @@ module _ (vs : List Variable) (rs : List numbered_rule.Rule) (levels : List ℕ)
       let ranked : rank (level_of (at levels k)) ≡ at levels k = rank_of_level (at levels k) (below.small k) in
       ap (λ a. after_offset a offset) there
       ∙ sym (level_of_rank (after_offset (level_of (at levels k)) offset) (bound_is_level (λ v. level_of (at levels k)) (λ v. level_is_level (at levels k)) (AtOffset offset (Result 0)) tt))
-      ∙ ap level_of (rank_behind (level_of (at levels k)) offset (level_is_level (at levels k)) ∙ ap (λ n. offset_rank n offset) ranked)
+      ∙ ap level_of (rank_past (level_of (at levels k)) offset (level_is_level (at levels k)) ∙ ap (λ n. offset_rank n offset) ranked)
 
   table_met : (r : Rule) → In r (map (named vs) rs) → IsMet (level_in vs levels) r
   table_met r i =
@@ -206,7 +206,7 @@ module _ (vs : List Variable) (rs : List numbered_rule.Rule) (levels : List ℕ)
 
     rank_is : (l : numbered_least.Least) → LeastIsWithin (length vs) l → reached_by ranks l ≡ rank (bound_in B (least_named vs l))
     rank_is (numbered.Known level) w = sym (rank_of_level level w)
-    rank_is (numbered.AtOffset offset k) w = sym (rank_behind (B (variable_at vs k)) offset (closed.levels (variable_at vs k)))
+    rank_is (numbered.AtOffset offset k) w = sym (rank_past (B (variable_at vs k)) offset (closed.levels (variable_at vs k)))
 
     known : (l : numbered_least.Least) → knows_level (least_named vs l)
     known (numbered.Known level) = level_is_level level
@@ -262,11 +262,11 @@ low_by (Some k) levels = low_beside (slice_get levels k)
 placed : (b : Bool) (p n : ℕ) →
     cond (nat_lt (cond (not b) (1 + p) 0) (suc n)) (Some (cond (not b) (1 + p) 0)) None ≡ cond b (Some 0) (option_map suc (cond (nat_lt p n) (Some p) None))
 placed true p n = grind (arith, nat_tests)
-placed false p n = behind (nat_lt p n) (nat_lt (1 + p) (suc n)) (grind (arith, nat_tests))
+placed false p n = past (nat_lt p n) (nat_lt (1 + p) (suc n)) (grind (arith, nat_tests))
   where
-    behind : (b c : Bool) → c ≡ b → cond c (Some (1 + p)) None ≡ option_map suc (cond b (Some p) None)
-    behind true c e = let one : 1 + p ≡ suc p = omega arith in rw (e, one) refl
-    behind false c e = rw e refl
+    past : (b c : Bool) → c ≡ b → cond c (Some (1 + p)) None ≡ option_map suc (cond b (Some p) None)
+    past true c e = let one : 1 + p ≡ suc p = omega arith in rw (e, one) refl
+    past false c e = rw e refl
 
 position-cons : (v x : Variable) (vs : List Variable) → position (same_variable v) (x ∷ vs) ≡ cond (same_variable v x) (Some 0) (option_map suc (position (same_variable v) vs))
 position-cons v x vs = placed (same_variable v x) (position_or_len (same_variable v) vs) (length vs)

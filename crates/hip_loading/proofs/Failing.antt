@@ -74,12 +74,12 @@ module _ (old new : CabinetState) (name : List ℕ) where
       by (inl closed) = inl closed
       by (inr begun) = inr begun.named
   unfetched reads.TooLarge h =
-      (record { files = h.files; misses = h.misses; faults = h.faults }, long old.files h.told)
+      (record { files = h.files; misses = h.misses; faults = h.faults }, long old.files h.stated)
     where
       long : (files : Option (List NamedFile)) → IfSome files (λ known. IsLongFile known name TEXT_LIMIT new)
           → IfSome files (λ known. IsTooLong known name)
-      long None told = told
-      long (Some known) told = record { text = told.bytes; found = told.found; long = told.long }
+      long None stated = stated
+      long (Some known) stated = record { text = stated.bytes; found = stated.found; long = stated.long }
   unfetched reads.NoMemory h = search
 
   pub file_refused : (why : ReadRefusal) (r : Result Program (Failure LoadRefusal))
@@ -90,13 +90,13 @@ module _ (old new : CabinetState) (name : List ℕ) where
       → ReadsProgram text (Err why) → Loads name old new (Err (failure_of_program why))
   unloaded text (failures.Refused why) whole h = (
     record { files = whole.files; misses = whole.misses; faults = whole.faults },
-    record { text = text; is_text = record { fits = whole.fits; told = found old.files whole.told }; refused = h },
+    record { text = text; is_text = record { fits = whole.fits; stated = found old.files whole.stated }; refused = h },
   )
     where
       found : (files : Option (List NamedFile)) → IfSome files (λ known. IsWholeFile known name text new)
           → IfSome files (λ known. file_of known name ≡ Some text)
-      found None told = told
-      found (Some known) told = told.found
+      found None stated = stated
+      found (Some known) stated = stated.found
   unloaded text failures.ReadFault whole h = absurd h
   unloaded text failures.NoMemory whole h = search
 

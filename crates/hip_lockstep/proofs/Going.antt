@@ -41,25 +41,25 @@ none_ends None q e = cc
 none_ends (Some x) q e = cc
 
 -- what the laws of runs say
-pub record IsTold (P : Program) (I : Input) : Type 0 where
+pub record IsStated (P : Program) (I : Input) : Type 0 where
   pub output : (n : ℕ) → (run P I (suc n)).world.output ≡ (run P I n).world.output ++ printed_by (event P I (run P I n))
   pub ending : (n : ℕ) → (run P I (suc n)).world.ending ≡ ending_by (event P I (run P I n))
   pub ends : Ends P I
   pub bounded : (n : ℕ) → IsBounded P I n
 
-pub told_by : (P : Program) (I : Input) →
+pub stated_by : (P : Program) (I : Input) →
     ((P : Program) (I : Input) (n : ℕ) → (run P I (suc n)).world.output ≡ (run P I n).world.output ++ printed_by (event P I (run P I n))) →
     ((P : Program) (I : Input) (n : ℕ) → (run P I (suc n)).world.ending ≡ ending_by (event P I (run P I n))) →
-    ((P : Program) (I : Input) → Ends P I) → ((P : Program) (I : Input) (n : ℕ) → IsBounded P I n) → IsTold P I
-told_by P I output ending ends bounded = record { output = output P I; ending = ending P I; ends = ends P I; bounded = bounded P I }
+    ((P : Program) (I : Input) → Ends P I) → ((P : Program) (I : Input) (n : ℕ) → IsBounded P I n) → IsStated P I
+stated_by P I output ending ends bounded = record { output = output P I; ending = ending P I; ends = ends P I; bounded = bounded P I }
 
-module _ {P : Program} {I : Input} {m : Seen} (told : IsTold P I) (is : IsGoing P I m) where
+module _ {P : Program} {I : Input} {m : Seen} (stated : IsStated P I) (is : IsGoing P I m) where
   -- what the event of the next step says
   pub here : (e : Event) → e ≡ event m.program m.input (state_of m) → event P I (run P I m.taken) ≡ e
-  here e told_of = ap (λ (p : Program). event p I (run p I m.taken)) (sym is.program) ∙ ap (λ (i : Input). event m.program i (run m.program i m.taken)) (sym is.input) ∙ sym told_of
+  here e stated_of = ap (λ (p : Program). event p I (run p I m.taken)) (sym is.program) ∙ ap (λ (i : Input). event m.program i (run m.program i m.taken)) (sym is.input) ∙ sym stated_of
 
   pub ending_next : (e : Event) → event P I (run P I m.taken) ≡ e → (run P I (suc m.taken)).world.ending ≡ ending_by e
-  ending_next e at = told.ending m.taken ∙ ap ending_by at
+  ending_next e at = stated.ending m.taken ∙ ap ending_by at
 
   going_on : after_step m ≡ record { program = m.program; input = m.input; taken = suc m.taken }
   going_on =
@@ -76,7 +76,7 @@ module _ {P : Program} {I : Input} {m : Seen} (told : IsTold P I) (is : IsGoing 
   pub fewer : (e : Event) → event P I (run P I m.taken) ≡ e → ending_by e ≡ None → steps_ahead P I (after_step m).taken < steps_ahead P I m.taken
   fewer e at goes =
       let counted = counted-steps P I (suc m.taken) (ending_next e at ∙ goes) in
-      let within = (told.bounded (suc m.taken)).steps in
+      let within = (stated.bounded (suc m.taken)).steps in
       subst (λ next. steps_ahead P I next.taken < steps_ahead P I m.taken) (sym going_on) (omega (arith, counted, within))
 
   -- the step ended the run
@@ -95,7 +95,7 @@ module _ {P : Program} {I : Input} {m : Seen} (told : IsTold P I) (is : IsGoing 
   pub fewer_if : (run P I (suc m.taken)).world.ending ≡ None → steps_ahead P I (after_step m).taken < steps_ahead P I m.taken
   fewer_if goes =
       let counted = counted-steps P I (suc m.taken) goes in
-      let within = (told.bounded (suc m.taken)).steps in
+      let within = (stated.bounded (suc m.taken)).steps in
       subst (λ next. steps_ahead P I next.taken < steps_ahead P I m.taken) (sym going_on) (omega (arith, counted, within))
 
 starts_going : (P : Program) (I : Input) → (run P I 0).world.ending ≡ None

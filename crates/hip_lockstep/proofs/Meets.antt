@@ -5,7 +5,7 @@ use Rattle.hip_tree.specs.declared.program.Program.{Program}
 use Rattle.hip_run_traces.specs.Headers.{Gives, header}
 use Rattle.hip_run_traces.specs.Laws.TraceLaws.{whole-front, whole-trace}
 use Rattle.hip_run_traces.specs.Misfits.{IsMisfit, IsTraceOf}
-use Rattle.hip_run_traces.specs.Traces.{IsTrace, entry_list, entry_of_event, trace, told}
+use Rattle.hip_run_traces.specs.Traces.{IsTrace, entry_list, entry_of_event, trace, stated}
 use Rattle.hip_run_traces.specs.declared.misfit.MisfitKind.TheVariants.{Malformed, Differs, Early, Extra}
 use Rattle.hip_runs.specs.Outputs.{ending_by}
 use Rattle.hip_runs.specs.Step.{event, header_entries, run}
@@ -15,7 +15,7 @@ use Rattle.hip_runs.specs.declared.input.Input.{Input}
 use Rattle.hip_trace.specs.Pieces.{spelled}
 use Rattle.hip_trace.specs.Reads.{ReaderState, HasNext, HasNone, ahead, one_more}
 use Rattle.hip_trace.specs.declared.entry.Entry.{Entry}
-use Rattle.hip_lockstep.specs.Laws.Readings.{next_read, reads_more, told_at, told_map}
+use Rattle.hip_lockstep.specs.Laws.Readings.{next_read, reads_more, stated_at, stated_map}
 use Rattle.hip_lockstep.specs.Laws.RunSteps.{differs_run, ending_after, fits_more, no_entry, no_entry_goes_on, read_fault, spelled_malformed, spelled_next, spelled_none, trace_after}
 use Rattle.hip_lockstep.specs.InStep.{IsInStep, HasFollowed}
 use Rattle.hip_lockstep.specs.Nexts.{ReadsEnd, ReadsEntry}
@@ -44,13 +44,13 @@ module _ {e : Event} {r : ReaderState} {s : CabinetState} {at : Lockstep} (P : P
       let step : trace P I (suc n) ≡ trace P I n ++ made ∷ [] = trace_after P I n e is.going here ∙ ap (λ o. trace P I n ++ entry_list o) q in
       subst (λ k. HasMisfit P r start s (k + 1) Differs) (sym is.counted) (record {
         reading = is.read.reading;
-        told = told_map (λ bytes. IsRead bytes (trace P I n ++ at.next ∷ []) (ahead r s)) (λ bytes. IsMisfit P bytes true (length (trace P I n) + 1) Differs) start.rest is.read.told
+        stated = stated_map (λ bytes. IsRead bytes (trace P I n ++ at.next ∷ []) (ahead r s)) (λ bytes. IsMisfit P bytes true (length (trace P I n) + 1) Differs) start.rest is.read.stated
             (λ bytes there h.
             let spells = spelled_next bytes (trace P I n) at.next (ahead r s) h in
             let w = whole-trace P I in
             let f = whole-front P I (suc n) w.0 w.1 in
             differs_run P I start is.valid n bytes (Some at.next ∷ spells.0) w.0 (made ∷ f.0) Differs
-            (told_at (λ b. header P (spelled true b) ≡ Gives (header_entries I) I) start.rest bytes there is.header) spells.1 w.1
+            (stated_at (λ b. header P (spelled true b) ≡ Gives (header_entries I) I) start.rest bytes there is.header) spells.1 w.1
             (f.1 ∙ ap (λ es. es ++ f.0) step ∙ append_assoc (trace P I n) (made ∷ []) f.0)
             ((λ p. let same : at.next ≡ made = cc in other (sym same)), refl));
         count = is.read.count ∙ length-append (trace P I n) (at.next ∷ []);
@@ -71,7 +71,7 @@ module _ {e : Event} {r : ReaderState} {s : CabinetState} {at : Lockstep} (P : P
     read_so_far = subst (λ es. HasReadEntries start r s es) (sym step_is) is.read
 
     header_here : (bytes : List ℕ) → start.rest ≡ Some bytes → header P (spelled true bytes) ≡ Gives (header_entries I) I
-    header_here bytes there = told_at (λ b. header P (spelled true b) ≡ Gives (header_entries I) I) start.rest bytes there is.header
+    header_here bytes there = stated_at (λ b. header P (spelled true b) ≡ Gives (header_entries I) I) start.rest bytes there is.header
 
     pub next_in_step : (r' : ReaderState) (s' : CabinetState) (next : Entry) → ending_by e ≡ None → HasNext r r' s s' next → IsInStep P I start (suc n) r' s' (record { next = next; entries = at.entries + 1 })
     next_in_step r' s' next goes h = record {
@@ -100,13 +100,13 @@ module _ {e : Event} {r : ReaderState} {s : CabinetState} {at : Lockstep} (P : P
       counted = counted_next;
       begun = none.count ∙ read_so_far.count;
       progress = none.progress;
-      told = told_map (λ bytes. IsRead bytes (trace P I (suc n)) (ahead r s)) (λ bytes. IsTraceOf P bytes I) start.rest read_so_far.told
+      stated = stated_map (λ bytes. IsRead bytes (trace P I (suc n)) (ahead r s)) (λ bytes. IsTraceOf P bytes I) start.rest read_so_far.stated
           (λ bytes there h. record {
             entries = header_entries I;
             header_is = header_here bytes there;
             trace = trace P I (suc n);
             is_trace = whole_here ending ends;
-            spells = spelled_none bytes (trace P I (suc n)) r s h none.ended ∙ append-nil (told (trace P I (suc n)));
+            spells = spelled_none bytes (trace P I (suc n)) r s h none.ended ∙ append-nil (stated (trace P I (suc n)));
           });
       left = none.left;
     }
@@ -116,7 +116,7 @@ module _ {e : Event} {r : ReaderState} {s : CabinetState} {at : Lockstep} (P : P
         let read = next_read start s s' r r' (trace P I (suc n)) x room read_so_far h in
         subst (λ k. HasMisfit P r' start s' k Extra) (sym (number ∙ ap (λ k. k + 1) counted_next)) (record {
           reading = read.reading;
-          told = told_map (λ bytes. IsRead bytes (trace P I (suc n) ++ x ∷ []) (ahead r' s')) (λ bytes. IsMisfit P bytes true (length (trace P I (suc n)) + 1) Extra) start.rest read.told
+          stated = stated_map (λ bytes. IsRead bytes (trace P I (suc n) ++ x ∷ []) (ahead r' s')) (λ bytes. IsMisfit P bytes true (length (trace P I (suc n)) + 1) Extra) start.rest read.stated
               (λ bytes there k.
               let spells = spelled_next bytes (trace P I (suc n)) x (ahead r' s') k in
               differs_run P I start is.valid (suc n) bytes (Some x ∷ spells.0) (trace P I (suc n)) [] Extra (header_here bytes there) spells.1 (whole_here ending ends) (sym (append-nil (trace P I (suc n)))) refl);
@@ -125,7 +125,7 @@ module _ {e : Event} {r : ReaderState} {s : CabinetState} {at : Lockstep} (P : P
     end_missing r' s' (refusals.Misfit entry Malformed) ending ends (number, bad) =
         subst (λ k. HasMisfit P r' start s' k Malformed) (sym (number ∙ ap (λ k. k + 1) counted_next)) (record {
           reading = reads_more start s s' read_so_far.reading bad.reading;
-          told = told_map (λ bytes. IsRead bytes (trace P I (suc n)) (ahead r s)) (λ bytes. IsMisfit P bytes true (length (trace P I (suc n)) + 1) Malformed) start.rest read_so_far.told
+          stated = stated_map (λ bytes. IsRead bytes (trace P I (suc n)) (ahead r s)) (λ bytes. IsMisfit P bytes true (length (trace P I (suc n)) + 1) Malformed) start.rest read_so_far.stated
               (λ bytes there k.
               let spells = spelled_malformed bytes (trace P I (suc n)) r s k bad.entries in
               differs_run P I start is.valid (suc n) bytes (None ∷ spells.0) (trace P I (suc n)) [] Malformed (header_here bytes there) spells.1 (whole_here ending ends) (sym (append-nil (trace P I (suc n)))) refl);

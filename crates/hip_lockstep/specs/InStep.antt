@@ -35,7 +35,7 @@ pub record HasFollowed (P : Program) (I : Input) (start : CabinetState) (n : ℕ
   pub counted : entries ≡ length (trace P I n)
   pub begun : r.count ≡ length (trace P I n)
   pub progress : r.progress ≡ Ended
-  pub told : IfSome start.rest (λ bytes. IsTraceOf P bytes I)
+  pub stated : IfSome start.rest (λ bytes. IsTraceOf P bytes I)
   pub left : IfSome s.rest (λ rest. rest ≡ [])
 
 -- what holds after one step more, by the result

@@ -3,7 +3,7 @@ use Rattle.std.specs.Prelude.{◌≡◌, ℕ, true, List, [], ◌∷◌, ◌++�
 use Rattle.hip_io.specs.Cabinets.{CabinetState}
 use Rattle.hip_tree.specs.declared.program.Program.{Program}
 use Rattle.hip_run_traces.specs.Headers.{Gives, header, header_from, valid_base, valid_limit, with_entry}
-use Rattle.hip_run_traces.specs.Traces.{header_of, told}
+use Rattle.hip_run_traces.specs.Traces.{header_of, stated}
 use Rattle.hip_runs.specs.Step.{header_entries}
 use Rattle.hip_runs.specs.Validity.{IsValid}
 use Rattle.hip_runs.specs.declared.input.Input.{Input}
@@ -37,7 +37,7 @@ pub record HasGiven (P : Program) (start : CabinetState) (r : ReaderState) (s : 
   pub entries : List Entry
   pub read : HasReadEntries start r s entries
   pub counted : count ≡ length entries
-  pub header : (more : List (Option Entry)) → header P (told entries ++ more) ≡ header_from P given count more
+  pub header : (more : List (Option Entry)) → header P (stated entries ++ more) ≡ header_from P given count more
 
 -- All valid entries of a header were read, and one entry after them.
 pub record HasAllGiven (P : Program) (start : CabinetState) (r : ReaderState) (s : CabinetState) (given : Input)
@@ -46,7 +46,7 @@ pub record HasAllGiven (P : Program) (start : CabinetState) (r : ReaderState) (s
   pub read : HasReadEntries start r s (entries ++ lockstep.next ∷ [])
   pub counted : lockstep.entries ≡ length entries
   pub header : (more : List (Option Entry))
-      → header P (told entries ++ more) ≡ header_from P given lockstep.entries more
+      → header P (stated entries ++ more) ≡ header_from P given lockstep.entries more
   pub ends : with_entry P given (Some lockstep.next) ≡ None
 
 -- The header was read, which gives the input, and one entry after it.

@@ -2,7 +2,7 @@
 use Rattle.std.specs.Prelude.{◌≡◌, ◌⊎◌, ℕ, Bool, true, false, List, [], ◌++◌, length, Option, Some, IfSome}
 use Rattle.hip_io.specs.Cabinets.{CabinetState}
 use Rattle.hip_run_traces.specs.Laws.GivenLaws.{FitAll}
-use Rattle.hip_run_traces.specs.Traces.{told}
+use Rattle.hip_run_traces.specs.Traces.{stated}
 use Rattle.hip_trace.specs.Pieces.{spelled}
 use Rattle.hip_trace.specs.Reads.{ReaderState, IsReading, ahead}
 use Rattle.hip_trace.specs.declared.entry.Entry.{Entry}
@@ -11,14 +11,14 @@ use Rattle.hip_trace.specs.declared.refusal.Progress.TheVariants.{Reading}
 -- The text ends at a separator: its pieces stay the same, whatever follows.
 pub record StopsAtSeparator (text : List ℕ) (entries : List Entry) : Type 0 where
   pub spells : (whole : Bool) → (more : List ℕ)
-      → spelled whole (text ++ more) ≡ told entries ++ spelled whole more
+      → spelled whole (text ++ more) ≡ stated entries ++ spelled whole more
 
 -- The text is the whole file; its last piece has no separator, and is a piece only because the file is whole.
 pub record StopsAtEnd (text : List ℕ) (entries : List Entry) (left : List ℕ) : Type 0 where
   pub none : left ≡ []
-  pub spells : spelled true text ≡ told entries
+  pub spells : spelled true text ≡ stated entries
   pub last : List (Option Entry)
-  pub front : told entries ≡ spelled false text ++ last
+  pub front : stated entries ≡ spelled false text ++ last
 
 -- Whole pieces were taken off the front of a file, which spell these entries; the rest is ahead.
 pub record IsRead (bytes : List ℕ) (entries : List Entry) (ahead : Option (List ℕ)) : Type 0 where
@@ -34,5 +34,5 @@ pub record HasReadEntries (start : CabinetState) (r : ReaderState) (s : CabinetS
   pub reading : IsReading start s
   pub progress : r.progress ≡ Reading
   pub count : r.count ≡ length entries
-  pub fit : FitAll (told entries)
-  pub told : IfSome start.rest (λ bytes. IsRead bytes entries (ahead r s))
+  pub fit : FitAll (stated entries)
+  pub stated : IfSome start.rest (λ bytes. IsRead bytes entries (ahead r s))

@@ -21,7 +21,7 @@ begun_at Extra entry = entry
 pub record HasMisfit (P : Program) (r : ReaderState) (old new : CabinetState) (entry : ℕ) (kind : MisfitKind) : Type 0
   where
     pub reading : IsReading old new
-    pub told : IfSome old.rest (λ bytes. IsMisfit P bytes true entry kind)
+    pub stated : IfSome old.rest (λ bytes. IsMisfit P bytes true entry kind)
     pub count : r.count ≡ begun_at kind entry
 
 -- these bytes were taken from the front of a file, and the rest is left
@@ -41,7 +41,7 @@ pub record HasReadFault (P : Program) (old new : CabinetState) : Type 0 where
   pub stays : StaysOpen old new
   pub later : old.faults ≤ new.faults
   pub rose : Rose old.faults new.faults
-  pub told : IfSome old.rest (λ bytes. ShowsNone P bytes new.rest)
+  pub stated : IfSome old.rest (λ bytes. ShowsNone P bytes new.rest)
 
 -- Memory ran out; no read failed, and the file is still the current one.
 pub record HasStoppedReplay (old new : CabinetState) : Type 0 where

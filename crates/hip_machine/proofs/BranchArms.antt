@@ -106,4 +106,4 @@ follows {code} {old} {new} {number} mid edge here made is = record {
 
 -- the op is a branch along that edge
 pub acts_branch : {code : Code} {old new : Core} {e : Event} {go : Go} (number : ℕ) → number ≡ edge_taken (numbers_of code old) go → Follows code old new e number → Acts code old new e (ops.Control (controls.Go go))
-acts_branch {code} {old} {new} {e} {go} number is f = record { acts = λ m b placed behind. (subst (Follows code old new e) is f).follows m b placed.0 }
+acts_branch {code} {old} {new} {e} {go} number is f = record { acts = λ m b placed past. (subst (Follows code old new e) is f).follows m b placed.0 }

@@ -63,7 +63,7 @@ result_goes names (Some slot) r = r
 -- past 16,384 frames
 pub acts_too_deep : {code : Code} {old new : Core} {e : Event} {call : Call} → MOST_FRAMES - 1 ≤ length old.saved.items → Does old new e true (λ m. Traps trap_kinds.Depth) → Acts code old new e (ops.Control (controls.Call call))
 acts_too_deep {code} {old} {new} {e} {call} many d = record {
-  acts = λ m b placed behind.
+  acts = λ m b placed past.
       let count = saved_length b.stands.saved in
       let deep : nat_lt (length m.rest) (MOST_FRAMES - 1) ≡ false = le-ltb _ _ (omega (arith, many, count)) in
       let calls = Calls call.function (moved (names_at m.program call.function) (numbers_of code old) (entries_of call.arguments code.moves.items) []) (result_name (names_at m.program m.top.function) call.dest) in
@@ -79,7 +79,7 @@ pub acts_call : {code : Code} {old new : Core} {call : Call} (longer : List ℕ)
     Acts code old new events.Quiet (ops.Control (controls.Call call))
 unfolding perform
 acts_call {code} {old} {new} {call} longer mid few l room pushed made is = record {
-  acts = λ m b placed behind.
+  acts = λ m b placed past.
       let s = b.stands in
       let n = numbers_of code old in
       let P = m.program in
@@ -117,14 +117,14 @@ acts_call {code} {old} {new} {call} longer mid few l room pushed made is = recor
               record old.top { place = old.top.place + 1 },
               pushed,
               record {
-                placed = placed_next s.placed (behind refl);
+                placed = placed_next s.placed (past refl);
                 registers = subst (λ xs. HoldsFrame names xs old.top.base m.top.registers) (sym made) (holds_kept names old.top.base m.top.registers base old.slots.items (put n base ms longer) before changed s.registers);
                 lower = low;
                 apart = before;
                 result = result_goes names call.dest placed.0.result;
                 mark = s.mark;
                 blocks = s.blocks.below;
-                call = record { index = m.top.place; birth = m.before.steps; behind = refl; is = refl };
+                call = record { index = m.top.place; birth = m.before.steps; past = refl; is = refl };
               },
               (subst (λ xs. AreSaved P xs old.top.base old.top.dest m.top.dest m.top.level old.saved.items m.rest) (sym made) (saved_kept (let z : old.top.base ≤ old.top.base = omega arith in z) changed_low s.saved)).are,
             );

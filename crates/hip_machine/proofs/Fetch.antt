@@ -17,7 +17,7 @@ use Rattle.hip_invariants.specs.NeverStuck.{ReadsAssigned}
 use Rattle.hip_invariants.specs.Reached.{top_is_reached}
 use Rattle.hip_invariants.specs.StackShape.{lie_between, lie_in_order, HasShape}
 use Rattle.hip_invariants.specs.Laws.StackShape.{lower}
-use Rattle.hip_objects.specs.Blocks.{IsBehind, nonempty}
+use Rattle.hip_objects.specs.Blocks.{IsPast, nonempty}
 use Rattle.hip_machine.specs.Blocks.{blocks_of}
 use Rattle.hip_mem.specs.Areas.{mark_of}
 use Rattle.hip_code.specs.declared.code.Code.{Code}
@@ -46,30 +46,30 @@ uncut m new e turn x d cut =
 module _ {I : Input} {code : Code} {old new : Core} {e : Event} {o : Op} where
   -- what holds on any input
   pub on_input : Acts code old new e o → ActsOn I code old new e o
-  on_input a = record { acts = λ m same b placed behind. a.acts m b placed behind }
+  on_input a = record { acts = λ m same b placed past. a.acts m b placed past }
 
   -- while the limit allows it, an op does its action in a turn
   pub carries_turn : op_turn o ≡ true → old.turns < old.limit → ActsOn I code old new e o → Carries I code old new e o
   carries_turn t below a = record {
-    carries = λ m same b placed behind.
+    carries = λ m same b placed past.
         let turns = b.stands.turns in
         let limit = b.stands.limit in
         let allowed : nat_lt m.world.turns m.input.limit ≡ true = lt-ltb _ _ (omega (arith, below, turns, limit)) in
-        uncut m new e (op_turn o) (action_here code old o m) (a.acts m same b placed behind) (ap₂ (λ t n. t && not n) t allowed);
+        uncut m new e (op_turn o) (action_here code old o m) (a.acts m same b placed past) (ap₂ (λ t n. t && not n) t allowed);
   }
 
   -- what is no turn is never cut
   pub carries_still : op_turn o ≡ false → Acts code old new e o → Carries I code old new e o
   carries_still t a = record {
-    carries = λ m same b placed behind.
-        uncut m new e (op_turn o) (action_here code old o m) (a.acts m b placed behind) (ap (λ t. t && not (nat_lt m.world.turns m.input.limit)) t);
+    carries = λ m same b placed past.
+        uncut m new e (op_turn o) (action_here code old o m) (a.acts m b placed past) (ap (λ t. t && not (nat_lt m.world.turns m.input.limit)) t);
   }
 
 -- at the limit the run is cut
 pub carries_cut : {I : Input} {code : Code} {old new : Core} {e : Event} {o : Op} → op_turn o ≡ true → old.limit ≤ old.turns → e ≡ events.End Cut → new ≡ record old { ending = Some Cut; taken = old.taken + 1 } → Carries I code old new e o
 unfolding carry_out
 carries_cut {I} {code} {old} {new} {e} {o} t above is stops = record {
-  carries = λ m same b placed behind.
+  carries = λ m same b placed past.
       let s = b.stands in
       let turns = s.turns in
       let limit = s.limit in
@@ -161,24 +161,24 @@ module _ (code : Code) (c : Core) (m : Moment) (whole : IsCodeOf m.program m.inp
 -- ---- steps
 
 -- the blocks of frames end below the mark
-slots_behind : (low high : ℕ) (ss : List Slot) → lie_between low high ss → IsBehind high (reverse ss)
-slots_behind low high [] h = All-nil _
-slots_behind low high (x ∷ ss) h =
-    let older = slots_behind low x.addr ss h.1 in
+slots_past : (low high : ℕ) (ss : List Slot) → lie_between low high ss → IsPast high (reverse ss)
+slots_past low high [] h = All-nil _
+slots_past low high (x ∷ ss) h =
+    let older = slots_past low x.addr ss h.1 in
     let Ends : Slot → Type 0 = λ y. y.addr + y.size ≤ high in
     All-same Ends (reverse (x ∷ ss)) (reverse ss ++ x ∷ []) (reverse-append (x ∷ []) ss)
     (All-append Ends (reverse ss) (x ∷ []) (All-weaker (λ (y : Slot). y.addr + y.size ≤ x.addr) Ends (λ y le. let a = h.0 in omega (arith, le, a)) (reverse ss) older) (All-cons Ends x [] h.0 (All-nil Ends)))
 
-kept_behind : (low high : ℕ) (ss : List Slot) → lie_between low high ss → IsBehind high (nonempty (reverse ss))
-kept_behind low high ss h = All-filter (λ (y : Slot). nat_lt 0 y.size) (λ (y : Slot). y.addr + y.size ≤ high) (reverse ss) (slots_behind low high ss h)
+kept_past : (low high : ℕ) (ss : List Slot) → lie_between low high ss → IsPast high (nonempty (reverse ss))
+kept_past low high ss h = All-filter (λ (y : Slot). nat_lt 0 y.size) (λ (y : Slot). y.addr + y.size ≤ high) (reverse ss) (slots_past low high ss h)
 
-all_behind : (mark : ℕ) (f : Frame) (fs : List Frame) → lie_in_order mark (f ∷ fs) → IsBehind mark (blocks_of (f ∷ fs))
-all_behind mark f [] h = kept_behind f.mark mark f.slots h.0
-all_behind mark f (g ∷ fs) h =
-    let older = all_behind f.mark g fs h.1 in
+all_past : (mark : ℕ) (f : Frame) (fs : List Frame) → lie_in_order mark (f ∷ fs) → IsPast mark (blocks_of (f ∷ fs))
+all_past mark f [] h = kept_past f.mark mark f.slots h.0
+all_past mark f (g ∷ fs) h =
+    let older = all_past f.mark g fs h.1 in
     let le = lower f.mark mark f.slots h.0 in
     All-append (λ (y : Slot). y.addr + y.size ≤ mark) (blocks_of (g ∷ fs)) (nonempty (reverse f.slots))
-    (All-weaker (λ (y : Slot). y.addr + y.size ≤ f.mark) (λ (y : Slot). y.addr + y.size ≤ mark) (λ y q. omega (arith, q, le)) (blocks_of (g ∷ fs)) older) (kept_behind f.mark mark f.slots h.0)
+    (All-weaker (λ (y : Slot). y.addr + y.size ≤ f.mark) (λ (y : Slot). y.addr + y.size ≤ mark) (λ y q. omega (arith, q, le)) (blocks_of (g ∷ fs)) older) (kept_past f.mark mark f.slots h.0)
 
 laid : (c : Core) (m : Moment) → Before c m → IsLaid c
 laid c m b =
@@ -189,9 +189,9 @@ laid c m b =
     let now = s.storage.memory.mark_is in
     let begins = s.placed.begins in
     let stands = s.placed.stands.is in
-    let all = all_behind m.world.mark m.top m.rest b.shaped.in_order in
+    let all = all_past m.world.mark m.top m.rest b.shaped.in_order in
     record {
-      behind = subst (λ xs. IsBehind (mark_of c.storage.areas) xs) (sym s.blocks.are) (subst (λ a. IsBehind a (blocks_of (m.top ∷ m.rest))) (sym now) all);
+      past = subst (λ xs. IsPast (mark_of c.storage.areas) xs) (sym s.blocks.are) (subst (λ a. IsPast a (blocks_of (m.top ∷ m.rest))) (sym now) all);
       low = omega (arith, mark, low);
       high = omega (arith, mark, high, now);
       entry = omega (arith, begins, stands);

@@ -31,7 +31,7 @@ use Rattle.hip_code.specs.Laws.Slots.{holds_assigned}
 use Rattle.hip_code.specs.Moves.{name_at}
 use Rattle.hip_code.specs.Numbers.{operand_value}
 use Rattle.hip_code.specs.Ops.{IsSize}
-use Rattle.hip_objects.specs.Blocks.{IsBehind, nonempty}
+use Rattle.hip_objects.specs.Blocks.{IsPast, nonempty}
 use Rattle.hip_objects.proofs.Stacks.{nonempty-append}
 use Rattle.hip_storage.specs.Calls.{HasLoaded, HasPushed, HasStored}
 use Rattle.hip_storage.specs.Contents.{Contents, access_trap, after_pop, block_trap}
@@ -96,13 +96,13 @@ pub stands_next : {old new : Core} {m : Moment} (turn : Bool) (st : Contents) (w
     new ≡ record old { storage = st; top = record old.top { place = old.top.place + 1 }; taken = old.taken + 1; turns = turns_after turn old.turns } → Before old m → HasNext old m →
     turns_after turn old.turns ≡ w.turns → old.ending ≡ w.ending → drop old.read m.input.numbers ≡ w.left → HoldsRun m.program m.input st w.writes w.mark →
     Stands m.program m.input new w (next m.top) m.rest m.after.steps
-stands_next {old} {new} {m} turn st w is b behind t e l h = let s = b.stands in subst (λ (c : Core). Stands m.program m.input c w (next m.top) m.rest m.after.steps) (sym is) (record {
+stands_next {old} {new} {m} turn st w is b past t e l h = let s = b.stands in subst (λ (c : Core). Stands m.program m.input c w (next m.top) m.rest m.after.steps) (sym is) (record {
   limit = s.limit;
   turns = t;
   taken = counted_next _ _ _ s.taken b.counted;
   ending = e;
   left = l;
-  placed = placed_next s.placed behind;
+  placed = placed_next s.placed past;
   registers = s.registers;
   mark = s.mark;
   saved = s.saved;
@@ -123,13 +123,13 @@ pub passes : {old new : Core} {turn : Bool} {e : Event} {m : Moment} {action : A
     new ≡ record old { storage = st; top = record old.top { place = old.top.place + 1 }; taken = old.taken + 1; turns = turns_after turn old.turns } → Before old m → HasNext old m →
     Stepped m.program m.input new e (acted m turn action) (seen_of m action)
 unfolding perform
-passes {old} {new} {turn} {e} {m} {action} done st ok d is b behind = subst (λ x. Stepped m.program m.input new e (acted m turn x) (seen_of m x)) (sym d.is) (go done ok d)
+passes {old} {new} {turn} {e} {m} {action} done st ok d is b past = subst (λ x. Stepped m.program m.input new e (acted m turn x) (seen_of m x)) (sym d.is) (go done ok d)
   where
     at : (w : World) → w.turns ≡ (cond turn (with_turn m.world) m.world).turns → w.ending ≡ (cond turn (with_turn m.world) m.world).ending → w.left ≡ (cond turn (with_turn m.world) m.world).left → HoldsRun m.program m.input st w.writes w.mark →
         Stands m.program m.input new w (next m.top) m.rest m.after.steps
     at w t g l h =
         let s = b.stands in
-        stands_next turn st w is b behind (turns_turned turn old.turns m.world s.turns ∙ sym t) (ending_turned turn old.ending m.world s.ending ∙ sym g) (left_turned turn (drop old.read m.input.numbers) m.world s.left ∙ sym l) h
+        stands_next turn st w is b past (turns_turned turn old.turns m.world s.turns ∙ sym t) (ending_turned turn old.ending m.world s.ending ∙ sym g) (left_turned turn (drop old.read m.input.numbers) m.world s.left ∙ sym l) h
 
     go : (x : Action) → leaves x → HasDone m.program m.input (point_of m turn) st e action x → Stepped m.program m.input new e (acted m turn x) (seen_of m x)
     go (Stores a bs) ok d = record { stands = at (with_bytes a bs (cond turn (with_turn m.world) m.world)) refl refl refl d.holds; event = d.seen }
@@ -160,7 +160,7 @@ pub halts : {old new : Core} {e : Event} {x : Moment → Action} (st : Contents)
     new ≡ record old { storage = st; ending = Some (Trap kind); taken = old.taken + 1 } → DoesNext old new e false x
 unfolding perform
 halts {old} {new} {e} {x} st kind same is event stops = record {
-  does = λ m b behind.
+  does = λ m b past.
       let s = b.stands in
       subst (λ y. Stepped m.program m.input new e (acted m false y) (seen_of m y)) (sym (is m b)) (record {
         stands = subst (λ (c : Core). Stands m.program m.input c (record m.world { ending = Some (Trap kind) }) m.top m.rest m.after.steps) (sym (stops ∙ ap (λ (y : Contents). record old { storage = y; ending = Some (Trap kind); taken = old.taken + 1 }) same)) (record {
@@ -189,20 +189,20 @@ pub acts_load : {code : Code} {old new : Core} {dest align : ℕ} {width : Width
     new ≡ record old { slots = new.slots; top = record old.top { place = old.top.place + 1 }; taken = old.taken + 1; turns = old.turns + 1 } → new.slots.items ≡ slice_set old.slots.items (old.top.base + dest) v →
     Acts code old new events.Quiet (ops.Memory (memories.Load dest width align addr))
 acts_load {code} {old} {new} {dest} {align} {width} {addr} a n value v at_a is_n loaded is_v is slots = record {
-  acts = λ m b placed behind.
+  acts = λ m b placed past.
       let P = m.program in
       let name = name_at (names_at P m.top.function) dest in
       let some : 0 < n = subst (λ k. 0 < k) (sym is_n) (width_some width) in
       let done = load_done (point_of m true) b.stands.storage {dest = Some name} (modulus width) some loaded refl in
       let of : ℕ → ℕ → Action = λ k j. accessed P m.input m.world k j align (Assigns (Some name) (little_endian (bytes_at (memory_of P m.input m.world) k j) % modulus width)) in
       let step = λ (x : Action). Stepped P m.input new events.Quiet (acted m true x) (seen_of m x) in
-      subst (λ k. step (of k (bytes_of width))) at_a (subst (λ j. step (of a j)) is_n (subst step (sym done.is) (subst (λ u. step (Assigns (Some name) u)) is_v (assigns new dest v is slots placed.0 (behind refl) b))));
+      subst (λ k. step (of k (bytes_of width))) at_a (subst (λ j. step (of a j)) is_n (subst step (sym done.is) (subst (λ u. step (Assigns (Some name) u)) is_v (assigns new dest v is slots placed.0 (past refl) b))));
 }
 
 pub acts_load_trap : {code : Code} {old new : Core} {e : Event} {dest align : ℕ} {width : Width} {addr : Operand} (a n : ℕ) (kind : TrapKind) → a ≡ operand_value (numbers_of code old) addr → n ≡ bytes_of width → access_trap old.storage a n align ≡ Some kind →
     Does old new e true (λ m. Traps kind) → Acts code old new e (ops.Memory (memories.Load dest width align addr))
 acts_load_trap {code} {old} {new} {e} {dest} {align} {width} {addr} a n kind at_a is_n trapped d = record {
-  acts = λ m b placed behind.
+  acts = λ m b placed past.
       let P = m.program in
       let name = name_at (names_at P m.top.function) dest in
       let some : 0 < n = subst (λ k. 0 < k) (sym is_n) (width_some width) in
@@ -217,17 +217,17 @@ pub acts_store : {code : Code} {old new : Core} {e : Event} {size align : ℕ} {
     new ≡ record old { storage = st; top = record old.top { place = old.top.place + 1 }; taken = old.taken + 1; turns = old.turns + 1 } →
     Acts code old new e (ops.Memory (memories.Store size align value addr))
 acts_store {code} {old} {new} {e} {size} {align} {value} {addr} st a v at_a is_v sizes stored is = record {
-  acts = λ m b placed behind.
+  acts = λ m b placed past.
       let done = store_done (point_of m true) b.stands.storage (size_some size sizes) stored in
       let step = λ (k u : ℕ). let x = accessed m.program m.input m.world k size align (Stores k (bytes.bytes_of size u)) in Stepped m.program m.input new e (acted m true x) (seen_of m x) in
-      subst (λ k. step k (operand_value (numbers_of code old) value)) at_a (subst (λ u. step a u) is_v (passes {turn = true} (Stores a (bytes.bytes_of size v)) st tt done is b (behind refl)));
+      subst (λ k. step k (operand_value (numbers_of code old) value)) at_a (subst (λ u. step a u) is_v (passes {turn = true} (Stores a (bytes.bytes_of size v)) st tt done is b (past refl)));
 }
 
 pub acts_store_trap : {code : Code} {old new : Core} {e : Event} {size align : ℕ} {value addr : Operand} (st : Contents) (a v : ℕ) (kind : TrapKind) → a ≡ operand_value (numbers_of code old) addr → v ≡ operand_value (numbers_of code old) value → IsSize size →
     access_trap old.storage a size align ≡ Some kind → st ≡ old.storage → Does (record old { storage = st }) new e true (λ m. Traps kind) →
     Acts code old new e (ops.Memory (memories.Store size align value addr))
 acts_store_trap {code} {old} {new} {e} {size} {align} {value} {addr} st a v kind at_a is_v sizes trapped same d = record {
-  acts = λ m b placed behind.
+  acts = λ m b placed past.
       let done = access_refused (point_of m true) b.stands.storage {new = st} a size align kind (Stores a (bytes.bytes_of size v)) (size_some size sizes) trapped same in
       let step = λ (k u : ℕ). let x = accessed m.program m.input m.world k size align (Stores k (bytes.bytes_of size u)) in Stepped m.program m.input new e (acted m true x) (seen_of m x) in
       subst (λ k. step k (operand_value (numbers_of code old) value)) at_a (subst (λ u. step a u) is_v (refused st kind same d done.is b));
@@ -240,8 +240,8 @@ block_added all older ss s e =
     ap (λ xs. xs ++ nonempty (s ∷ [])) e ∙ append_assoc older (nonempty (reverse ss)) (nonempty (s ∷ []))
     ∙ ap (λ xs. older ++ xs) (sym (nonempty-append (reverse ss) (s ∷ [])) ∙ ap nonempty (sym (reverse-append (s ∷ []) ss)))
 
-pub behind_block : {x st : Contents} {block size align : ℕ} (xs : List Slot) → HasPushed x st block size align → IsBehind (mark_of x.areas) xs → IsBehind block xs
-behind_block {x} {st} {block} {size} {align} xs p h =
+pub past_block : {x st : Contents} {block size align : ℕ} (xs : List Slot) → HasPushed x st block size align → IsPast (mark_of x.areas) xs → IsPast block xs
+past_block {x} {st} {block} {size} {align} xs p h =
     let up = mark-le-block x.areas align in
     let at_block = p.address in
     All-weaker (λ (y : Slot). y.addr + y.size ≤ mark_of x.areas) (λ (y : Slot). y.addr + y.size ≤ block) (λ y le. omega (arith, le, up, at_block)) xs h
@@ -265,7 +265,7 @@ pub acts_alloca : {old new : Core} {dest size align : ℕ} (st : Contents) (a : 
     new.slots.items ≡ slice_set old.slots.items (old.top.base + dest) a → (code : Code) → Acts code old new events.Quiet (ops.Memory (memories.Effect (effects.Alloca dest size align)))
 unfolding perform
 acts_alloca {old} {new} {dest} {size} {align} st a pushed is slots code = record {
-  acts = λ m b placed behind.
+  acts = λ m b placed past.
       let s = b.stands in
       let P = m.program in
       let names = names_at P m.top.function in
@@ -287,7 +287,7 @@ acts_alloca {old} {new} {dest} {size} {align} st a pushed is slots code = record
           taken = counted_next _ _ _ s.taken b.counted;
           ending = s.ending;
           left = s.left;
-          placed = placed_next s.placed (behind refl);
+          placed = placed_next s.placed (past refl);
           registers = subst (λ xs. HoldsFrame names xs old.top.base ((name, a) ∷ m.top.registers)) (sym slots) (holds_assigned names old.slots.items old.top.base m.top.registers name dest a placed.0 s.registers);
           mark = s.mark;
           saved = subst (λ xs. AreSaved P xs old.top.base old.top.dest m.top.dest m.top.level old.saved.items m.rest) (sym slots) (saved_kept same (kept_set old.top.base old.slots.items (old.top.base + dest) a high) s.saved);
@@ -304,7 +304,7 @@ acts_alloca {old} {new} {dest} {size} {align} st a pushed is slots code = record
 pub acts_alloca_trap : {old new : Core} {e : Event} {dest size align : ℕ} (st : Contents) (kind : TrapKind) → block_trap old.storage size align ≡ Some kind → st ≡ old.storage → Does (record old { storage = st }) new e true (λ m. Traps kind) →
     (code : Code) → Acts code old new e (ops.Memory (memories.Effect (effects.Alloca dest size align)))
 acts_alloca_trap {old} {new} {e} {dest} {size} {align} st kind trapped same d code = record {
-  acts = λ m b placed behind.
+  acts = λ m b placed past.
       let name = name_at (names_at m.program m.top.function) dest in
       refused st kind same d (block_refused (point_of m true) b.stands.storage {new = st} name size align kind trapped same).is b;
 }

@@ -58,11 +58,11 @@ module _ {code : Code} {c : Core} where
 
   pub tells_store : {ty : Scalar} {value addr : Operand} {align : Option ℕ} {k : ℕ} {o : Option ℕ} (op : Op) → slice_get code.ops.items c.top.place ≡ Some op → k ≡ 0 → ((a : ℕ) → stores_at (numbers_of code c) a op → o ≡ Some a) →
       TellsPointer code c (Store ty value addr align) k o
-  tells_store {ty} {value} {addr} {align} {k} {o} op at first told = record {
+  tells_store {ty} {value} {addr} {align} {k} {o} op at first stated = record {
     tells = λ P I rs op' sound here names agrees.
         let same : op' ≡ op = same_Some _ _ (sym here ∙ at) in
         let v = value_of P.globals I.base rs addr in
-        told v (subst (stores_at (numbers_of code c) v) same names.is) ∙ ap (λ j. option_map (value_of P.globals I.base rs) (slice_get (addr ∷ []) j)) (sym first);
+        stated v (subst (stores_at (numbers_of code c) v) same names.is) ∙ ap (λ j. option_map (value_of P.globals I.base rs) (slice_get (addr ∷ []) j)) (sym first);
   }
 
 -- as many arguments as parameters

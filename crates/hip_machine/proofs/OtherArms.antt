@@ -39,14 +39,14 @@ use Rattle.hip_machine.proofs.Slots.{holds_result, kept_result, saved_kept}
 
 pub flushes : {old new : Core} {e : Event} (a n : ℕ) → ShowsFlush old.storage e a n → new ≡ record old { top = record old.top { place = old.top.place + 1 }; taken = old.taken + 1 } →
     DoesNext old new e false (λ m. flushing m.program m.input m.world a n (Flushes a n))
-flushes {old} {new} {e} a n x is = record { does = λ m b behind. passes {turn = false} (Flushes a n) old.storage tt (flush_done (point_of m false) b.stands.storage x) is b behind }
+flushes {old} {new} {e} a n x is = record { does = λ m b past. passes {turn = false} (Flushes a n) old.storage tt (flush_done (point_of m false) b.stands.storage x) is b past }
 
 pub persists : {old new : Core} {e : Event} (a n : ℕ) → ShowsPersist old.storage e a n → new ≡ record old { top = record old.top { place = old.top.place + 1 }; taken = old.taken + 1 } →
     DoesNext old new e false (λ m. flushing m.program m.input m.world a n (Persists a n))
-persists {old} {new} {e} a n x is = record { does = λ m b behind. passes {turn = false} (Persists a n) old.storage tt (persist_done (point_of m false) b.stands.storage x) is b behind }
+persists {old} {new} {e} a n x is = record { does = λ m b past. passes {turn = false} (Persists a n) old.storage tt (persist_done (point_of m false) b.stands.storage x) is b past }
 
 pub fences : {old new : Core} → new ≡ record old { top = record old.top { place = old.top.place + 1 }; taken = old.taken + 1 } → DoesNext old new events.Fence false (λ m. Fences)
-fences {old} {new} is = record { does = λ m b behind. passes {turn = false} Fences old.storage tt (fence_done (point_of m false) b.stands.storage) is b behind }
+fences {old} {new} is = record { does = λ m b past. passes {turn = false} Fences old.storage tt (fence_done (point_of m false) b.stands.storage) is b past }
 
 -- a range with a byte that is not valid
 pub range_halts : {old new : Core} {e : Event} (a n : ℕ) (kind : TrapKind) (go : Action) → range_trap old.storage a n ≡ Some kind → e ≡ events.End (Trap kind) →
@@ -56,71 +56,71 @@ range_halts {old} {new} {e} a n kind go trapped event stops = halts old.storage 
 pub acts_flush : {code : Code} {old new : Core} {e : Event} {addr : Operand} (a : ℕ) → a ≡ operand_value (numbers_of code old) addr → DoesNext old new e false (λ m. flushing m.program m.input m.world a 1 (Flushes a 1)) →
     Acts code old new e (ops.Memory (memories.Effect (effects.Persistence (persistences.Flush addr))))
 acts_flush {code} {old} {new} {e} {addr} a is d = record {
-  acts = λ m b placed behind.
-      subst (λ k. let x = flushing m.program m.input m.world k 1 (Flushes k 1) in Stepped m.program m.input new e (acted m false x) (seen_of m x)) is (d.does m b (behind refl));
+  acts = λ m b placed past.
+      subst (λ k. let x = flushing m.program m.input m.world k 1 (Flushes k 1) in Stepped m.program m.input new e (acted m false x) (seen_of m x)) is (d.does m b (past refl));
 }
 
 pub acts_fence : {code : Code} {old new : Core} {e : Event} → DoesNext old new e false (λ m. Fences) → Acts code old new e (ops.Memory (memories.Effect (effects.Persistence persistences.Fence)))
-acts_fence d = record { acts = λ m b placed behind. d.does m b (behind refl) }
+acts_fence d = record { acts = λ m b placed past. d.does m b (past refl) }
 
 pub acts_range : {code : Code} {old new : Core} {e : Event} {addr size : Operand} {fence : Bool} (a n : ℕ) → a ≡ operand_value (numbers_of code old) addr → n ≡ operand_value (numbers_of code old) size →
     DoesNext old new e false (λ m. flushing m.program m.input m.world a n (cond fence (Persists a n) (Flushes a n))) →
     Acts code old new e (ops.Memory (memories.Effect (effects.Persistence (persistences.Range addr size fence))))
 acts_range {code} {old} {new} {e} {addr} {size} {fence} a n is_a is_n d = record {
-  acts = λ m b placed behind.
+  acts = λ m b placed past.
       let step = λ (k j : ℕ). let x = flushing m.program m.input m.world k j (cond fence (Persists k j) (Flushes k j)) in Stepped m.program m.input new e (acted m false x) (seen_of m x) in
-      subst (λ k. step k (operand_value (numbers_of code old) size)) is_a (subst (λ j. step a j) is_n (d.does m b (behind refl)));
+      subst (λ k. step k (operand_value (numbers_of code old) size)) is_a (subst (λ j. step a j) is_n (d.does m b (past refl)));
 }
 
 -- ---- the outside
 
 pub asserts : {old new : Core} (a n : ℕ) → lies_in_region old.storage a n ≡ true → new ≡ record old { top = record old.top { place = old.top.place + 1 }; taken = old.taken + 1; turns = old.turns + 1 } →
     DoesNext old new (events.Assert a n) true (λ m. cond (in_region m.input a n) (Asserts a n) (Traps traps.Address))
-asserts {old} {new} a n inside is = record { does = λ m b behind. passes {turn = true} (Asserts a n) old.storage tt (assert_done (point_of m true) b.stands.storage a n inside refl) is b behind }
+asserts {old} {new} a n inside is = record { does = λ m b past. passes {turn = true} (Asserts a n) old.storage tt (assert_done (point_of m true) b.stands.storage a n inside refl) is b past }
 
 pub assert_traps : {old new : Core} {e : Event} (a n : ℕ) → lies_in_region old.storage a n ≡ false → Does old new e true (λ m. Traps traps.Address) →
     DoesNext old new e true (λ m. cond (in_region m.input a n) (Asserts a n) (Traps traps.Address))
 assert_traps {old} {new} {e} a n outside d = record {
-  does = λ m b behind. refused old.storage traps.Address refl d (assert_refused (point_of m true) b.stands.storage {new = old.storage} a n outside refl).is b;
+  does = λ m b past. refused old.storage traps.Address refl d (assert_refused (point_of m true) b.stands.storage {new = old.storage} a n outside refl).is b;
 }
 
 pub prints : {old new : Core} {e : Event} (z : ℤ) → e ≡ events.Print z → new ≡ record old { top = record old.top { place = old.top.place + 1 }; taken = old.taken + 1; turns = old.turns + 1 } → DoesNext old new e true (λ m. Prints z)
 unfolding perform
 prints {old} {new} {e} z shown is = record {
-  does = λ m b behind.
+  does = λ m b past.
       let s = b.stands in
-      record { stands = stands_next true old.storage (with_output z (with_turn m.world)) is b behind (turn_next _ _ s.turns) s.ending s.left s.storage; event = shown };
+      record { stands = stands_next true old.storage (with_output z (with_turn m.world)) is b past (turn_next _ _ s.turns) s.ending s.left s.storage; event = shown };
 }
 
 pub acts_assert : {I : Input} {code : Code} {old new : Core} {e : Event} {addr size : Operand} (a n : ℕ) → a ≡ operand_value (numbers_of code old) addr → n ≡ operand_value (numbers_of code old) size →
     DoesNext old new e true (λ m. cond (in_region m.input a n) (Asserts a n) (Traps traps.Address)) → ActsOn I code old new e (ops.Memory (memories.Effect (effects.Outside (outsides.Assert addr size))))
 acts_assert {I} {code} {old} {new} {e} {addr} {size} a n is_a is_n d = record {
-  acts = λ m same b placed behind.
+  acts = λ m same b placed past.
       let step = λ (k j : ℕ). let x = cond (in_region m.input k j) (Asserts k j) (Traps traps.Address) in Stepped m.program m.input new e (acted m true x) (seen_of m x) in
-      subst (λ k. step k (operand_value (numbers_of code old) size)) is_a (subst (λ j. step a j) is_n (d.does m b (behind refl)));
+      subst (λ k. step k (operand_value (numbers_of code old) size)) is_a (subst (λ j. step a j) is_n (d.does m b (past refl)));
 }
 
 pub acts_print : {I : Input} {code : Code} {old new : Core} {e : Event} {value : Operand} (v : ℕ) → v ≡ operand_value (numbers_of code old) value → DoesNext old new e true (λ m. Prints (signed W64 v)) →
     ActsOn I code old new e (ops.Memory (memories.Effect (effects.Outside (outsides.Print value))))
 acts_print {I} {code} {old} {new} {e} {value} v is d = record {
-  acts = λ m same b placed behind.
-      subst (λ u. let x = Prints (signed W64 u) in Stepped m.program m.input new e (acted m true x) (seen_of m x)) is (d.does m b (behind refl));
+  acts = λ m same b placed past.
+      subst (λ u. let x = Prints (signed W64 u) in Stepped m.program m.input new e (acted m true x) (seen_of m x)) is (d.does m b (past refl));
 }
 
 -- ---- input numbers
 
-none_behind : {A : Type 0} (xs : List A) (k : ℕ) → length xs ≤ k → drop k xs ≡ []
-none_behind [] zero h = refl
-none_behind [] (suc k) h = refl
-none_behind (x ∷ xs) zero h = absurd (omega arith)
-none_behind (x ∷ xs) (suc k) h = none_behind xs k (omega arith)
+none_past : {A : Type 0} (xs : List A) (k : ℕ) → length xs ≤ k → drop k xs ≡ []
+none_past [] zero h = refl
+none_past [] (suc k) h = refl
+none_past (x ∷ xs) zero h = absurd (omega arith)
+none_past (x ∷ xs) (suc k) h = none_past xs k (omega arith)
 
 pub acts_read : {I : Input} {old new : Core} {e : Event} {dest : Option ℕ} (d z : ℤ) → old.read < length I.numbers → z ≡ get_or I.numbers old.read d → e ≡ events.Quiet →
     new ≡ record old { slots = new.slots; read = old.read + 1; top = record old.top { place = old.top.place + 1 }; taken = old.taken + 1; turns = old.turns + 1 } →
     new.slots.items ≡ with_result old.top.base dest (wrapped W64 z) old.slots.items → (code : Code) → ActsOn I code old new e (ops.Memory (memories.Effect (effects.Outside (outsides.Read dest))))
 unfolding perform
 acts_read {I} {old} {new} {e} {dest} d z there number quiet is slots code = record {
-  acts = λ m same b placed behind.
+  acts = λ m same b placed past.
       let s = b.stands in
       let P = m.program in
       let names = names_at P m.top.function in
@@ -140,7 +140,7 @@ acts_read {I} {old} {new} {e} {dest} d z there number quiet is slots code = reco
           taken = counted_next _ _ _ s.taken b.counted;
           ending = s.ending;
           left = ap (λ k. drop k m.input.numbers) (add-one old.read);
-          placed = placed_next s.placed (behind refl);
+          placed = placed_next s.placed (past refl);
           registers = subst (λ xs. HoldsFrame names xs old.top.base (assigned name v m.top.registers)) (sym slots) (holds_result names old.slots.items old.top.base v dest name m.top.registers (result_goes names dest placed.0) s.registers);
           mark = s.mark;
           saved = subst (λ xs. AreSaved P xs old.top.base old.top.dest m.top.dest m.top.level old.saved.items m.rest) (sym slots) (saved_kept low (kept_result old.top.base old.top.base v dest old.slots.items low) s.saved);

@@ -75,11 +75,11 @@ among_are (a ∷ args) f = go a.ty a.value _ _ (among_are args f)
 module _ {code : Code} {c : Core} {values : List ℕ} where
   pub tells_stored : {ty : Scalar} {value addr : Operand} {align : Option ℕ} (op : Op) → slice_get code.ops.items c.top.place ≡ Some op → ((a : ℕ) → stores_at (numbers_of code c) a op → values ≡ a ∷ [])
       → (k : ℕ) → TellsPointer code c (Store ty value addr align) k (slice_get values k)
-  tells_stored {ty} {value} {addr} {align} op at told k = record {
+  tells_stored {ty} {value} {addr} {align} op at stated k = record {
     tells = λ P I rs op' sound here names agrees.
         let same : op' ≡ op = same_Some _ _ (sym here ∙ at) in
         let v = value_of P.globals I.base rs addr in
-        ap (λ xs. slice_get xs k) (told v (subst (stores_at (numbers_of code c) v) same names.is)) ∙ slice_get-map (value_of P.globals I.base rs) (addr ∷ []) k;
+        ap (λ xs. slice_get xs k) (stated v (subst (stores_at (numbers_of code c) v) same names.is)) ∙ slice_get-map (value_of P.globals I.base rs) (addr ∷ []) k;
   }
 
   pub tells_passed : {dest : Option (List ℕ)} {ret : Option Scalar} {callee : List ℕ} {args : List Arg} (op : Op) → slice_get code.ops.items c.top.place ≡ Some op

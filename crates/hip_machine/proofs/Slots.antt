@@ -36,9 +36,9 @@ pub kept_longer : (from : ℕ) (old new : List ℕ) → IsLonger old new → Are
 kept_longer from old new l = record { longer = l.longer; kept = λ i b h. l.kept i h }
 
 pub kept_set : (from : ℕ) (old : List ℕ) (k v : ℕ) → from ≤ k → AreKept from old (slice_set old k v)
-kept_set from old k v behind = record {
+kept_set from old k v past = record {
   longer = (let e = length-set old k v in omega (arith, e));
-  kept = λ i b h. get_or-set_other old k i v 0 (λ z. let y : ⊥ = omega (arith, z, b, behind) in y);
+  kept = λ i b h. get_or-set_other old k i v 0 (λ z. let y : ⊥ = omega (arith, z, b, past) in y);
 }
 
 pub kept_then : (from : ℕ) (x y z : List ℕ) → AreKept from x y → AreKept from y z → AreKept from x z

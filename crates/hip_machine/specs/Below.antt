@@ -13,7 +13,7 @@ use Rattle.hip_machine.specs.Placed.{placed_at}
 pub record IsCallOf (g : Frame) (level : Option Level) : Type 0 where
   pub index : ℕ
   pub birth : ℕ
-  pub behind : g.place ≡ suc index
+  pub past : g.place ≡ suc index
   pub is : level ≡ Some (record {
     call = record { function = g.function; block = g.block; index = index };
     birth = birth;

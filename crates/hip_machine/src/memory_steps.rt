@@ -12,7 +12,7 @@ ghost use Rattle.hip_code.specs.declared.op.Effect.TheVariants as effects;
 ghost use Rattle.hip_code.specs.declared.op.Memory.TheVariants as memories;
 ghost use Rattle.hip_code.specs.declared.op.Op.TheVariants as ops;
 ghost use Rattle.hip_code.specs.declared.op.Outside.TheVariants as outsides;
-ghost use Rattle.hip_objects.specs.Blocks.{IsBehind, nonempty};
+ghost use Rattle.hip_objects.specs.Blocks.{IsPast, nonempty};
 ghost use Rattle.hip_storage.specs.Contents.{after_pop};
 ghost use Rattle.hip_machine.specs.Acts.{Acts, ActsOn, Carries, DoesNext, IsLaid, Keeps, numbers_of};
 ghost use Rattle.hip_machine.specs.Puts.{with_result};
@@ -80,7 +80,7 @@ fn store(
 
 // Keeps a block that was made on the stack, or sets the stack's mark back if there is no memory to keep it.
 fn keep_block(core: &mut Core, mark: u64, addr: u64, size: u32) -> Result<(), NoMemory>
-    requires behind { IsBehind addr core.old.blocks }
+    requires past { IsPast addr core.old.blocks }
     requires entry { core.old.top.entry ≤ core.old.top.place }
     requires low { stack_start ≤ mark }
     requires high { mark ≤ mark_of core.old.storage.areas }

@@ -54,7 +54,7 @@ module _ (P : Program) (I : Input) (n header region : ℕ) (whole : region ≡ 6
       let lt : b / 64 < length (run P I n).lines = get-below (run P I n).lines (b / 64) h.line h.line_at in
       let r = byte_of_part P I n 0 region b k x h (omega arith) (omega (arith, lt, whole)) in
       let near = in_its_line b k x h in
-      let tag : go.tags x.step ≡ true = sym (ap go.tags r.3) ∙ go.told r.0 r.1 in
+      let tag : go.tags x.step ≡ true = sym (ap go.tags r.3) ∙ go.stated r.0 r.1 in
       let at : IsSome (lines_of old.lines (r.0.offset / LINE_SIZE)) = subst (λ i. IsSome (lines_of old.lines (i / LINE_SIZE))) (sym r.2) (ap is_some kept.line_there) in
       let now = line_kept (b / LINE_SIZE) kept.line kept.line_there (subst (λ i. IsSome (lines_of new.lines (i / LINE_SIZE))) r.2 (go.there r.0 r.1 at)) in
       let first : first_after x.step now.0.flushes ≡ first_after x.step kept.line.flushes =

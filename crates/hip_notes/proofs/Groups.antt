@@ -6,7 +6,7 @@ use Rattle.hip_runs.specs.Found.Reports.{later_flush}
 use Rattle.hip_runs.specs.Found.Tags.{tag_flushed}
 use Rattle.hip_runs.specs.State.{Flush}
 use Rattle.hip_runs.specs.StoredParts.Parts.{In}
-use Rattle.hip_notes.specs.Checking.{flush_told, group_from, joined, later_note}
+use Rattle.hip_notes.specs.Checking.{flush_stated, group_from, joined, later_note}
 use Rattle.hip_notes.specs.Standing.{flush_of}
 use Rattle.hip_notes.specs.declared.checks.Group.{Group}
 use Rattle.hip_notes.specs.declared.pending.FlushNote.{FlushNote}
@@ -46,20 +46,20 @@ module _ (lines : ℕ → Option LineNote) (tag : ℕ) where
       and_true : (t : Bool) → t && true ≡ t
       and_true true = refl
       and_true false = refl
-  group_flushed (b ∷ bs) o g e = go (nat_eq b.tag tag) (λ q. group_flushed bs o g q) (λ q. group_flushed bs (Some (joined b.flushed (flush_told lines b) o)) g q) e
+  group_flushed (b ∷ bs) o g e = go (nat_eq b.tag tag) (λ q. group_flushed bs o g q) (λ q. group_flushed bs (Some (joined b.flushed (flush_stated lines b) o)) g q) e
     where
       go : (t : Bool) → (group_from lines tag o bs ≡ Some g → g.flushed ≡ all_flushed_in o && tag_flushed tag bs)
-          → (group_from lines tag (Some (joined b.flushed (flush_told lines b) o)) bs ≡ Some g → g.flushed ≡ (joined b.flushed (flush_told lines b) o).flushed && tag_flushed tag bs)
-          → group_from lines tag (cond t (Some (joined b.flushed (flush_told lines b) o)) o) bs ≡ Some g
+          → (group_from lines tag (Some (joined b.flushed (flush_stated lines b) o)) bs ≡ Some g → g.flushed ≡ (joined b.flushed (flush_stated lines b) o).flushed && tag_flushed tag bs)
+          → group_from lines tag (cond t (Some (joined b.flushed (flush_stated lines b) o)) o) bs ≡ Some g
           → g.flushed ≡ all_flushed_in o && ((not t || b.flushed) && tag_flushed tag bs)
       go false skip take e = skip e
-      go true skip take e = take e ∙ ap (λ t. t && tag_flushed tag bs) (joined_flushed o b.flushed (flush_told lines b)) ∙ assoc (all_flushed_in o) b.flushed (tag_flushed tag bs)
+      go true skip take e = take e ∙ ap (λ t. t && tag_flushed tag bs) (joined_flushed o b.flushed (flush_stated lines b)) ∙ assoc (all_flushed_in o) b.flushed (tag_flushed tag bs)
 
   -- ---- the latest of the first flushes
 
   -- the first flush of one of the bytes of the store
   abbrev pub OfBytes : List LooseByte → Option Flush → Type 0
-  OfBytes bs z = (b : LooseByte) × In b bs × (b.tag ≡ tag) × (option_map flush_of (flush_told lines b) ≡ z)
+  OfBytes bs z = (b : LooseByte) × In b bs × (b.tag ≡ tag) × (option_map flush_of (flush_stated lines b) ≡ z)
 
   abbrev latest_in : Option Group → Option FlushNote
   latest_in None = None
@@ -78,17 +78,17 @@ module _ (lines : ℕ → Option LineNote) (tag : ℕ) where
       from z (inl m) = m
       from z (inr r) = absurd r.1
   group_latest (b ∷ bs) o g M h e = go (nat_eq b.tag tag) refl (λ q. group_latest bs o g M h q)
-      (λ q. group_latest bs (Some (joined b.flushed (flush_told lines b) o)) g (λ z. M z ⊎ (option_map flush_of (flush_told lines b) ≡ z)) with_it q) e
+      (λ q. group_latest bs (Some (joined b.flushed (flush_stated lines b) o)) g (λ z. M z ⊎ (option_map flush_of (flush_stated lines b) ≡ z)) with_it q) e
     where
-      with_it : IsLatest (λ z. M z ⊎ (option_map flush_of (flush_told lines b) ≡ z)) (option_map flush_of (joined b.flushed (flush_told lines b) o).latest)
-      with_it = subst (λ (y : Option Flush). IsLatest (λ z. M z ⊎ (option_map flush_of (flush_told lines b) ≡ z)) y)
-          (sym (later_is (latest_in o) (flush_told lines b)) ∙ ap (option_map flush_of) (sym (joined_latest o b.flushed (flush_told lines b))))
-          (latest.joined M (λ z. option_map flush_of (flush_told lines b) ≡ z) (option_map flush_of (latest_in o)) (option_map flush_of (flush_told lines b)) h (alone (option_map flush_of (flush_told lines b))))
+      with_it : IsLatest (λ z. M z ⊎ (option_map flush_of (flush_stated lines b) ≡ z)) (option_map flush_of (joined b.flushed (flush_stated lines b) o).latest)
+      with_it = subst (λ (y : Option Flush). IsLatest (λ z. M z ⊎ (option_map flush_of (flush_stated lines b) ≡ z)) y)
+          (sym (later_is (latest_in o) (flush_stated lines b)) ∙ ap (option_map flush_of) (sym (joined_latest o b.flushed (flush_stated lines b))))
+          (latest.joined M (λ z. option_map flush_of (flush_stated lines b) ≡ z) (option_map flush_of (latest_in o)) (option_map flush_of (flush_stated lines b)) h (alone (option_map flush_of (flush_stated lines b))))
 
       go : (t : Bool) → nat_eq b.tag tag ≡ t
           → (group_from lines tag o bs ≡ Some g → IsLatest (λ z. M z ⊎ OfBytes bs z) (option_map flush_of g.latest))
-          → (group_from lines tag (Some (joined b.flushed (flush_told lines b) o)) bs ≡ Some g → IsLatest (λ z. (M z ⊎ (option_map flush_of (flush_told lines b) ≡ z)) ⊎ OfBytes bs z) (option_map flush_of g.latest))
-          → group_from lines tag (cond t (Some (joined b.flushed (flush_told lines b) o)) o) bs ≡ Some g
+          → (group_from lines tag (Some (joined b.flushed (flush_stated lines b) o)) bs ≡ Some g → IsLatest (λ z. (M z ⊎ (option_map flush_of (flush_stated lines b) ≡ z)) ⊎ OfBytes bs z) (option_map flush_of g.latest))
+          → group_from lines tag (cond t (Some (joined b.flushed (flush_stated lines b) o)) o) bs ≡ Some g
           → IsLatest (λ z. M z ⊎ OfBytes (b ∷ bs) z) (option_map flush_of g.latest)
       go false n skip take e = widened (λ z. M z ⊎ OfBytes bs z) (λ z. M z ⊎ OfBytes (b ∷ bs) z) (option_map flush_of g.latest) to from (skip e)
         where
@@ -96,28 +96,28 @@ module _ (lines : ℕ → Option LineNote) (tag : ℕ) where
           to z (inl m) = inl m
           to z (inr r) = inr (r.0, inr r.1, r.2, r.3)
 
-          of_one : (z : Option Flush) (c : LooseByte) → In c (b ∷ bs) → c.tag ≡ tag → option_map flush_of (flush_told lines c) ≡ z → OfBytes bs z
+          of_one : (z : Option Flush) (c : LooseByte) → In c (b ∷ bs) → c.tag ≡ tag → option_map flush_of (flush_stated lines c) ≡ z → OfBytes bs z
           of_one z c (inl q) k f = absurd (let w : b.tag ≡ tag = sym (ap (λ (x : LooseByte). x.tag) q) ∙ k in let y : nat_eq b.tag tag ≡ true = grind (arith, nat_tests) in let x : ⊥ = cc in x)
           of_one z c (inr i) k f = (c, i, k, f)
 
           from : (z : Option Flush) → M z ⊎ OfBytes (b ∷ bs) z → M z ⊎ OfBytes bs z
           from z (inl m) = inl m
           from z (inr r) = inr (of_one z r.0 r.1 r.2 r.3)
-      go true n skip take e = widened (λ z. (M z ⊎ (option_map flush_of (flush_told lines b) ≡ z)) ⊎ OfBytes bs z) (λ z. M z ⊎ OfBytes (b ∷ bs) z) (option_map flush_of g.latest) to from (take e)
+      go true n skip take e = widened (λ z. (M z ⊎ (option_map flush_of (flush_stated lines b) ≡ z)) ⊎ OfBytes bs z) (λ z. M z ⊎ OfBytes (b ∷ bs) z) (option_map flush_of g.latest) to from (take e)
         where
           is_tag : b.tag ≡ tag
           is_tag = grind (arith, nat_tests)
 
-          to : (z : Option Flush) → (M z ⊎ (option_map flush_of (flush_told lines b) ≡ z)) ⊎ OfBytes bs z → M z ⊎ OfBytes (b ∷ bs) z
+          to : (z : Option Flush) → (M z ⊎ (option_map flush_of (flush_stated lines b) ≡ z)) ⊎ OfBytes bs z → M z ⊎ OfBytes (b ∷ bs) z
           to z (inl (inl m)) = inl m
           to z (inl (inr q)) = inr (b, inl refl, is_tag, q)
           to z (inr r) = inr (r.0, inr r.1, r.2, r.3)
 
-          of_one : (z : Option Flush) (c : LooseByte) → In c (b ∷ bs) → c.tag ≡ tag → option_map flush_of (flush_told lines c) ≡ z → (M z ⊎ (option_map flush_of (flush_told lines b) ≡ z)) ⊎ OfBytes bs z
-          of_one z c (inl q) k f = inl (inr (ap (λ (x : LooseByte). option_map flush_of (flush_told lines x)) (sym q) ∙ f))
+          of_one : (z : Option Flush) (c : LooseByte) → In c (b ∷ bs) → c.tag ≡ tag → option_map flush_of (flush_stated lines c) ≡ z → (M z ⊎ (option_map flush_of (flush_stated lines b) ≡ z)) ⊎ OfBytes bs z
+          of_one z c (inl q) k f = inl (inr (ap (λ (x : LooseByte). option_map flush_of (flush_stated lines x)) (sym q) ∙ f))
           of_one z c (inr i) k f = inr (c, i, k, f)
 
-          from : (z : Option Flush) → M z ⊎ OfBytes (b ∷ bs) z → (M z ⊎ (option_map flush_of (flush_told lines b) ≡ z)) ⊎ OfBytes bs z
+          from : (z : Option Flush) → M z ⊎ OfBytes (b ∷ bs) z → (M z ⊎ (option_map flush_of (flush_stated lines b) ≡ z)) ⊎ OfBytes bs z
           from z (inl m) = inl (inl m)
           from z (inr r) = of_one z r.0 r.1 r.2 r.3
 
@@ -131,11 +131,11 @@ module _ (lines : ℕ → Option LineNote) (tag : ℕ) where
 
   -- ---- whether there is a byte
 
-  pub none_told : (bs : List LooseByte) (o : Option Group) → ((b : LooseByte) → In b bs → b.tag ≡ tag → ⊥) → group_from lines tag o bs ≡ o
-  none_told [] o h = refl
-  none_told (b ∷ bs) o h = go (none_told bs o (λ c i. h c (inr i))) (nat_eq b.tag tag) refl
+  pub none_stated : (bs : List LooseByte) (o : Option Group) → ((b : LooseByte) → In b bs → b.tag ≡ tag → ⊥) → group_from lines tag o bs ≡ o
+  none_stated [] o h = refl
+  none_stated (b ∷ bs) o h = go (none_stated bs o (λ c i. h c (inr i))) (nat_eq b.tag tag) refl
     where
-      go : group_from lines tag o bs ≡ o → (t : Bool) → nat_eq b.tag tag ≡ t → group_from lines tag (cond t (Some (joined b.flushed (flush_told lines b) o)) o) bs ≡ o
+      go : group_from lines tag o bs ≡ o → (t : Bool) → nat_eq b.tag tag ≡ t → group_from lines tag (cond t (Some (joined b.flushed (flush_stated lines b) o)) o) bs ≡ o
       go rest false e = rest
       go rest true e = absurd (h b (inl refl) (grind (arith, nat_tests)))
 
@@ -143,14 +143,14 @@ module _ (lines : ℕ → Option LineNote) (tag : ℕ) where
   stays_some [] g = (g, refl)
   stays_some (b ∷ bs) g = go (λ x. stays_some bs x) (nat_eq b.tag tag)
     where
-      go : ((x : Group) → (h : Group) × (group_from lines tag (Some x) bs ≡ Some h)) → (t : Bool) → (h : Group) × (group_from lines tag (cond t (Some (joined b.flushed (flush_told lines b) (Some g))) (Some g)) bs ≡ Some h)
-      go rest true = rest (joined b.flushed (flush_told lines b) (Some g))
+      go : ((x : Group) → (h : Group) × (group_from lines tag (Some x) bs ≡ Some h)) → (t : Bool) → (h : Group) × (group_from lines tag (cond t (Some (joined b.flushed (flush_stated lines b) (Some g))) (Some g)) bs ≡ Some h)
+      go rest true = rest (joined b.flushed (flush_stated lines b) (Some g))
       go rest false = rest g
 
-  pub some_told : (bs : List LooseByte) (o : Option Group) (b : LooseByte) → In b bs → b.tag ≡ tag → (h : Group) × (group_from lines tag o bs ≡ Some h)
-  some_told [] o b i e = absurd i
-  some_told (c ∷ bs) o b (inl q) e =
+  pub some_stated : (bs : List LooseByte) (o : Option Group) (b : LooseByte) → In b bs → b.tag ≡ tag → (h : Group) × (group_from lines tag o bs ≡ Some h)
+  some_stated [] o b i e = absurd i
+  some_stated (c ∷ bs) o b (inl q) e =
       let y : nat_eq c.tag tag ≡ true = (let w : c.tag ≡ tag = sym (ap (λ (x : LooseByte). x.tag) q) ∙ e in grind (arith, nat_tests)) in
-      let r = stays_some bs (joined c.flushed (flush_told lines c) o) in
-      (r.0, ap (λ t. group_from lines tag (cond t (Some (joined c.flushed (flush_told lines c) o)) o) bs) y ∙ r.1)
-  some_told (c ∷ bs) o b (inr i) e = some_told bs (cond (nat_eq c.tag tag) (Some (joined c.flushed (flush_told lines c) o)) o) b i e
+      let r = stays_some bs (joined c.flushed (flush_stated lines c) o) in
+      (r.0, ap (λ t. group_from lines tag (cond t (Some (joined c.flushed (flush_stated lines c) o)) o) bs) y ∙ r.1)
+  some_stated (c ∷ bs) o b (inr i) e = some_stated bs (cond (nat_eq c.tag tag) (Some (joined c.flushed (flush_stated lines c) o)) o) b i e

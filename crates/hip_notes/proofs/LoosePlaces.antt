@@ -11,7 +11,7 @@ use Rattle.hip_types.specs.declared.areas.TheConstants.{LINE_SIZE}
 use Rattle.hip_runs.specs.Found.Reports.{LoosePart}
 use Rattle.hip_runs.specs.Found.Tags.{IsLoosePart, loose_bytes}
 use Rattle.hip_runs.specs.Laws.Found.LooseBytes.{loose_part, part_loose}
-use Rattle.hip_runs.specs.Laws.Found.TagLaws.{loose_told}
+use Rattle.hip_runs.specs.Laws.Found.TagLaws.{loose_stated}
 use Rattle.hip_runs.specs.Laws.LineOrder.{in_lines}
 use Rattle.hip_runs.specs.Laws.PartLaws.{in-append, append-left, append-right}
 use Rattle.hip_runs.specs.State.{StorePart}
@@ -83,7 +83,7 @@ module _ (P : Program) (I : Input) (n : ℕ) where
       let c = a.0 in
       let off : x.offset ≡ c = byte_at (shown Lines) c x a.3 in
       let there : In x (loose_bytes (run P I n) c 1) = bytes_in (shown Lines) c 1 x c (omega arith) (omega arith) a.3 in
-      let r = (loose_told P I n c 1 x.tag).alike.part_of x there refl in
+      let r = (loose_stated P I n c 1 x.tag).alike.part_of x there refl in
       let t = at_place c 1 x.tag r.0 (part_loose c 1 x.tag Lines r.0 r.1) in
       let same : t.0 ≡ x.offset = (let low = t.3 in let high = t.4 in omega (arith, off, low, high)) in
       (t.1, r.0.part, subst (λ b. IsLooseAt Lines b t.1 r.0.part) same t.2, t.5, omega (arith, off, a.1), omega (arith, off, a.2))
@@ -93,7 +93,7 @@ module _ (P : Program) (I : Input) (n : ℕ) where
       → (x : LooseByte) × In x (loose_bytes (run P I n) o len) × (x.offset ≡ b) × (x.tag ≡ p.step)
   byte_of_part o len b k p h low high =
       let part : IsLoosePart b 1 p.step Lines (record { part = p; flushed = nat_lt k h.line.flushed }) = record { line = b / LINE_SIZE; of = h.line; place = k; byte = b; line_at = h.line_at; loose = h.loose; low = omega arith; high = omega arith; step = refl; flushed = refl } in
-      let r = (loose_told P I n b 1 p.step).alike.byte_of _ (loose_part b 1 p.step Lines _ part) in
+      let r = (loose_stated P I n b 1 p.step).alike.byte_of _ (loose_part b 1 p.step Lines _ part) in
       let a = in_bytes (shown Lines) b 1 r.0 r.1 in
       let same : a.0 ≡ b = omega (arith, a.1, a.2) in (
         r.0,

@@ -32,35 +32,35 @@ module _ {A : Type 0} (to : Option A → Option A) (old new : ℕ → Option A) 
       → ((j : ℕ) → mid j ≡ cond (is_between first line j) (to (old j)) (old j))
       → new line ≡ to (mid line) → ((j : ℕ) → (j ≡ line → ⊥) → new j ≡ mid j)
       → (j : ℕ) → new j ≡ cond (is_between first (line + 1) j) (to (old j)) (old j)
-  one_more mid first line le told here others j = go (three j line)
+  one_more mid first line le stated here others j = go (three j line)
     where
       unchanged : mid line ≡ old line
-      unchanged = told line ∙ ap (λ t. cond t (to (old line)) (old line)) (above first line line (omega arith))
+      unchanged = stated line ∙ ap (λ t. cond t (to (old line)) (old line)) (above first line line (omega arith))
 
       go : (j ≡ line) ⊎ ((j < line) ⊎ (line < j)) → new j ≡ cond (is_between first (line + 1) j) (to (old j)) (old j)
       go (inl e) = subst (λ i. new i ≡ cond (is_between first (line + 1) i) (to (old i)) (old i)) (sym e) (here ∙ ap to unchanged ∙ sym (ap (λ t. cond t (to (old line)) (old line)) (inside first (line + 1) line le (omega arith))))
-      go (inr (inl lt)) = others j (λ e. absurd (omega (arith, e, lt))) ∙ told j ∙ ap (λ t. cond t (to (old j)) (old j)) (same_below first line j lt)
-      go (inr (inr lt)) = others j (λ e. absurd (omega (arith, e, lt))) ∙ told j ∙ ap (λ t. cond t (to (old j)) (old j)) (above first line j (omega (arith, lt)) ∙ sym (above first (line + 1) j (omega (arith, lt))))
+      go (inr (inl lt)) = others j (λ e. absurd (omega (arith, e, lt))) ∙ stated j ∙ ap (λ t. cond t (to (old j)) (old j)) (same_below first line j lt)
+      go (inr (inr lt)) = others j (λ e. absurd (omega (arith, e, lt))) ∙ stated j ∙ ap (λ t. cond t (to (old j)) (old j)) (above first line j (omega (arith, lt)) ∙ sym (above first (line + 1) j (omega (arith, lt))))
 
   -- lines that a change leaves as they are may be skipped
   pub skipped : (first next line : ℕ) → next ≤ line → (to None ≡ None)
       → ((j : ℕ) → next ≤ j → j < line → new j ≡ None)
       → ((j : ℕ) → new j ≡ cond (is_between first next j) (to (old j)) (old j))
       → first ≤ next → (j : ℕ) → new j ≡ cond (is_between first line j) (to (old j)) (old j)
-  skipped first next line le none empty told low j = go (split j next) (split j line)
+  skipped first next line le none empty stated low j = go (split j next) (split j line)
     where
       split : (a b : ℕ) → (a < b) ⊎ (b ≤ a)
       split a b = grind arith
 
       go : (j < next) ⊎ (next ≤ j) → (j < line) ⊎ (line ≤ j) → new j ≡ cond (is_between first line j) (to (old j)) (old j)
-      go (inl lt) q = told j ∙ ap (λ t. cond t (to (old j)) (old j)) (same_before first next line j lt le)
+      go (inl lt) q = stated j ∙ ap (λ t. cond t (to (old j)) (old j)) (same_before first next line j lt le)
         where
           same_before : (first next line j : ℕ) → j < next → next ≤ line → is_between first next j ≡ is_between first line j
           same_before first next line j h k = grind (arith, nat_tests)
       go (inr ge) (inl lt) =
-          let was : old j ≡ None = sym (ap (λ t. cond t (to (old j)) (old j)) (above first next j ge)) ∙ sym (told j) ∙ empty j ge lt in
+          let was : old j ≡ None = sym (ap (λ t. cond t (to (old j)) (old j)) (above first next j ge)) ∙ sym (stated j) ∙ empty j ge lt in
           empty j ge lt ∙ sym (ap (λ t. cond t (to (old j)) (old j)) (inside first line j (omega (arith, low, ge)) lt) ∙ ap to was ∙ none)
-      go (inr ge) (inr gt) = told j ∙ ap (λ t. cond t (to (old j)) (old j)) (above first next j ge ∙ sym (above first line j gt))
+      go (inr ge) (inr gt) = stated j ∙ ap (λ t. cond t (to (old j)) (old j)) (above first next j ge ∙ sym (above first line j gt))
 
 -- ---- the first entry of a part of a map
 

@@ -53,13 +53,13 @@ none_above a b tag (x ∷ xs) h lt = go (none_above (x.tag + 1) b tag xs h.2 (le
 pub data IsPlaced (xs : List StoreNote) (tag : ℕ) (o : Option StoreNote) : Type 0 where
   here : (x : StoreNote) → o ≡ Some x → x.tag ≡ tag → note_of xs tag ≡ Some x → IsPlaced xs tag o
   beside : (x : StoreNote) → o ≡ Some x → (x.tag ≡ tag → ⊥) → note_of xs tag ≡ None → IsPlaced xs tag o
-  behind : o ≡ None → note_of xs tag ≡ None → IsPlaced xs tag o
+  past : o ≡ None → note_of xs tag ≡ None → IsPlaced xs tag o
 
 pub placed : (a b tag : ℕ) (xs : List StoreNote) (i : ℕ) → StoresAscend a b xs
     → ((k : ℕ) (d : StoreNote) → k < i → k < length xs → ltb (stored_at (get_or xs k d)) tag ≡ true)
     → ((k : ℕ) (d : StoreNote) → i ≤ k → k < length xs → ltb (stored_at (get_or xs k d)) tag ≡ false)
     → IsPlaced xs tag (slice_get xs i)
-placed a b tag [] i h low high = behind refl refl
+placed a b tag [] i h low high = past refl refl
 placed a b tag (x ∷ xs) zero h low high = go (nat_eq x.tag tag) refl
   where
     least : tag ≤ x.tag
@@ -79,7 +79,7 @@ placed a b tag (x ∷ xs) (suc i) h low high = go (placed (x.tag + 1) b tag xs i
     go : IsPlaced xs tag (slice_get xs i) → IsPlaced (x ∷ xs) tag (slice_get xs i)
     go (here y e q n) = here y e q (skip ∙ n)
     go (beside y e q n) = beside y e q (skip ∙ n)
-    go (behind e n) = behind e (skip ∙ n)
+    go (past e n) = past e (skip ∙ n)
 
 -- ---- the first flush after a step
 
@@ -124,19 +124,19 @@ pub found_note : (xs : List StoreNote) (tag : ℕ) (o : Option StoreNote) (x : S
     → note_of xs tag ≡ Some x
 found_note xs tag o x (here y e q n) h t = n ∙ sym e ∙ h
 found_note xs tag o x (beside y e q n) h t = absurd (q (ap (λ (z : StoreNote). z.tag) (one_some y x (sym e ∙ h)) ∙ t))
-found_note xs tag o x (behind e n) h t = absurd (let z : ⊥ = cc in z)
+found_note xs tag o x (past e n) h t = absurd (let z : ⊥ = cc in z)
 
 pub there_note : (xs : List StoreNote) (tag : ℕ) (o : Option StoreNote) (x : StoreNote) → IsPlaced xs tag o → o ≡ Some x
     → IsSome (note_of xs tag) → x.tag ≡ tag
 there_note xs tag o x (here y e q n) h t = ap (λ (z : StoreNote). z.tag) (one_some x y (sym h ∙ e)) ∙ q
 there_note xs tag o x (beside y e q n) h t = absurd (let r : IsSome (none_of StoreNote) = subst (λ (z : Option StoreNote). IsSome z) n t in let z : ⊥ = cc in z)
-there_note xs tag o x (behind e n) h t = absurd (let z : ⊥ = cc in z)
+there_note xs tag o x (past e n) h t = absurd (let z : ⊥ = cc in z)
 
 pub none_note : (xs : List StoreNote) (tag : ℕ) (o : Option StoreNote) → IsPlaced xs tag o → o ≡ None
     → IsSome (note_of xs tag) → ⊥
 none_note xs tag o (here y e q n) h t = let z : ⊥ = cc in z
 none_note xs tag o (beside y e q n) h t = let z : ⊥ = cc in z
-none_note xs tag o (behind e n) h t = let r : IsSome (none_of StoreNote) = subst (λ (z : Option StoreNote). IsSome z) n t in let z : ⊥ = cc in z
+none_note xs tag o (past e n) h t = let r : IsSome (none_of StoreNote) = subst (λ (z : Option StoreNote). IsSome z) n t in let z : ⊥ = cc in z
 
 pub if_ok : {A B : Type 0} (Q R : A → Type 0) (r : Result A B) → IfOk r Q → ((x : A) → Q x → R x) → IfOk r R
 if_ok Q R (Ok x) h f = f x h

@@ -22,8 +22,8 @@ later_note (Some a) None = Some a
 later_note (Some a) (Some b) = cond (nat_lt a.step b.step) (Some b) (Some a)
 
 -- the first flush of a loose byte's line after the store of the byte
-abbrev pub flush_told : (ℕ → Option LineNote) → LooseByte → Option FlushNote
-flush_told lines b = first_after b.tag (flushes_in (lines (b.offset / LINE_SIZE)))
+abbrev pub flush_stated : (ℕ → Option LineNote) → LooseByte → Option FlushNote
+flush_stated lines b = first_after b.tag (flushes_in (lines (b.offset / LINE_SIZE)))
 
 -- the group of a store after one more of its loose bytes
 abbrev pub joined : Bool → Option FlushNote → Option Group → Group
@@ -34,19 +34,19 @@ joined flushed flush (Some g) = record { flushed = g.flushed && flushed; latest 
 abbrev pub group_from : (ℕ → Option LineNote) → ℕ → Option Group → List LooseByte → Option Group
 group_from lines tag g [] = g
 group_from lines tag g (b ∷ bs) =
-    group_from lines tag (cond (nat_eq b.tag tag) (Some (joined b.flushed (flush_told lines b) g)) g) bs
+    group_from lines tag (cond (nat_eq b.tag tag) (Some (joined b.flushed (flush_stated lines b) g)) g) bs
 
 -- the site of the flush that lacks a fence: the latest flush, if all loose bytes of the store are flushed; else none
-abbrev pub site_told : Bool → Option FlushNote → Option Site
-site_told flushed latest = cond flushed (option_map (λ f. f.site) latest) None
+abbrev pub site_stated : Bool → Option FlushNote → Option Site
+site_stated flushed latest = cond flushed (option_map (λ f. f.site) latest) None
 
 -- what a check reports of a store, where the standing calls have these births
-abbrev pub store_told : List ℕ → Option ℕ → StoreNote → Group → StoreReport
-store_told births fence note g =
+abbrev pub store_stated : List ℕ → Option ℕ → StoreNote → Group → StoreReport
+store_stated births fence note g =
     record {
       entry = note.entry;
       kind = kind_of g.flushed (is_before note.tag fence);
-      flush_site = site_told g.flushed g.latest;
+      flush_site = site_stated g.flushed g.latest;
       path = note.site ∷ call_sites note.calls.value;
       closed = closed_by births note.calls.value;
     }
@@ -54,14 +54,14 @@ store_told births fence note g =
 -- what a check reports of a store that has a note; nothing if it has none
 abbrev pub store_in : List ℕ → Option ℕ → Option StoreNote → Group → List StoreReport
 store_in births fence None g = []
-store_in births fence (Some note) g = store_told births fence note g ∷ []
+store_in births fence (Some note) g = store_stated births fence note g ∷ []
 
 -- what a check reports of the stores of these steps
-abbrev pub stores_told : List ℕ → Option ℕ → List StoreNote → List (ℕ × Group) → List StoreReport
-stores_told births fence notes [] = []
-stores_told births fence notes (e ∷ es) =
-    store_in births fence (note_of notes e.0) e.1 ++ stores_told births fence notes es
+abbrev pub stores_stated : List ℕ → Option ℕ → List StoreNote → List (ℕ × Group) → List StoreReport
+stores_stated births fence notes [] = []
+stores_stated births fence notes (e ∷ es) =
+    store_in births fence (note_of notes e.0) e.1 ++ stores_stated births fence notes es
 
 -- the reports of the stores of these steps, at a check with this entry
-abbrev pub reports_told : List ℕ → ℕ → Option ℕ → List StoreNote → List (ℕ × Group) → List Report
-reports_told births check fence notes es = map (report_at check) (stores_told births fence notes es)
+abbrev pub reports_stated : List ℕ → ℕ → Option ℕ → List StoreNote → List (ℕ × Group) → List Report
+reports_stated births check fence notes es = map (report_at check) (stores_stated births fence notes es)

@@ -22,7 +22,7 @@ use Rattle.hip_runs.specs.declared.event.Event.{Event}
 use Rattle.hip_runs.specs.declared.event.Event.TheVariants as events
 use Rattle.hip_runs.specs.declared.input.Input.{Input}
 use Rattle.hip_notes.specs.CallPaths.{births_of}
-use Rattle.hip_notes.specs.Checking.{group_from, reports_told}
+use Rattle.hip_notes.specs.Checking.{group_from, reports_stated}
 use Rattle.hip_notes.specs.declared.checks.Group.{Group}
 use Rattle.hip_notes.specs.MetMarks.{AreMet, WereHit}
 use Rattle.hip_notes.specs.Pending.{first_after, FlushesAscend, lines_of, with_flush, with_store}
@@ -125,7 +125,7 @@ Reported (Some r) births entry fence p lines old new =
     (groups : BTreeMap ℕ Group) × tree.IsOrdered nat_cmp groups
     × ((tag : ℕ)
     → tree.get nat_cmp groups tag ≡ group_from (lines_of p.lines) tag None (loose_from lines r.offset r.size))
-    × (new ≡ old ++ reports_told births entry fence p.stores.items groups.entries)
+    × (new ≡ old ++ reports_stated births entry fence p.stores.items groups.entries)
 
 -- ---- what is let go
 
@@ -161,7 +161,7 @@ MayThin ws j (Some old) (Some new) = (new.stored ≡ old.stored) × IsThinned ws
 -- and the note of each line that has a loose byte, perhaps with fewer flushes.
 pub record IsLetGo (ws : List (Waiting Part)) (region : ℕ) (old new : Pending) : Type 0 where
   pub tags : ℕ → Bool
-  pub told : (x : LooseByte) → In x (loose_from ws 0 region) → tags x.tag ≡ true
+  pub stated : (x : LooseByte) → In x (loose_from ws 0 region) → tags x.tag ≡ true
   pub stores : new.stores.items ≡ filter (λ note. tags note.tag) old.stores.items
   pub lines : (j : ℕ) → MayThin ws j (lines_of old.lines j) (lines_of new.lines j)
   pub there : (x : LooseByte) → In x (loose_from ws 0 region) → IsSome (lines_of old.lines (x.offset / LINE_SIZE))

@@ -5,9 +5,9 @@ ghost use Rattle.std.specs.BTreeMap.{BTreeMap as Map};
 ghost use Rattle.hip_lines.specs.Parts.{loose_from};
 ghost use Rattle.hip_runs.specs.StoredParts.Order.{is_before};
 ghost use Rattle.hip_runs.specs.Found.Reports.{kind_of};
-ghost use Rattle.hip_notes.specs.declared.checks.Group.{Group as Told};
+ghost use Rattle.hip_notes.specs.declared.checks.Group.{Group as Stated};
 ghost use Rattle.hip_notes.specs.declared.pending.LineNote.{LineNote as Line};
-ghost use Rattle.hip_notes.specs.Checking.{flush_told, group_from, joined, later_note, reports_told, site_told, store_in, store_told, stores_told};
+ghost use Rattle.hip_notes.specs.Checking.{flush_stated, group_from, joined, later_note, reports_stated, site_stated, store_in, store_stated, stores_stated};
 ghost use Rattle.hip_notes.specs.Pending.{FlushesAscend, StoresAscend, lines_of, note_of};
 
 use crate::pending::{FlushNote, LineNote, Pending, StoreNote, first_after};
@@ -55,12 +55,12 @@ pub fn check_range(
     requires stores { StoresAscend 0 (2 ^ 128) pending.now.stores.items }
     requires flushes { (j : ℕ) → (l : Line) → lines_of pending.now.lines j ≡ Some l
         → FlushesAscend 0 (2 ^ 128) l.flushes }
-    ensures { OnOk result ((groups : Map ℕ Told) × tree.IsOrdered nat_cmp groups
+    ensures { OnOk result ((groups : Map ℕ Stated) × tree.IsOrdered nat_cmp groups
         × ((tag : ℕ)
         → tree.get nat_cmp groups tag ≡ group_from (lines_of pending.now.lines) tag None
         (loose_from lines.now.lines range.offset range.size))
         × (reports.new
-        ≡ reports.old ++ reports_told check.now.births.now check.now.entry check.now.fence pending.now.stores.items
+        ≡ reports.old ++ reports_stated check.now.births.now check.now.entry check.now.fence pending.now.stores.items
         groups.entries)) }
 {
     let groups = groups_of(alloc, &pending.lines, lines, range)?;
@@ -78,7 +78,7 @@ fn groups_of(
     requires within { range.offset + range.size ≤ LINE_SIZE * length lines.now.lines }
     requires flushes { (j : ℕ) → (l : Line) → lines_of notes.now j ≡ Some l
         → FlushesAscend 0 (2 ^ 128) l.flushes }
-    ensures told { IfOk result (λ groups. (tag : ℕ)
+    ensures stated { IfOk result (λ groups. (tag : ℕ)
         → tree.get nat_cmp groups tag ≡ group_from (lines_of notes.now) tag None
         (loose_from lines.now.lines range.offset range.size)) }
 {
@@ -92,7 +92,7 @@ fn groups_of(
 
 fn flush_of(notes: &BTreeMap<u64, LineNote>, byte: LooseByte) -> Option<FlushNote>
     requires { (j : ℕ) → (l : Line) → lines_of notes.now j ≡ Some l → FlushesAscend 0 (2 ^ 128) l.flushes }
-    ensures { result ≡ flush_told (lines_of notes.now) byte }
+    ensures { result ≡ flush_stated (lines_of notes.now) byte }
 {
     match notes.get(&(byte.offset / LINE_SIZE)) {
         Some(note) => first_after(note.flushes.as_slice(), byte.tag),
@@ -152,8 +152,8 @@ fn stores_of(
     groups: &BTreeMap<u128, Group>,
 ) -> Result<Row<StoreReport>, NoMemory>
     requires { StoresAscend 0 (2 ^ 128) pending.now.stores.items }
-    ensures told { IfOk result (λ stores. stores
-        ≡ stores_told check.now.births.now check.now.fence pending.now.stores.items groups.now.entries) }
+    ensures stated { IfOk result (λ stores. stores
+        ≡ stores_stated check.now.births.now check.now.fence pending.now.stores.items groups.now.entries) }
     ensures ordered { tree.IsOrdered nat_cmp groups.now }
 {
     let mut stores = Row::new(alloc);
@@ -183,12 +183,12 @@ fn add_store(
 // What a check reports of a store.
 fn store_of(note: &StoreNote, check: &Check<'_>, group: Group) -> Result<StoreReport, NoMemory>
     ensures { IfOk result (λ store. store
-        ≡ store_told check.now.births.now check.now.fence note.now group) }
+        ≡ store_stated check.now.births.now check.now.fence note.now group) }
 {
     Ok(StoreReport {
         entry: note.entry,
         kind: kind_of(group.flushed, is_before(note.tag, check.fence)),
-        flush_site: site_told(group.flushed, group.latest),
+        flush_site: site_stated(group.flushed, group.latest),
         path: SharedPath::new(note.site, &note.calls)?,
         closed: note.calls.closed(check.births),
     })
@@ -216,8 +216,8 @@ fn kind_of(flushed: bool, fenced: bool) -> Kind
     }
 }
 
-fn site_told(flushed: bool, latest: Option<FlushNote>) -> Option<Site>
-    ensures { result ≡ site_told flushed latest }
+fn site_stated(flushed: bool, latest: Option<FlushNote>) -> Option<Site>
+    ensures { result ≡ site_stated flushed latest }
 {
     if !flushed {
         return None;

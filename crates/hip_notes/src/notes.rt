@@ -105,7 +105,7 @@ impl Notes {
     ) -> Result<(), NoMemory>
         requires region { IsWhole region.now }
         requires order { AreInOrder self.old.pending }
-        ensures told { OnOk result (Reported
+        ensures stated { OnOk result (Reported
             (checked_range region.now.base region.now.size event) self.old.births.items entry self.old.fence self.old.pending
             region.now.lines.now.lines self.old.reports self.new.reports) }
         ensures rest { OnOk result (self.new ≡ record self.old { reports = self.new.reports }) }
@@ -133,7 +133,7 @@ impl Notes {
     ) -> Result<(), NoMemory>
         requires region { IsWhole region.now }
         requires order { AreInOrder self.old.pending }
-        ensures told { OnOk result (Reported (Some
+        ensures stated { OnOk result (Reported (Some
             (record { offset = offset; size = size })) self.old.births.items entry self.old.fence self.old.pending
             region.now.lines.now.lines self.old.reports self.new.reports) }
         ensures rest { OnOk result (self.new ≡ record self.old { reports = self.new.reports }) }

@@ -18,7 +18,7 @@ use Rattle.hip_globals.specs.Addresses.{IsBase, end_of, start_of, is_persistent,
 use Rattle.hip_runs.specs.Found.Objects.{global_at, global_from}
 use Rattle.hip_objects.specs.Globals.{AreLaid, number_at, place_of, places_from}
 use Rattle.hip_objects.specs.declared.globals.Place.{Place}
-use Rattle.hip_objects.proofs.Search.{contains-before, contains-behind}
+use Rattle.hip_objects.proofs.Search.{contains-before, contains-past}
 
 later : (b : Bool) (at : ℕ) (g : GlobalVar) → at ≤ (if b then global_start at g + size_of g.ty else at)
 later true at g = omega arith
@@ -115,7 +115,7 @@ persistent-found globals base a n v p (g ∷ gs) left high =
         ≡ number_at a (cond (same_truth b true) (place_of p g n ∷ places_from true (global_start p g + size_of g.ty) (suc n) gs) (places_from true p (suc n) gs))
     go true end e = ap (λ x. cond (range_contains (global_start p g) (size_of g.ty) a) (Some n) x) e
     go false end e = ap (λ c. cond c (Some n) (global_from globals base a (suc n) gs))
-        (contains-behind (global_start v g) (size_of g.ty) a (let up = end_of-ge false (global_start v g + size_of g.ty) gs in omega (arith, end, up))) ∙ e
+        (contains-past (global_start v g) (size_of g.ty) a (let up = end_of-ge false (global_start v g + size_of g.ty) gs in omega (arith, end, up))) ∙ e
 
 -- ---- the loop over the globals
 

@@ -9,7 +9,7 @@ use Rattle.hip_runs.specs.State.{Slot}
 use Rattle.hip_runs.specs.Found.Objects.{or_else, slot_in}
 use Rattle.hip_runs.specs.declared.event.Object.{Object}
 use Rattle.hip_runs.specs.declared.event.Object.TheVariants as objects
-use Rattle.hip_objects.specs.Blocks.{AreStacked, IsBehind, object_in, sited, slot_of, slots_of, nonempty}
+use Rattle.hip_objects.specs.Blocks.{AreStacked, IsPast, object_in, sited, slot_of, slots_of, nonempty}
 use Rattle.hip_objects.specs.Order.{first_at}
 use Rattle.hip_objects.specs.declared.blocks.Block.{Block}
 use Rattle.hip_objects.proofs.Search.{contains-before, first_at-none, in_order-pushed, later}
@@ -55,12 +55,12 @@ first_is_newest (x ∷ xs) a s =
     go : (b : Bool) → range_contains x.addr x.size a ≡ b → sited (site_first a xs) ≡ object_in (slots_of xs) a →
         sited (cond b (Some x.site) (site_first a xs)) ≡ or_else (object_in (slots_of xs) a) (chosen x.site b)
     go true has e = sym (ap (λ o. or_else o (Some (objects.Slot x.site))) (sym e ∙ ap sited (first_at-none (λ b. b.addr) (λ b. b.size) (λ b. b.site) xs a (λ i d within.
-        contains-before _ _ a (let high = contains-high x.addr x.size a has in let behind = s.order 0 (suc i) d (omega arith) (omega (arith, within)) in omega (arith, high, behind))))))
+        contains-before _ _ a (let high = contains-high x.addr x.size a has in let past = s.order 0 (suc i) d (omega arith) (omega (arith, within)) in omega (arith, high, past))))))
     go false has e = e ∙ sym (or_else-none (object_in (slots_of xs) a))
 
-pub pushed : (xs : List Block) (b : Block) → AreStacked xs → IsBehind b.addr (slots_of xs) → AreStacked (xs ++ b ∷ [])
-pushed xs b s behind = in_order-pushed (λ x. x.addr) (λ x. x.size) (λ x. x.site) xs b s
-    (λ i d within. subst (λ x. x.addr + x.size ≤ b.addr) (get_or-map slot_of xs i d (slot_of d) within) (behind i (slot_of d) (omega (arith, length-map xs slot_of, within))))
+pub pushed : (xs : List Block) (b : Block) → AreStacked xs → IsPast b.addr (slots_of xs) → AreStacked (xs ++ b ∷ [])
+pushed xs b s past = in_order-pushed (λ x. x.addr) (λ x. x.size) (λ x. x.site) xs b s
+    (λ i d within. subst (λ x. x.addr + x.size ≤ b.addr) (get_or-map slot_of xs i d (slot_of d) within) (past i (slot_of d) (omega (arith, length-map xs slot_of, within))))
 
 -- ---- blocks with no byte
 

@@ -26,8 +26,8 @@ abbrev pub AreStacked : List Block → Type 0
 AreStacked bs = AreInOrder (λ b. b.addr) (λ b. b.size) bs
 
 -- all these blocks end at or before an address
-abbrev pub IsBehind : ℕ → List Slot → Type 0
-IsBehind a xs = All (λ x. x.addr + x.size ≤ a) xs
+abbrev pub IsPast : ℕ → List Slot → Type 0
+IsPast a xs = All (λ x. x.addr + x.size ≤ a) xs
 
 -- the newest of these blocks that has the byte at an address; the blocks are given from the oldest one on
 abbrev pub object_in : List Slot → ℕ → Option Object

@@ -10,10 +10,10 @@ pub record AreInOrder {X : Type 0} (start size : X → ℕ) (xs : List X) : Type
 -- the first n of them begin at an address or before it, and the others after it
 pub record AreSplit {X : Type 0} (start : X → ℕ) (xs : List X) (a n : ℕ) : Type 0 where
   pub before : (i : ℕ) (d : X) → i < n → i < length xs → start (slice_index_or xs i d) ≤ a
-  pub behind : (i : ℕ) (d : X) → n ≤ i → i < length xs → a < start (slice_index_or xs i d)
+  pub past : (i : ℕ) (d : X) → n ≤ i → i < length xs → a < start (slice_index_or xs i d)
 
 -- what the first item that has the byte at an address gives
 abbrev pub first_at : {X B : Type 0} → (X → ℕ) → (X → ℕ) → (X → B) → ℕ → List X → Option B
-first_at start size told a [] = None
-first_at start size told a (x ∷ xs) =
-    cond (range_contains (start x) (size x) a) (Some (told x)) (first_at start size told a xs)
+first_at start size stated a [] = None
+first_at start size stated a (x ∷ xs) =
+    cond (range_contains (start x) (size x) a) (Some (stated x)) (first_at start size stated a xs)

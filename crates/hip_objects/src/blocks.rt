@@ -1,5 +1,5 @@
 ghost use Rattle.std.specs.Prelude.{◌≡◌, ◌≤◌, ◌+◌, [], ◌∷◌, ◌++◌, cond, length, take, nat_le, nat_lt, OnOk, OnErr, Some, None};
-ghost use Rattle.hip_objects.specs.Blocks.{AreStacked, IsBehind, object_in, sited, slots_of};
+ghost use Rattle.hip_objects.specs.Blocks.{AreStacked, IsPast, object_in, sited, slots_of};
 ghost use Rattle.hip_objects.specs.Order.{AreSplit};
 
 use hip_tree::Site;
@@ -55,7 +55,7 @@ impl Blocks {
 
     /// A new block, which begins at the end of the newest one or after it. It is kept if it has a byte.
     pub fn push(&mut self, block: Block) -> Result<(), NoMemory>
-        requires { IsBehind block.addr self.old }
+        requires { IsPast block.addr self.old }
         ensures ok { OnOk result (self.new ≡ self.old ++ nonempty (slot_of block ∷ [])) }
         ensures err { OnErr result (self.new ≡ self.old) }
     {
@@ -67,7 +67,7 @@ impl Blocks {
 
     // Puts a block after the others.
     fn keep(&mut self, block: Block) -> Result<(), NoMemory>
-        requires { IsBehind block.addr self.old }
+        requires { IsPast block.addr self.old }
         ensures ok { OnOk result (self.new ≡ self.old ++ slot_of block ∷ []) }
         ensures err { OnErr result (self.new ≡ self.old) }
     {

@@ -47,16 +47,16 @@ module _ (old new : List (OperandKey × ℤ)) (hit : List ℕ) (marks : List Mar
       HasWorths old hit (take i marks) → HasWorths new hit (take (i + 1) marks)
   one_more h updates is before = record { worth = by_key }
     where
-      told : (s : Site) (k : ℕ) (t : Bool) → same_site (get_or marks i d).site s && nat_eq (get_or marks i d).operand k ≡ t →
+      stated : (s : Site) (k : ℕ) (t : Bool) → same_site (get_or marks i d).site s && nat_eq (get_or marks i d).operand k ≡ t →
           unwrap_or (cond t (Some w) (lookup (same_operand (s, k)) old)) (pos 0)
           ≡ worth_in hit s k (take i marks) (pos 0) +ℤ cond t (worth_of (is_marked hit (get_or marks i d).object)) (pos 0)
-      told s k true e =
+      stated s k true e =
           let m : Mark = get_or marks i d in
           let both = both_true (same_site m.site s) (nat_eq m.operand k) e in
           is ∙ ap (λ z. z +ℤ worth_of (is_marked hit m.object))
           (before.worth m.site m.operand
           ∙ ap₂ (λ (x : Site) (n : ℕ). worth_in hit x n (take i marks) (pos 0)) (same_site_equal m.site s both.0) (equal_true m.operand k both.1))
-      told s k false e = before.worth s k ∙ sym (add-none (worth_in hit s k (take i marks) (pos 0)))
+      stated s k false e = before.worth s k ∙ sym (add-none (worth_in hit s k (take i marks) (pos 0)))
 
       updated : (q : OperandKey) → lookup (same_operand q) new ≡ cond (same_operand (mark_key (get_or marks i d)) q) (Some w) (lookup (same_operand q) old)
       updated q = sym (worth_found new q) ∙ updates q ∙ (λ j. cond (key-is_eq (mark_key (get_or marks i d)) q j) (Some w) (worth_found old q j))
@@ -65,7 +65,7 @@ module _ (old new : List (OperandKey × ℤ)) (hit : List ℕ) (marks : List Mar
       by_key s k =
           let m : Mark = get_or marks i d in
           ap (λ o. unwrap_or o (pos 0)) (updated (s, k))
-          ∙ told s k (same_site m.site s && nat_eq m.operand k) refl
+          ∙ stated s k (same_site m.site s && nat_eq m.operand k) refl
           ∙ sym (worth-append hit s k (take i marks) m (pos 0))
           ∙ ap (λ ms. worth_in hit s k ms (pos 0)) (sym (take_more marks i d h))
 

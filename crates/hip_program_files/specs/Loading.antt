@@ -59,7 +59,7 @@ ReadsProgram text (Err failures.NoMemory) = Unit {0}
 -- the file has this text, if the cabinet's files are known, and it is not too long
 pub record IsTextOf (files : Option (List NamedFile)) (name text : List ℕ) : Type 0 where
   pub fits : length text ≤ TEXT_LIMIT
-  pub told : IfSome files (λ fs. file_of fs name ≡ Some text)
+  pub stated : IfSome files (λ fs. file_of fs name ≡ Some text)
 
 -- the file's text reads as the program, which is sound
 pub record IsProgramOf (files : Option (List NamedFile)) (name : List ℕ) (program : Program) : Type 0 where

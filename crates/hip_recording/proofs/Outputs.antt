@@ -12,7 +12,7 @@ use Rattle.hip_runs.specs.declared.event.Event.{Event}
 use Rattle.hip_runs.specs.declared.event.Event.TheVariants as events
 use Rattle.hip_runs.specs.declared.input.Input.{Input}
 use Rattle.hip_engine.specs.Silent.{ComesToPrint}
-use Rattle.hip_lockstep.proofs.Going.{IsGoing, IsTold, ended_stays, ending_next, goes_on, none_ends, starts, taken_next}
+use Rattle.hip_lockstep.proofs.Going.{IsGoing, IsStated, ended_stays, ending_next, goes_on, none_ends, starts, taken_next}
 use Rattle.hip_recording.proofs.Deliveries.{all_of_both, delivers, fails_to_deliver, part_of_both}
 use Rattle.hip_recording.proofs.Silently.{goes_silently, print_there, same_output}
 use Rattle.hip_recording.specs.Delivery.{EndsOutOfMemory}
@@ -26,7 +26,7 @@ pub record IsPrinting (P : Program) (I : Input) (m : Seen) (old new : SinkState)
   pub on : IsGoing P I m
   pub written : AppendsAll old new (run P I m.taken).world.output
 
-module _ (P : Program) (I : Input) (told : (n : ℕ) → (run P I (suc n)).world.output ≡ (run P I n).world.output ++ printed_by (event P I (run P I n))) where
+module _ (P : Program) (I : Input) (stated : (n : ℕ) → (run P I (suc n)).world.output ≡ (run P I n).world.output ++ printed_by (event P I (run P I n))) where
   -- what follows the output of the first steps
   grown : (n d : ℕ) → (more : List ℕ) × ((run P I (n + d)).world.output ≡ (run P I n).world.output ++ more)
   grown n zero = ([], ap (λ k. (run P I k).world.output) (let e : n + 0 ≡ n = omega arith in e) ∙ sym (append-nil (run P I n).world.output))
@@ -35,7 +35,7 @@ module _ (P : Program) (I : Input) (told : (n : ℕ) → (run P I (suc n)).world
       go : (more : List ℕ) × ((run P I (n + d)).world.output ≡ (run P I n).world.output ++ more) → (more : List ℕ) × ((run P I (n + suc d)).world.output ≡ (run P I n).world.output ++ more)
       go (more, is) = (
         more ++ printed_by (event P I (run P I (n + d))),
-        ap (λ k. (run P I k).world.output) (let e : n + suc d ≡ suc (n + d) = omega arith in e) ∙ told (n + d)
+        ap (λ k. (run P I k).world.output) (let e : n + suc d ≡ suc (n + d) = omega arith in e) ∙ stated (n + d)
             ∙ ap (λ text. text ++ printed_by (event P I (run P I (n + d)))) is ∙ append_assoc (run P I n).world.output more (printed_by (event P I (run P I (n + d)))),
       )
 
@@ -45,19 +45,19 @@ pub record IsFront (P : Program) (I : Input) (front : List ℕ) : Type 0 where
   pub ending : Ending
   pub printed : IsPrinted P I (front ++ missing) ending
 
-pub front_of : (P : Program) (I : Input) → IsTold P I → (n : ℕ) → IsFront P I (run P I n).world.output
-front_of P I told n = go (run P I told.ends.0).world.ending refl told.ends.1
+pub front_of : (P : Program) (I : Input) → IsStated P I → (n : ℕ) → IsFront P I (run P I n).world.output
+front_of P I stated n = go (run P I stated.ends.0).world.ending refl stated.ends.1
   where
-    go : (o : Option Ending) → (run P I told.ends.0).world.ending ≡ o → is_some (run P I told.ends.0).world.ending ≡ true → IsFront P I (run P I n).world.output
-    go None none ended = absurd (none_ends (run P I told.ends.0).world.ending none ended)
+    go : (o : Option Ending) → (run P I stated.ends.0).world.ending ≡ o → is_some (run P I stated.ends.0).world.ending ≡ true → IsFront P I (run P I n).world.output
+    go None none ended = absurd (none_ends (run P I stated.ends.0).world.ending none ended)
     go (Some e) ends ended =
-        let more = grown P I told.output n told.ends.0 in
-        let last : run P I (n + told.ends.0) ≡ run P I told.ends.0 =
-        ap (λ m. run P I m) (let swap : n + told.ends.0 ≡ told.ends.0 + n = omega arith in swap) ∙ ended_stays P I told.ends.0 e ends n in
+        let more = grown P I stated.output n stated.ends.0 in
+        let last : run P I (n + stated.ends.0) ≡ run P I stated.ends.0 =
+        ap (λ m. run P I m) (let swap : n + stated.ends.0 ≡ stated.ends.0 + n = omega arith in swap) ∙ ended_stays P I stated.ends.0 e ends n in
         record {
           missing = more.0;
           ending = e;
-          printed = record { steps = told.ends.0; ended = ends; is = sym more.1 ∙ ap (λ s. s.world.output) last };
+          printed = record { steps = stated.ends.0; ended = ends; is = sym more.1 ∙ ap (λ s. s.world.output) last };
         }
 
 -- a step that ends a run prints nothing
@@ -71,21 +71,21 @@ ends_silent events.Fence e h = refl
 ends_silent (events.Assert a n) e h = refl
 ends_silent (events.End f) e h = refl
 
-module _ {P : Program} {I : Input} {m : Seen} {old mid : SinkState} (told : IsTold P I) (is : IsPrinting P I m old mid) where
+module _ {P : Program} {I : Input} {m : Seen} {old mid : SinkState} (stated : IsStated P I) (is : IsPrinting P I m old mid) where
   pub stopped : HasStopped P I old mid
   stopped =
-      let front = front_of P I told m.taken in
+      let front = front_of P I stated m.taken in
       record { front = (run P I m.taken).world.output; missing = front.missing; ending = front.ending; printed = front.printed; written = is.written }
 
   printed_next : (e : Event) → event P I (run P I m.taken) ≡ e → (run P I (suc m.taken)).world.output ≡ (run P I m.taken).world.output ++ printed_by e
-  printed_next e at = told.output m.taken ∙ ap (λ x. (run P I m.taken).world.output ++ printed_by x) at
+  printed_next e at = stated.output m.taken ∙ ap (λ x. (run P I m.taken).world.output ++ printed_by x) at
 
   printed : (x : Event) (e : Ending) → event P I (run P I m.taken) ≡ x → ending_by x ≡ Some e → HasPrinted P I old mid e
   printed x e at ends = record {
     text = (run P I m.taken).world.output;
     printed = record {
       steps = suc m.taken;
-      ended = ending_next told is.on x at ∙ ends;
+      ended = ending_next stated is.on x at ∙ ends;
       is = sym (printed_next x at ∙ ap (λ text. (run P I m.taken).world.output ++ text) (ends_silent x e ends) ∙ append-nil (run P I m.taken).world.output);
     };
     written = is.written;
@@ -93,7 +93,7 @@ module _ {P : Program} {I : Input} {m : Seen} {old mid : SinkState} (told : IsTo
 
   failed : (e : Event) (new : SinkState) → event P I (run P I m.taken) ≡ e → AppendsPrefix mid new (printed_by e) → HasFailed P I old new
   failed e new at put =
-      let front = front_of P I told (suc m.taken) in
+      let front = front_of P I stated (suc m.taken) in
       record {
         text = (run P I (suc m.taken)).world.output ++ front.missing;
         ending = front.ending;
@@ -104,13 +104,13 @@ module _ {P : Program} {I : Input} {m : Seen} {old mid : SinkState} (told : IsTo
   more : (e : Event) (new : SinkState) → event P I (run P I m.taken) ≡ e → ending_by e ≡ None → AppendsAll mid new (printed_by e) → IsPrinting P I (after_step m) old new
   more e new at goes put =
       record {
-        on = goes_on told is.on e at goes;
-        written = subst (λ n. AppendsAll old new (run P I n).world.output) (sym (taken_next told is.on)) (subst (λ text. AppendsAll old new text) (sym (printed_next e at)) (all_of_both is.written put));
+        on = goes_on stated is.on e at goes;
+        written = subst (λ n. AppendsAll old new (run P I n).world.output) (sym (taken_next stated is.on)) (subst (λ text. AppendsAll old new text) (sym (printed_next e at)) (all_of_both is.written put));
       }
 
 -- ---- the next print
 
-module _ {P : Program} {I : Input} {m : Seen} {old mid : SinkState} (told : IsTold P I) (is : IsPrinting P I m old mid) {next : Seen} {e : Event} (c : ComesToPrint m next e) where
+module _ {P : Program} {I : Input} {m : Seen} {old mid : SinkState} (stated : IsStated P I) (is : IsPrinting P I m old mid) {next : Seen} {e : Event} (c : ComesToPrint m next e) where
   -- before the step that has the event
   before_event : IsPrinting P I c.before old mid
   before_event = record {
@@ -119,14 +119,14 @@ module _ {P : Program} {I : Input} {m : Seen} {old mid : SinkState} (told : IsTo
   }
 
   pub prints_last : (ending : Ending) → ending_by e ≡ Some ending → HasPrinted P I old mid ending
-  prints_last ending ends = printed told before_event e ending (print_there told is.on c) ends
+  prints_last ending ends = printed stated before_event e ending (print_there stated is.on c) ends
 
   pub fails_next : (new : SinkState) → AppendsPrefix mid new (printed_by e) → HasFailed P I old new
-  fails_next new put = failed told before_event e new (print_there told is.on c) put
+  fails_next new put = failed stated before_event e new (print_there stated is.on c) put
 
   pub prints_next : (new : SinkState) → ending_by e ≡ None → AppendsAll mid new (printed_by e) → IsPrinting P I next old new
   prints_next new goes put =
-      subst (λ (n : Seen). IsPrinting P I n old new) (sym c.step) (more told before_event e new (print_there told is.on c) goes put)
+      subst (λ (n : Seen). IsPrinting P I n old new) (sym c.step) (more stated before_event e new (print_there stated is.on c) goes put)
 
 starts_silent : (P : Program) (I : Input) → (run P I 0).world.output ≡ []
 unfolding run

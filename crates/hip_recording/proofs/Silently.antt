@@ -4,7 +4,7 @@ use Rattle.hip_tree.specs.declared.program.Program.{Program}
 use Rattle.hip_engine.specs.Laws.SilentLaws.{still_going}
 use Rattle.hip_engine.specs.Laws.SilentLaws as laws
 use Rattle.hip_engine.specs.Silent.{ComesToPrint, GoesSilently, is_silent}
-use Rattle.hip_lockstep.proofs.Going.{IsGoing, IsTold, fewer, here, steps_ahead}
+use Rattle.hip_lockstep.proofs.Going.{IsGoing, IsStated, fewer, here, steps_ahead}
 use Rattle.hip_runs.specs.Outputs.{ending_by}
 use Rattle.hip_runs.specs.Seen.{Seen, after_step}
 use Rattle.hip_runs.specs.Step.{event, run}
@@ -32,17 +32,17 @@ module _ {P : Program} {I : Input} {old new : Seen} (is : IsGoing P I old) (q : 
   same_output = ap (λ n. (run P I n).world.output) silent_taken ∙ laws.same_output P I old.taken q.steps silent_at
 
 -- the event to which a run comes is that of its step there
-pub print_there : {P : Program} {I : Input} {old new : Seen} {e : Event} → IsTold P I → IsGoing P I old
+pub print_there : {P : Program} {I : Input} {old new : Seen} {e : Event} → IsStated P I → IsGoing P I old
     → (c : ComesToPrint old new e) → event P I (run P I c.before.taken) ≡ e
-print_there {e = e} told is c = here told (goes_silently is c.silent) e c.is
+print_there {e = e} stated is c = here stated (goes_silently is c.silent) e c.is
 
 -- a run that comes to an event which is no end has fewer steps left
-pub prints_nearer : {P : Program} {I : Input} {old new : Seen} {e : Event} → IsTold P I → IsGoing P I old
+pub prints_nearer : {P : Program} {I : Input} {old new : Seen} {e : Event} → IsStated P I → IsGoing P I old
     → ComesToPrint old new e → ending_by e ≡ None → steps_ahead P I new.taken < steps_ahead P I old.taken
-prints_nearer {P} {I} {old} {new} {e} told is c goes =
+prints_nearer {P} {I} {old} {new} {e} stated is c goes =
     let at = c.before in
     let on = goes_silently is c.silent in
-    let less : steps_ahead P I (after_step at).taken < steps_ahead P I at.taken = fewer told on e (here told on e c.is) goes in
+    let less : steps_ahead P I (after_step at).taken < steps_ahead P I at.taken = fewer stated on e (here stated on e c.is) goes in
     let next : steps_ahead P I new.taken ≡ steps_ahead P I (after_step at).taken = ap (λ (m : Seen). steps_ahead P I m.taken) c.step in
     let taken = silent_taken is c.silent in
     omega (arith, less, next, taken)

@@ -21,7 +21,7 @@ use Rattle.hip_recording.proofs.Deliveries.{all_of_both, delivers, fails_to_deli
 use Rattle.hip_recording.specs.Delivery.{EndsOutOfMemory}
 use Rattle.hip_engine.specs.Quiet.{ComesTo}
 use Rattle.hip_recording.proofs.Quietly.{event_there, goes_there, trace_there}
-use Rattle.hip_lockstep.proofs.Going.{IsGoing, IsTold, ending_next, goes_on, taken_next}
+use Rattle.hip_lockstep.proofs.Going.{IsGoing, IsStated, ending_next, goes_on, taken_next}
 use Rattle.hip_lockstep.specs.declared.ended.Ended.{Ended}
 use Rattle.hip_recording.specs.declared.refusal.RecordRefusal.{RecordRefusal}
 use Rattle.hip_recording.specs.declared.refusal.RecordRefusal.TheVariants.{NoMemory, WriteFault}
@@ -66,7 +66,7 @@ stopped_at P I old new front begins p =
     let rest = begins whole.0 whole.1 in
     record { front = front; missing = rest.0; is_trace = subst (λ es. IsTrace P I es) rest.1 whole.1; written = p }
 
-module _ {P : Program} {I : Input} {m : Seen} (told : IsTold P I) (on : IsGoing P I m) where
+module _ {P : Program} {I : Input} {m : Seen} (stated : IsStated P I) (on : IsGoing P I m) where
   pub next_trace : (e : Event) → event P I (run P I m.taken) ≡ e → trace P I (suc m.taken) ≡ trace P I m.taken ++ entry_list (entry_of_event e)
   next_trace e at =
       next-trace P I m.taken
@@ -88,70 +88,70 @@ module _ {P : Program} {I : Input} {m : Seen} (told : IsTold P I) (on : IsGoing 
       omega (arith, total, same, less)
 
   pub counted_on : (e : Event) (n more : ℕ) → event P I (run P I m.taken) ≡ e → n ≡ length (trace P I m.taken) → more ≡ length (entry_list (entry_of_event e)) → n + more ≡ length (trace P I (after_step m).taken)
-  counted_on e n more at all one = counted e n more at all one ∙ ap (λ k. length (trace P I k)) (sym (taken_next told on))
+  counted_on e n more at all one = counted e n more at all one ∙ ap (λ k. length (trace P I k)) (sym (taken_next stated on))
 
 -- the lines of the trace after one step more
-lines_next : {P : Program} {I : Input} {m : Seen} (told : IsTold P I) (on : IsGoing P I m) (e : Event) → event P I (run P I m.taken) ≡ e → lines_of (trace P I m.taken) ++ lines_of (entry_list (entry_of_event e)) ≡ lines_of (trace P I (suc m.taken))
-lines_next {P} {I} {m} told on e at = sym (ap (λ es. lines_of es) (next_trace told on e at) ∙ both_lines (trace P I m.taken) (entry_list (entry_of_event e)))
+lines_next : {P : Program} {I : Input} {m : Seen} (stated : IsStated P I) (on : IsGoing P I m) (e : Event) → event P I (run P I m.taken) ≡ e → lines_of (trace P I m.taken) ++ lines_of (entry_list (entry_of_event e)) ≡ lines_of (trace P I (suc m.taken))
+lines_next {P} {I} {m} stated on e at = sym (ap (λ es. lines_of es) (next_trace stated on e at) ∙ both_lines (trace P I m.taken) (entry_list (entry_of_event e)))
 
-module _ {P : Program} {I : Input} {m : Seen} {old mid : SinkState} (told : IsTold P I) (is : IsRecording P I m old mid) where
+module _ {P : Program} {I : Input} {m : Seen} {old mid : SinkState} (stated : IsStated P I) (is : IsRecording P I m old mid) where
   next_written : (e : Event) (new : SinkState) → event P I (run P I m.taken) ≡ e → AppendsAll mid new (lines_of (entry_list (entry_of_event e))) → AppendsAll old new (lines_of (trace P I (suc m.taken)))
-  next_written e new at put = subst (λ text. AppendsAll old new text) (lines_next told is.on e at) (all_of_both is.written put)
+  next_written e new at put = subst (λ text. AppendsAll old new text) (lines_next stated is.on e at) (all_of_both is.written put)
 
   pub stopped : HasStoppedRecording P I old mid
   stopped = stopped_at P I old mid (trace P I m.taken) (whole-front P I m.taken) is.written
 
   pub more : (e : Event) (new : SinkState) → event P I (run P I m.taken) ≡ e → ending_by e ≡ None → AppendsAll mid new (lines_of (entry_list (entry_of_event e))) → IsRecording P I (after_step m) old new
   more e new at goes put = record {
-    on = goes_on told is.on e at goes;
-    written = subst (λ n. AppendsAll old new (lines_of (trace P I n))) (sym (taken_next told is.on)) (next_written e new at put);
+    on = goes_on stated is.on e at goes;
+    written = subst (λ n. AppendsAll old new (lines_of (trace P I n))) (sym (taken_next stated is.on)) (next_written e new at put);
   }
 
   pub failed : (e : Event) (new : SinkState) → event P I (run P I m.taken) ≡ e → AppendsPrefix mid new (lines_of (entry_list (entry_of_event e))) → HasFailedRecording P I old new
-  failed e new at put = failed_at P I old new (suc m.taken) (subst (λ text. AppendsPrefix old new text) (lines_next told is.on e at) (part_of_both is.written put))
+  failed e new at put = failed_at P I old new (suc m.taken) (subst (λ text. AppendsPrefix old new text) (lines_next stated is.on e at) (part_of_both is.written put))
 
   pub recorded : (e : Event) (new : SinkState) (ending : Ending) (n more : ℕ) → event P I (run P I m.taken) ≡ e → ending_by e ≡ Some ending → AppendsAll mid new (lines_of (entry_list (entry_of_event e))) → n ≡ length (trace P I m.taken) → more ≡ length (entry_list (entry_of_event e)) → HasPutTrace P I old new (record { ending = ending; entries = n + more })
   recorded e new ending n more at ends put all one =
-      let ended : (run P I (suc m.taken)).world.ending ≡ Some ending = ending_next told is.on e at ∙ ends in
+      let ended : (run P I (suc m.taken)).world.ending ≡ Some ending = ending_next stated is.on e at ∙ ends in
       record {
         trace = trace P I (suc m.taken);
         is_trace = record { steps = suc m.taken; ended = ap is_some ended; are = refl };
         ended = ended;
-        entries = counted told is.on e n more at all one;
+        entries = counted stated is.on e n more at all one;
         written = next_written e new at put;
       }
 
 -- ---- the next event
 
-module _ {P : Program} {I : Input} {m : Seen} {old mid : SinkState} (told : IsTold P I) (is : IsRecording P I m old mid) {next : Seen} {e : Event} (c : ComesTo m next e) where
+module _ {P : Program} {I : Input} {m : Seen} {old mid : SinkState} (stated : IsStated P I) (is : IsRecording P I m old mid) {next : Seen} {e : Event} (c : ComesTo m next e) where
   -- before the step that has the event
   before_event : IsRecording P I c.before old mid
   before_event = record {
-    on = goes_there told is.on c;
-    written = subst (λ es. AppendsAll old mid (lines_of es)) (sym (trace_there told is.on c)) is.written;
+    on = goes_there stated is.on c;
+    written = subst (λ es. AppendsAll old mid (lines_of es)) (sym (trace_there stated is.on c)) is.written;
   }
 
   pub failed_next : (new : SinkState) → AppendsPrefix mid new (lines_of (entry_list (entry_of_event e))) → HasFailedRecording P I old new
-  failed_next new put = failed told before_event e new (event_there told is.on c) put
+  failed_next new put = failed stated before_event e new (event_there stated is.on c) put
 
   pub written_next : (new : SinkState) → ending_by e ≡ None → AppendsAll mid new (lines_of (entry_list (entry_of_event e))) → IsRecording P I next old new
   written_next new goes put =
-      subst (λ (n : Seen). IsRecording P I n old new) (sym c.step) (more told before_event e new (event_there told is.on c) goes put)
+      subst (λ (n : Seen). IsRecording P I n old new) (sym c.step) (more stated before_event e new (event_there stated is.on c) goes put)
 
   pub recorded_last : (new : SinkState) (ending : Ending) (n count : ℕ) → ending_by e ≡ Some ending → AppendsAll mid new (lines_of (entry_list (entry_of_event e))) → n ≡ length (trace P I m.taken) → count ≡ length (entry_list (entry_of_event e)) → HasPutTrace P I old new (record { ending = ending; entries = n + count })
   recorded_last new ending n count ends put all one =
-      recorded told before_event e new ending n count (event_there told is.on c) ends put (all ∙ ap length (sym (trace_there told is.on c))) one
+      recorded stated before_event e new ending n count (event_there stated is.on c) ends put (all ∙ ap length (sym (trace_there stated is.on c))) one
 
-module _ {P : Program} {I : Input} {m next : Seen} {e : Event} (told : IsTold P I) (on : IsGoing P I m) (c : ComesTo m next e) (n count : ℕ) (all : n ≡ length (trace P I m.taken)) (one : count ≡ length (entry_list (entry_of_event e))) where
+module _ {P : Program} {I : Input} {m next : Seen} {e : Event} (stated : IsStated P I) (on : IsGoing P I m) (c : ComesTo m next e) (n count : ℕ) (all : n ≡ length (trace P I m.taken)) (one : count ≡ length (entry_list (entry_of_event e))) where
   all_before : n ≡ length (trace P I c.before.taken)
-  all_before = all ∙ ap length (sym (trace_there told on c))
+  all_before = all ∙ ap length (sym (trace_there stated on c))
 
   pub count_fits_next : ((k : ℕ) → CountsFit P I k) → n + count < 2 ^ 128
-  count_fits_next fit = count_fits told (goes_there told on c) e n count (event_there told on c) all_before one fit
+  count_fits_next fit = count_fits stated (goes_there stated on c) e n count (event_there stated on c) all_before one fit
 
   pub counted_next : n + count ≡ length (trace P I next.taken)
   counted_next =
-      counted_on told (goes_there told on c) e n count (event_there told on c) all_before one
+      counted_on stated (goes_there stated on c) e n count (event_there stated on c) all_before one
       ∙ ap (λ (s : Seen). length (trace P I s.taken)) (sym c.step)
 
 -- nothing was written

@@ -75,19 +75,19 @@ header_from P I count [] = Gives count (filled P I)
 header_from P I count (e ∷ es) = go_on P I count (λ more. header_from P more (suc count) es) (with_entry P I e)
 
 -- the header, where the second piece gave this base and these pieces follow; it has one entry if the piece gave none
-abbrev pub behind_register : Program → ℕ → List (Option Entry) → Option ℕ → Header
-behind_register P limit es None = Stops 1
-behind_register P limit es (Some base) =
+abbrev pub past_register : Program → ℕ → List (Option Entry) → Option ℕ → Header
+past_register P limit es None = Stops 1
+past_register P limit es (Some base) =
     header_from P (record { base = base; image = []; numbers = []; limit = limit }) 2 es
 
 -- the header, where the first piece gave this limit and these pieces follow; it has no entry if the piece gave none,
 -- and one if no piece follows
-abbrev pub behind_start : Program → List (Option Entry) → Option ℕ → Header
-behind_start P es None = Stops 0
-behind_start P [] (Some limit) = Stops 1
-behind_start P (e ∷ es) (Some limit) = behind_register P limit es (valid_base P e)
+abbrev pub past_start : Program → List (Option Entry) → Option ℕ → Header
+past_start P es None = Stops 0
+past_start P [] (Some limit) = Stops 1
+past_start P (e ∷ es) (Some limit) = past_register P limit es (valid_base P e)
 
 -- the header of a trace, from what its pieces spell
 unfoldable pub header : Program → List (Option Entry) → Header
 header P [] = Stops 0
-header P (e ∷ es) = behind_start P es (valid_limit e)
+header P (e ∷ es) = past_start P es (valid_limit e)

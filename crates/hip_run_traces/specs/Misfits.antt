@@ -44,15 +44,15 @@ pub record DiffersFromRun (P : Program) (I : Input) (whole : Bool) (pieces : Lis
 
 -- After a header that gives no input the misfit is the next entry, which is missing or not valid there. After a header
 -- that gives an input it is the first one at which the pieces differ from the trace of the run on that input.
-abbrev pub MisfitBehind : Header → Program → Bool → List (Option Entry) → ℕ → MisfitKind → Type 0
-MisfitBehind (Stops count) P whole pieces entry kind = (entry ≡ count + 1)
+abbrev pub MisfitPast : Header → Program → Bool → List (Option Entry) → ℕ → MisfitKind → Type 0
+MisfitPast (Stops count) P whole pieces entry kind = (entry ≡ count + 1)
     × StopsAt whole (slice_get pieces count) kind
-MisfitBehind (Gives count I) P whole pieces entry kind = DiffersFromRun P I whole pieces entry kind
+MisfitPast (Gives count I) P whole pieces entry kind = DiffersFromRun P I whole pieces entry kind
 
 -- The misfit of a program and the bytes of a trace, or of a front of a trace that is not whole: the number of an entry,
 -- counted from 1, and how it differs from the run's. (This project's own.)
 pub record IsMisfit (P : Program) (bytes : List ℕ) (whole : Bool) (entry : ℕ) (kind : MisfitKind) : Type 0 where
-  pub here : MisfitBehind (header P (spelled whole bytes)) P whole (spelled whole bytes) entry kind
+  pub here : MisfitPast (header P (spelled whole bytes)) P whole (spelled whole bytes) entry kind
 
 -- The whole file is the trace of the run on the input that its header gives.
 pub record IsTraceOf (P : Program) (bytes : List ℕ) (I : Input) : Type 0 where

@@ -82,8 +82,8 @@ trace P I zero = header_of I
 trace P I (suc n) = trace P I n ++ next_entries P I (run P I n)
 
 -- each entry as a piece that spells it
-abbrev pub told : List Entry → List (Option Entry)
-told es = map (λ e. Some e) es
+abbrev pub stated : List Entry → List (Option Entry)
+stated es = map (λ e. Some e) es
 
 -- The trace of a run: that of its first n steps, after which it has ended.
 pub record IsTrace (P : Program) (I : Input) (es : List Entry) : Type 0 where

@@ -55,19 +55,19 @@ pub fn parts_are_of_stores()
 {}
 
 /// A part of a store is fenced exactly if a fence came after its store.
-pub fn fences_are_told()
+pub fn fences_are_stated()
     ensures came { (P : Program) → (I : Input) → (n : ℕ) → (part : StorePart)
         → PartOf (run P I n).lines part →
         part.fenced ≡ true → FencedSince P I part.step n }
-    ensures told { (P : Program) → (I : Input) → (n : ℕ) → (part : StorePart)
+    ensures stated { (P : Program) → (I : Input) → (n : ℕ) → (part : StorePart)
         → PartOf (run P I n).lines part →
         FencedSince P I part.step n → part.fenced ≡ true }
 {}
 
 /// A part of a store has the first flush of its cache line after its store, or none if there was none; and there is at
 /// most one first flush.
-pub fn first_flushes_are_told()
-    ensures told { (P : Program) → (I : Input) → (n : ℕ) → (part : StorePart)
+pub fn first_flushes_are_stated()
+    ensures stated { (P : Program) → (I : Input) → (n : ℕ) → (part : StorePart)
         → PartOf (run P I n).lines part →
         IsFirstFlush P I (part.offset / LINE_SIZE) part.step n part.first_flush }
     ensures one { (P : Program) → (I : Input) → (line from n : ℕ) → (first other : Option Flush) →

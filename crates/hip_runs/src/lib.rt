@@ -22,8 +22,8 @@ pub use findings::{
     worths_are_made_by_one_pass,
 };
 pub use history::{
-    durable_stores_stay_durable, durable_stores_were_flushed_then_fenced, fences_are_told,
-    first_flushes_are_told, images_are_choices, images_shrink, parts_are_of_stores,
+    durable_stores_stay_durable, durable_stores_were_flushed_then_fenced, fences_are_stated,
+    first_flushes_are_stated, images_are_choices, images_shrink, parts_are_of_stores,
 };
 pub use images::{
     bytes_follow_the_durable, entries_find_one_state, images_are_decided_by_lines,

@@ -7,7 +7,7 @@ ghost use Rattle.hip_runs.specs.StoredParts.Parts.{In};
 ghost use Rattle.hip_runs.specs.Found.Reports.{LoosePart, Range, loose_parts, check_reports, reports_for};
 ghost use Rattle.hip_runs.specs.State.{StorePart};
 ghost use Rattle.hip_runs.specs.Step.{run};
-ghost use Rattle.hip_runs.specs.Found.Tags.{AreToldBy, AscendWithin, HoldsTags, IsLoosePart, IsNoneBeside, loose_bytes};
+ghost use Rattle.hip_runs.specs.Found.Tags.{AreStatedBy, AscendWithin, HoldsTags, IsLoosePart, IsNoneBeside, loose_bytes};
 ghost use Rattle.hip_runs.specs.declared.input.Input.{Input};
 ghost use Rattle.hip_runs.specs.declared.report.Report.{Report};
 ghost use Rattle.std.specs.List.{flat_map, range_with_len};
@@ -18,7 +18,7 @@ ghost use Rattle.std.specs.Prelude.{◌≡◌, ◌<◌, ℕ, List, Some};
 /// such a part.
 pub fn loose_bytes_tell_loose_parts()
     ensures { (P : Program) → (I : Input) → (n offset size made : ℕ) →
-        AreToldBy (loose_parts offset size (run P I n).lines made) (loose_bytes (run P I n) offset size) made }
+        AreStatedBy (loose_parts offset size (run P I n).lines made) (loose_bytes (run P I n) offset size) made }
 {}
 
 /// A part is one of a step's loose parts in a range exactly if some byte of the range is loose by it and that step made

@@ -24,12 +24,12 @@ pub struct Checked {
 
 impl Model for Checked {
     ghost use Rattle.hip_tree.specs.declared.program.Program.{Program};
-    ghost use Rattle.hip_tree.specs.contracts.program.Program as told;
+    ghost use Rattle.hip_tree.specs.contracts.program.Program as stated;
     ghost use Rattle.hip_sound.specs.Sound.{IsSound};
 
     ghost Value = { Program };
 
-    ghost coded = { told.the_row.coded };
+    ghost coded = { stated.the_row.coded };
 
     ghost view = { λ c. c.program };
 

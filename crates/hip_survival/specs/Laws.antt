@@ -5,7 +5,7 @@ pub mod Bounded
 pub mod WorkingBytes
 pub mod WholeImage
 pub mod TightBytes
-pub mod ToldBytes
+pub mod StatedBytes
 pub mod CheckedBytes
 pub mod StopImage
 pub mod ReportedBytes

@@ -61,7 +61,7 @@ pub fn what_is_not_durable_may_be_lost()
 
 /// A byte of the region is loose exactly if `Lines::not_durable` yields it for the cache lines of the run.
 pub fn lines_tell_loose_bytes()
-    ensures told { (P : Program) → (I : Input) → (n : ℕ) → (b : ℕ) → IsLooseAt (run P I n) b →
+    ensures stated { (P : Program) → (I : Input) → (n : ℕ) → (b : ℕ) → IsLooseAt (run P I n) b →
         (x : LooseByte) × In x (loose_bytes (run P I n) b 1) }
     ensures loose { (P : Program) → (I : Input) → (n : ℕ) → (b : ℕ) → (x : LooseByte) →
         In x (loose_bytes (run P I n) b 1) → IsLooseAt (run P I n) b }

@@ -77,7 +77,7 @@ const FAULTS: &[FailAt] = &[
 ];
 
 #[test]
-fn fails_where_it_is_told(rt: HostRuntime) {
+fn fails_where_it_is_stated(rt: HostRuntime) {
     for at in FAULTS {
         let mut cabinet = failing(&rt, rt.alloc(), *at);
         assert_refused(

@@ -106,12 +106,12 @@ label_cut line (b ∷ bs) rest p =
     let token : piece (Label (b ∷ bs)) (length bs + 1) ≡ piece_at b (bs ++ 58 ∷ rest) =
     rw (first, len, colon bs rest, take_at bs (58 ∷ rest) (length bs) refl) refl in
     cut_token line b (bs ++ 58 ∷ rest) (Label (b ∷ bs)) (length bs + 1) o.0 o.1 token
-    ∙ rw (behind_colon bs rest) refl
+    ∙ rw (past_colon bs rest) refl
   where
-    behind_colon : (xs ys : List ℕ) → drop (length xs + 1) (xs ++ 58 ∷ ys) ≡ ys
-    behind_colon [] ys = refl
-    behind_colon (x ∷ xs) ys =
-        let e : suc (length xs) + 1 ≡ suc (length xs + 1) = omega arith in rw e (behind_colon xs ys)
+    past_colon : (xs ys : List ℕ) → drop (length xs + 1) (xs ++ 58 ∷ ys) ≡ ys
+    past_colon [] ys = refl
+    past_colon (x ∷ xs) ys =
+        let e : suc (length xs) + 1 ≡ suc (length xs + 1) = omega arith in rw e (past_colon xs ys)
 
 local_piece_is : (name rest : List ℕ) → is_name name ≡ true → begins_without goes_on_name rest ≡ true
     → piece (Local name) (length name) ≡ piece_at 37 (name ++ rest)

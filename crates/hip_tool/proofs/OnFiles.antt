@@ -89,13 +89,13 @@ repairs_many P rs a h = record {
 -- ---- a program
 
 module _ (files : List NamedFile) (p : List ℕ) (P : Program) (given : IsProgramOf (Some files) p P) (old new : CabinetState)
-    (s : Sinks) (told : old.files ≡ Some files) (nothing : NothingFails old new s) where
+    (s : Sinks) (stated : old.files ≡ Some files) (nothing : NothingFails old new s) where
   never_failed : {missed : Bool} → HasMet missed true old new → ⊥
   never_failed {missed} met = let z : true ≡ false = no_fault old new s nothing missed true met in cc
 
   not_unloaded : (a : Answer) → IsUnloaded old new p a → ⊥
   not_unloaded a u =
-      (loads_one files p).excluded P u.why given (subst (λ (fs : Option (List NamedFile)). HasNoProgram fs p u.why) told u.cause)
+      (loads_one files p).excluded P u.why given (subst (λ (fs : Option (List NamedFile)). HasNoProgram fs p u.why) stated u.cause)
 
   not_lacking : (a : Answer) → LacksProgram old new p a → ⊥
   not_lacking a (inl u) = not_unloaded a u
@@ -103,7 +103,7 @@ module _ (files : List NamedFile) (p : List ℕ) (P : Program) (given : IsProgra
 
   same_program : (Q : Program) → IsProgramOf old.files p Q → Q ≡ P
   same_program Q loaded =
-      (loads_one files p).programs Q P (subst (λ (fs : Option (List NamedFile)). IsProgramOf fs p Q) told loaded) given
+      (loads_one files p).programs Q P (subst (λ (fs : Option (List NamedFile)). IsProgramOf fs p Q) stated loaded) given
 
   pub runs : (limit : ℕ) (numbers : List ℤ) (a : Answer) → RunAnswers old new p limit numbers a
       → WritesOutput P (first_input P LOWEST_BASE limit numbers) a
@@ -133,12 +133,12 @@ module _ (files : List NamedFile) (p : List ℕ) (P : Program) (given : IsProgra
     on_run a (inr (inl u)) = absurd (never_failed u.met)
     on_run a (inr (inr (inl (inr u)))) = absurd (never_failed u.met)
     on_run a (inr (inr (inl (inl u)))) =
-        let cause = subst (λ (fs : Option (List NamedFile)). HasNoTrace fs t u.program u.why) told u.cause in
+        let cause = subst (λ (fs : Option (List NamedFile)). HasNoTrace fs t u.program u.why) stated u.cause in
         absurd (never_both files t P u.why I
         (subst (λ (Q : Program). HasNoTrace (Some files) t Q u.why) (same_program u.program u.loaded) cause) trace)
     on_run a (inr (inr (inr d))) =
         let programs_are = same_program d.program d.loaded in
-        let traced = subst (λ (fs : Option (List NamedFile)). IfSome fs (λ fs. IsTraceFile fs t d.program d.input)) told
+        let traced = subst (λ (fs : Option (List NamedFile)). IfSome fs (λ fs. IsTraceFile fs t d.program d.input)) stated
         d.traced in
         let inputs_are = same_trace files t P d.input I
         (subst (λ (Q : Program). IsTraceFile files t Q d.input) programs_are traced) trace in (
@@ -159,10 +159,10 @@ module _ (files : List NamedFile) (p : List ℕ) (P : Program) (given : IsProgra
   module _ (one : ManyAreOne) (answered : ManyAreAnswered) (names : List (List ℕ)) (rs : List TracedRun)
       (are : AreRunsOf (Some files) P names rs) where
     done : (b : Answer) × (b.status ≡ statuses.Done) × ManyAnswers old old p names b
-    done = answered files old old p names P rs told given are (record { files = refl; misses = refl; faults = refl })
+    done = answered files old old p names P rs stated given are (record { files = refl; misses = refl; faults = refl })
 
     never_untraced : (a : Answer) → IsUntracedIn old new p names a → ⊥
-    never_untraced a u = go (one p names files old new old old a done.0 told told (inr (inr (inl u))) done.2)
+    never_untraced a u = go (one p names files old new old old a done.0 stated stated (inr (inr (inl u))) done.2)
       where
         status : a.status ≡ status_in u.number u.why
         status = ap (λ (x : Answer). x.status) u.is
@@ -184,7 +184,7 @@ module _ (files : List NamedFile) (p : List ℕ) (P : Program) (given : IsProgra
     on_runs a (inr (inr (inr (inl u)))) = absurd (never_failed u.met)
     on_runs a (inr (inr (inr (inr d)))) =
         let programs_are = same_program d.program d.loaded in
-        let there = subst (λ (fs : Option (List NamedFile)). AreRunsOf fs d.program names d.runs) told d.are in
+        let there = subst (λ (fs : Option (List NamedFile)). AreRunsOf fs d.program names d.runs) stated d.are in
         let inputs_are = ap (λ (runs : List TracedRun). map (λ (r : TracedRun). r.input) runs) (one_runs files P names d.runs rs
         (subst (λ (Q : Program). AreRunsOf (Some files) Q names d.runs) programs_are there) are) in
         subst (λ (inputs : List Input). WritesRepair P inputs a) inputs_are

@@ -14,7 +14,7 @@ use Rattle.hip_words.specs.declared.order.Order.{Order}
 use Rattle.hip_words.specs.declared.order.Order.TheVariants.{Run, Record, Check, Repair, Rerun, Demo, Many, Crash, Thin}
 
 one_misuse : AreOne IsMisused
-one_misuse files old new other other_new a b told told' h k =
+one_misuse files old new other other_new a b stated stated' h k =
     let same = h.is ∙ sym k.is in
     inr (inr (record { status = ap (λ x. pathless x.status) same; out = ap (λ x. x.out) same; notes = ap (λ x. x.notes) same }))
 

@@ -10,36 +10,36 @@ use Rattle.hip_tool.proofs.WhatIsAnswered.{gives}
 use Rattle.hip_tool.specs.Headline.{Headline, OrdersAreAnswered}
 
 pub the_headline : Headline
-the_headline files p t P I old new s status told given trace call =
+the_headline files p t P I old new s status stated given trace call =
     gives old new s call.nothing _ _ _ status
-    (λ a h. repairs_run P I a (on_run files p P given old new s told call.nothing t I trace HasRepaired a h)) call.answered
+    (λ a h. repairs_run P I a (on_run files p P given old new s stated call.nothing t I trace HasRepaired a h)) call.answered
 
 pub all_orders : ManyAreOne → ManyAreAnswered → OrdersAreAnswered
 all_orders one answered = record {
-  programs = λ files p P old new s status told given. record {
+  programs = λ files p P old new s status stated given. record {
     run = λ limit numbers call.
         gives old new s call.nothing _ _ _ status
-        (λ a h. runs files p P given old new s told call.nothing limit numbers a h) call.answered;
+        (λ a h. runs files p P given old new s stated call.nothing limit numbers a h) call.answered;
     recorded = λ base limit numbers call.
         gives old new s call.nothing _ _ _ status
-        (λ a h. records files p P given old new s told call.nothing base limit numbers a h) call.answered;
+        (λ a h. records files p P given old new s stated call.nothing base limit numbers a h) call.answered;
     many = λ names rs are call.
         gives old new s call.nothing _ _ _ status
-        (λ a h. on_runs files p P given old new s told call.nothing one answered names rs are a h) call.answered;
+        (λ a h. on_runs files p P given old new s stated call.nothing one answered names rs are a h) call.answered;
   };
-  traces = λ files p t P I old new s status told given trace. record {
+  traces = λ files p t P I old new s status stated given trace. record {
     check = λ call.
         gives old new s call.nothing _ _ _ status
-        (λ a h. on_run files p P given old new s told call.nothing t I trace HasChecked a h) call.answered;
+        (λ a h. on_run files p P given old new s stated call.nothing t I trace HasChecked a h) call.answered;
     rerun = λ call.
         gives old new s call.nothing _ _ _ status
-        (λ a h. on_run files p P given old new s told call.nothing t I trace HasRerun a h) call.answered;
+        (λ a h. on_run files p P given old new s stated call.nothing t I trace HasRerun a h) call.answered;
     thin = λ call.
         gives old new s call.nothing _ _ _ status
-        (λ a h. thins_run P I a (on_run files p P given old new s told call.nothing t I trace HasThinned a h)) call.answered;
+        (λ a h. thins_run P I a (on_run files p P given old new s stated call.nothing t I trace HasThinned a h)) call.answered;
     crash = λ entry picks call.
         gives old new s call.nothing _ _ _ status
-        (λ a h. on_run files p P given old new s told call.nothing t I trace (CrashTexts entry picks) a h) call.answered;
+        (λ a h. on_run files p P given old new s stated call.nothing t I trace (CrashTexts entry picks) a h) call.answered;
   };
   demo = λ seed size old new s status call. gives old new s call.nothing _ _ _ status (λ a h. h) call.answered;
 }

@@ -32,7 +32,7 @@ pub fn written_entries_are_read_back()
 {}
 
 /// The first piece of a file, or of a front of one, is what comes before its first separator.
-pub fn pieces_are_told_one_by_one()
+pub fn pieces_are_stated_one_by_one()
     ensures { (whole : Bool) → (piece : List ℕ) → (separator : ℕ) → (rest : List ℕ) →
         list_any is_separator piece ≡ false → is_separator separator ≡ true →
         spelled whole (piece ++ separator ∷ rest) ≡ entry_of piece ∷ spelled whole rest }

@@ -17,7 +17,7 @@ mod write;
 pub use entry::{Entry, TrapWord};
 pub use laws::{
     canonical_texts_are_shortest, canonical_texts_spell, entries_that_fit_are_spelled,
-    pieces_are_told_one_by_one, readers_end, written_entries_are_read_back,
+    pieces_are_stated_one_by_one, readers_end, written_entries_are_read_back,
 };
 pub use reader::Reader;
 pub use refusal::TraceRefusal;

@@ -40,7 +40,7 @@ module _ {old mid new : CabinetState} {name : List ℕ} (P : Program) (r : Reade
     met = met_nothing h.reading;
     traced =
         of_file mid name (λ bytes. IsTraceOf P bytes replayed.input) (λ fs. IsTraceFile fs name P replayed.input) old.files
-        f.told h.told (λ fs bytes found trace. record { bytes = bytes; found = found; trace = trace });
+        f.stated h.stated (λ fs bytes found trace. record { bytes = bytes; found = found; trace = trace });
     left = h.left;
     valid = h.valid;
     found = h.found;
@@ -63,8 +63,8 @@ module _ {old mid new : CabinetState} {name : List ℕ} (P : Program) (r : Reade
       current = h.stays.current;
       named = subst (λ (n : Option (List ℕ)). IfSome n (λ m. m ≡ name)) (sym h.stays.named) f.named;
       taken =
-          of_file mid name (λ bytes. ShowsNone P bytes new.rest) (λ fs. ShowsNoMisfit fs name P new.rest) old.files f.told
-          h.told (λ fs bytes found shows. record {
+          of_file mid name (λ bytes. ShowsNone P bytes new.rest) (λ fs. ShowsNoMisfit fs name P new.rest) old.files f.stated
+          h.stated (λ fs bytes found shows. record {
             taken = shows.front;
             left = shows.taken.left;
             found = found ∙ ap (λ (x : List ℕ). Some x) shows.taken.bytes_are;

@@ -65,23 +65,23 @@ pub data View (Texts : Program → Input → Findings → Answer → Type 0) (fi
 module _ (Texts : Program → Input → Findings → Answer → Type 0) (files : List NamedFile) (p t : List ℕ) where
   view : (old new : CabinetState) (a : Answer) → old.files ≡ Some files → TraceAnswers Texts old new p t a
       → View Texts files p t a
-  view old new a told (inl u) = IsUnloaded
-      (record { why = u.why; cause = subst (λ fs. HasNoProgram fs p u.why) told u.cause; is = u.is })
-  view old new a told (inr (inl u)) = Faulted (ap (λ (x : Answer). x.status) u.is)
-  view old new a told (inr (inr (inl (inl u)))) = IsUntraced (record {
+  view old new a stated (inl u) = IsUnloaded
+      (record { why = u.why; cause = subst (λ fs. HasNoProgram fs p u.why) stated u.cause; is = u.is })
+  view old new a stated (inr (inl u)) = Faulted (ap (λ (x : Answer). x.status) u.is)
+  view old new a stated (inr (inr (inl (inl u)))) = IsUntraced (record {
     program = u.program;
-    loaded = subst (λ fs. IsProgramOf fs p u.program) told u.loaded;
+    loaded = subst (λ fs. IsProgramOf fs p u.program) stated u.loaded;
     why = u.why;
-    cause = subst (λ fs. HasNoTrace fs t u.program u.why) told u.cause;
+    cause = subst (λ fs. HasNoTrace fs t u.program u.why) stated u.cause;
     is = u.is;
   })
-  view old new a told (inr (inr (inl (inr u)))) = Faulted (ap (λ (x : Answer). x.status) u.is)
-  view old new a told (inr (inr (inr d))) = IsCarried (record {
+  view old new a stated (inr (inr (inl (inr u)))) = Faulted (ap (λ (x : Answer). x.status) u.is)
+  view old new a stated (inr (inr (inr d))) = IsCarried (record {
     program = d.program;
-    loaded = subst (λ fs. IsProgramOf fs p d.program) told d.loaded;
+    loaded = subst (λ fs. IsProgramOf fs p d.program) stated d.loaded;
     input = d.input;
     traced = subst (λ (fs : Option (List NamedFile)). IfSome fs
-        (λ told_files. IsTraceFile told_files t d.program d.input)) told d.traced;
+        (λ stated_files. IsTraceFile stated_files t d.program d.input)) stated d.traced;
     found = d.found;
     found_is = d.found_is;
     texts = d.texts;
@@ -143,9 +143,9 @@ pub gives_one : (Texts : Program → Input → Findings → Answer → Type 0)
     → ((P : Program) (I : Input) (found : Findings) (a b : Answer) → Texts P I found a → Texts P I found b
     → a ≡ b)
     → GivesOne Texts
-gives_one Texts alike p t files old new other other_new a b told told' x y =
-    two Texts files p t alike a b (view Texts files p t old new a told x)
-    (view Texts files p t other other_new b told' y)
+gives_one Texts alike p t files old new other other_new a b stated stated' x y =
+    two Texts files p t alike a b (view Texts files p t old new a stated x)
+    (view Texts files p t other other_new b stated' y)
 
 -- ---- read faults
 
@@ -161,7 +161,7 @@ no_trace_fault (traces.Misfit e k) q = cc
 not_current : (new : CabinetState) → new.is_current ≡ true → new.is_current ≡ false → ⊥
 not_current new current e = let k : true ≡ false = sym current ∙ e in cc
 
-module _ {files : List NamedFile} (old new : CabinetState) {p : List ℕ} {P : Program} (told : old.files ≡ Some files)
+module _ {files : List NamedFile} (old new : CabinetState) {p : List ℕ} {P : Program} (stated : old.files ≡ Some files)
     (loaded : IsProgramOf (Some files) p P) (current : new.is_current ≡ true) where
   -- a refusal of the program is no read fault
   pub loads_no_fault : (a : Answer) → a.status ≡ statuses.ReadFault → absent.IsUnloaded old new p a → ⊥
@@ -180,23 +180,23 @@ module _ {files : List NamedFile} (old new : CabinetState) {p : List ℕ} {P : P
       → ShowsNoMisfit files t P new.rest
   shows_none t Q there (inl e) = absurd (not_current new current e)
   shows_none t Q there (inr h) =
-      let same = (loads_one files p).programs Q P (subst (λ fs. IsProgramOf fs p Q) told there) loaded in
+      let same = (loads_one files p).programs Q P (subst (λ fs. IsProgramOf fs p Q) stated there) loaded in
       subst (λ (R : Program). ShowsNoMisfit files t R new.rest) same
-      (subst (λ (fs : Option (List NamedFile)). IfSome fs (λ known. ShowsNoMisfit known t Q new.rest)) told h.taken)
+      (subst (λ (fs : Option (List NamedFile)). IfSome fs (λ known. ShowsNoMisfit known t Q new.rest)) stated h.taken)
 
 pub hides_none : (Texts : Program → Input → Findings → Answer → Type 0)
     → ((P : Program) (I : Input) (found : Findings) (a : Answer) → Texts P I found a
     → a.status ≡ statuses.ReadFault → ⊥)
     → FaultsHideNone Texts
-hides_none Texts done files old new p t P a told loaded current named apart status (inl u) =
-    absurd (loads_no_fault old new told loaded current a status u)
-hides_none Texts done files old new p t P a told loaded current named apart status (inr (inl u)) =
-    absurd (reads_program old new told loaded current a named apart u)
-hides_none Texts done files old new p t P a told loaded current named apart status (inr (inr (inl (inl u)))) =
+hides_none Texts done files old new p t P a stated loaded current named apart status (inl u) =
+    absurd (loads_no_fault old new stated loaded current a status u)
+hides_none Texts done files old new p t P a stated loaded current named apart status (inr (inl u)) =
+    absurd (reads_program old new stated loaded current a named apart u)
+hides_none Texts done files old new p t P a stated loaded current named apart status (inr (inr (inl (inl u)))) =
     absurd (no_trace_fault u.why (sym (ap (λ (x : Answer). x.status) u.is) ∙ status))
-hides_none Texts done files old new p t P a told loaded current named apart status (inr (inr (inl (inr u)))) =
-    shows_none old new told loaded current t u.program u.loaded u.unread
-hides_none Texts done files old new p t P a told loaded current named apart status (inr (inr (inr d))) =
+hides_none Texts done files old new p t P a stated loaded current named apart status (inr (inr (inl (inr u)))) =
+    shows_none old new stated loaded current t u.program u.loaded u.unread
+hides_none Texts done files old new p t P a stated loaded current named apart status (inr (inr (inr d))) =
     absurd (done d.program d.input d.found a d.texts status)
 
 pub hide_none : (Texts : Program → Input → Findings → Answer → Type 0)

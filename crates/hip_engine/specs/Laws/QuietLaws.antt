@@ -1,7 +1,7 @@
 -- What a run prints in steps without an event and in the step with the next event, and how it ends.
 use Rattle.std.proofs.Common.{◌≡◌, ℕ, zero, suc, ◌+◌, ◌<◌, cond, ◌++◌, Option, Some, None, is_some, append-nil, refl, sym, ap, ap₂, ◌∙◌, arith}
 use Rattle.hip_tree.specs.declared.program.Program.{Program}
-use Rattle.hip_runs.specs.Laws.OutputLaws.{IsTold, run_told, step_told}
+use Rattle.hip_runs.specs.Laws.OutputLaws.{IsStated, run_stated, step_stated}
 use Rattle.hip_runs.specs.Outputs.{ending_by, printed_by}
 use Rattle.hip_runs.specs.Seen.{Seen, after_step, state_of}
 use Rattle.hip_runs.specs.State.{State}
@@ -15,13 +15,13 @@ use Rattle.hip_engine.specs.Quiet.{ComesTo, GoesQuietly, next_event}
 module _ (P : Program) (I : Input) where
   -- after a step without an event the run goes on
   pub quiet_goes_on : (n : ℕ) → event P I (run P I n) ≡ events.Quiet → (run P I (suc n)).world.ending ≡ None
-  quiet_goes_on n q = (run_told P I n).ending ∙ ap ending_by q
+  quiet_goes_on n q = (run_stated P I n).ending ∙ ap ending_by q
 
   -- and has printed what it had printed before the step
   quiet_prints : (n : ℕ) → event P I (run P I n) ≡ events.Quiet
       → (run P I (suc n)).world.output ≡ (run P I n).world.output
   quiet_prints n q =
-      (run_told P I n).output ∙ ap (λ e. (run P I n).world.output ++ printed_by e) q
+      (run_stated P I n).output ∙ ap (λ e. (run P I n).world.output ++ printed_by e) q
       ∙ append-nil (run P I n).world.output
 
   same_output : (start k : ℕ) → ((n : ℕ) → n < k → event P I (run P I (start + n)) ≡ events.Quiet)
@@ -50,16 +50,16 @@ after_step_is m = go (state_of m).world.ending refl
     go None q = ap (on_ending m.program m.input (state_of m)) q
 
 -- up to its next event a run prints what the event says, and ends as the event says
-pub comes_told : (old new : Seen) (e : Event) → ComesTo old new e → IsTold (state_of old).world (state_of new).world e
-comes_told old new e c =
+pub comes_stated : (old new : Seen) (e : Event) → ComesTo old new e → IsStated (state_of old).world (state_of new).world e
+comes_stated old new e c =
     let at = c.before in
-    let told = step_told at.program at.input (state_of at) in
+    let stated = step_stated at.program at.input (state_of at) in
     let there : state_of new ≡ step at.program at.input (state_of at) = ap state_of c.step ∙ after_step_is at in
     record {
       output =
-          ap (λ (s : State). s.world.output) there ∙ told.output
+          ap (λ (s : State). s.world.output) there ∙ stated.output
           ∙ ap₂ (λ text seen. text ++ printed_by seen) (quiet_output old at c.quiet) (sym c.is);
-      ending = ap (λ (s : State). s.world.ending) there ∙ told.ending ∙ ap ending_by (sym c.is);
+      ending = ap (λ (s : State). s.world.ending) there ∙ stated.ending ∙ ap ending_by (sym c.is);
     }
 
 -- the event of a run that has ended is its end

@@ -1,7 +1,7 @@
 -- Silent steps print nothing and do not end the run.
 use Rattle.std.proofs.Common.{◌≡◌, ℕ, zero, suc, ◌+◌, ◌<◌, true, [], ◌++◌, None, append-nil, refl, ap, ◌∙◌, arith}
 use Rattle.hip_tree.specs.declared.program.Program.{Program}
-use Rattle.hip_runs.specs.Laws.OutputLaws.{run_told}
+use Rattle.hip_runs.specs.Laws.OutputLaws.{run_stated}
 use Rattle.hip_runs.specs.Outputs.{ending_by, printed_by}
 use Rattle.hip_runs.specs.Step.{event, run}
 use Rattle.hip_runs.specs.declared.event.Event.{Event}
@@ -34,13 +34,13 @@ ends_nothing (events.End e) s = absurd (let z : ⊥ = cc in z)
 module _ (P : Program) (I : Input) where
   -- after a silent step the run goes on
   pub silent_goes_on : (n : ℕ) → is_silent (event P I (run P I n)) ≡ true → (run P I (suc n)).world.ending ≡ None
-  silent_goes_on n s = (run_told P I n).ending ∙ ends_nothing (event P I (run P I n)) s
+  silent_goes_on n s = (run_stated P I n).ending ∙ ends_nothing (event P I (run P I n)) s
 
   -- and has printed what it had printed before the step
   silent_prints : (n : ℕ) → is_silent (event P I (run P I n)) ≡ true
       → (run P I (suc n)).world.output ≡ (run P I n).world.output
   silent_prints n s =
-      (run_told P I n).output ∙ ap (λ text. (run P I n).world.output ++ text) (prints_nothing (event P I (run P I n)) s)
+      (run_stated P I n).output ∙ ap (λ text. (run P I n).world.output ++ text) (prints_nothing (event P I (run P I n)) s)
       ∙ append-nil (run P I n).world.output
 
   -- silent steps print nothing

@@ -11,7 +11,7 @@ use Rattle.hip_tokens.specs.Longest.{is_name}
 use Rattle.hip_tokens.specs.Written.{ends_word}
 use Rattle.hip_rules.specs.Rule.{Rule, both}
 use Rattle.hip_rules.specs.Part.{one_more_by}
-use Rattle.hip_rules.specs.Laws.Texts.{IsTextOf, anything, then_text, last_text, nothing_text, anywhere_text, word_text, word_then, local_text, label_then, mark_text, mark_then, blank_text, blank_behind, left_text, right_text, many_texts}
+use Rattle.hip_rules.specs.Laws.Texts.{IsTextOf, anything, then_text, last_text, nothing_text, anywhere_text, word_text, word_then, local_text, label_then, mark_text, mark_then, blank_text, blank_past, left_text, right_text, many_texts}
 use Rattle.hip_tree.specs.declared.block.Block.{Block}
 use Rattle.hip_tree.specs.declared.block.Case.{Case}
 use Rattle.hip_tree.specs.declared.block.Edge.{Edge}
@@ -93,11 +93,11 @@ branch_is cond yes_label no_label e f g =
 own_case : (c : Case) → is_name c.label ≡ true → IsTextOf anything (case c.value.width).rule (case_text c) c
 unfolding case
 own_case c e =
-    let behind : List ℕ = codes ", label %" ++ (c.label ++ codes " ") in
-    rw (append_assoc (width_text c.value.width) (codes " " ++ literal_text c.value) behind)
+    let past : List ℕ = codes ", label %" ++ (c.label ++ codes " ") in
+    rw (append_assoc (width_text c.value.width) (codes " " ++ literal_text c.value) past)
     (then_text _ (width_is c.value.width) (blank_text 32 refl
     (then_text _ (literal_is c.value.width c.value (own_width c.value.width))
-    (last_text _ (blank_behind 32 refl (λ rest h. refl) (next_target_is c.label e)) (nothing_text anything))
+    (last_text _ (blank_past 32 refl (λ rest h. refl) (next_target_is c.label e)) (nothing_text anything))
     (λ rest h. refl))) (λ rest h. refl))
 
 case_is : (w : Width) (c : Case) → spelled_case w c ≡ true → IsTextOf anything (case w).rule (case_text c) c
@@ -158,7 +158,7 @@ end_is ends.Unreachable h =
 -- on a line of its own
 line_is : {A : Type 0} {l : Rule Fault A} {s : List ℕ} {x : A} → IsTextOf ends_word l s x
     → IsTextOf anything l (line_of s) x
-line_is p = blank_text 32 refl (blank_text 32 refl (blank_behind 10 refl (λ rest h. refl) p))
+line_is p = blank_text 32 refl (blank_text 32 refl (blank_past 10 refl (λ rest h. refl) p))
 
 block_by : (label : List ℕ) (phis : List Phi) (body : List Instr) (last : End) → is_name label ≡ true
     → list_all spelled_phi phis ≡ true → list_all spelled_instr body ≡ true → spelled_end last ≡ true

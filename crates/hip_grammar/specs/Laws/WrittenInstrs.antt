@@ -18,7 +18,7 @@ use Rattle.hip_tokens.specs.Tokens.{Word}
 use Rattle.hip_tokens.specs.Written.{ends_word}
 use Rattle.hip_rules.specs.Rule.{Yes, one, many}
 use Rattle.hip_rules.specs.Part.{one_more_by, separated}
-use Rattle.hip_rules.specs.Laws.Texts.{IsTextOf, Leaves, anything, then_text, last_text, nothing_text, anywhere_text, word_text, word_then, local_text, global_text, mark_text, mark_then, blank_text, blank_behind, left_text, right_text, none_text, some_text, no_more_text, more_text}
+use Rattle.hip_rules.specs.Laws.Texts.{IsTextOf, Leaves, anything, then_text, last_text, nothing_text, anywhere_text, word_text, word_then, local_text, global_text, mark_text, mark_then, blank_text, blank_past, left_text, right_text, none_text, some_text, no_more_text, more_text}
 use Rattle.hip_tree.specs.declared.instr.Arg.{Arg}
 use Rattle.hip_tree.specs.declared.instr.Flag.{Flag}
 use Rattle.hip_tree.specs.declared.instr.Flag.TheVariants.{Nuw, Nsw, Exact}
@@ -84,7 +84,7 @@ pub assigned_is : (dest : List ℕ) → is_name dest ≡ true
 unfolding assigned
 assigned_is dest e =
     then_text _ (local_text _ dest e refl) (blank_text 32 refl
-    (last_text _ (blank_behind 32 refl (λ rest h. refl) (mark_text _ 61 refl refl)) (nothing_text anything)))
+    (last_text _ (blank_past 32 refl (λ rest h. refl) (mark_text _ 61 refl refl)) (nothing_text anything)))
     (λ rest h. refl)
 
 -- ---- flags
@@ -118,7 +118,7 @@ or_false false e = absurd cc
 one_flag : (op : BinaryOp) (flag : Flag) → is_name (flag_text flag) ≡ true
     → a_word_of (flag_word op) (Word (flag_text flag)) ≡ Yes flag
     → IsTextOf anything (one (a_word_of (flag_word op))) (flag_text flag ++ codes " ") flag
-one_flag op flag n e = blank_behind 32 refl (λ rest h. refl) (word_text _ (flag_text flag) n e)
+one_flag op flag n e = blank_past 32 refl (λ rest h. refl) (word_text _ (flag_text flag) n e)
 
 nuw_is : (op : BinaryOp) → may_wrap op ≡ true
     → IsTextOf anything (one (a_word_of (flag_word op))) (flag_if Nuw true) Nuw
@@ -374,11 +374,11 @@ call_is dest ret callee args e f =
 
 -- ---- all instructions
 
-behind_register : (dest text : List ℕ) (i : Instr) → is_name dest ≡ true
+past_register : (dest text : List ℕ) (i : Instr) → is_name dest ≡ true
     → IsTextOf ends_word (value_instr dest).rule text i
     → IsTextOf ends_word instr.rule (assigned_text dest ++ text) i
 unfolding instr assigning_instr
-behind_register dest text i n p = left_text _ (then_text _ (assigned_is dest n) p (λ rest h. refl))
+past_register dest text i n p = left_text _ (then_text _ (assigned_is dest n) p (λ rest h. refl))
 
 as_cast : (dest text : List ℕ) (i : Instr) → IsTextOf ends_word (cast_instr dest).rule text i
     → IsTextOf ends_word (value_instr dest).rule text i
@@ -399,30 +399,30 @@ instr_is (instrs.Binary dest op set w a b) e =
     let q =
     and_parts (spelled_flags op set) (spelled_operand (scalars.Int w) a && spelled_operand (scalars.Int w) b) p.1 in
     let r = and_parts (spelled_operand (scalars.Int w) a) (spelled_operand (scalars.Int w) b) q.1 in
-    behind_register dest _ _ p.0 (left_text _ (binary_instr_is dest op set w a b q.0 r.0 r.1))
+    past_register dest _ _ p.0 (left_text _ (binary_instr_is dest op set w a b q.0 r.0 r.1))
 instr_is (instrs.Compare dest pred s a b) e =
     let p = and_parts (is_name dest) (spelled_operand s a && spelled_operand s b) e in
     let q = and_parts (spelled_operand s a) (spelled_operand s b) p.1 in
-    behind_register dest _ _ p.0 (right_text _ (left_text _ (compare_is dest pred s a b q.0 q.1)))
+    past_register dest _ _ p.0 (right_text _ (left_text _ (compare_is dest pred s a b q.0 q.1)))
 instr_is (instrs.Select dest cond s a b) e =
     let p =
     and_parts (is_name dest) (spelled_operand (scalars.Int W1) cond
     && (spelled_operand s a && spelled_operand s b)) e in
     let q = and_parts (spelled_operand (scalars.Int W1) cond) (spelled_operand s a && spelled_operand s b) p.1 in
     let r = and_parts (spelled_operand s a) (spelled_operand s b) q.1 in
-    behind_register dest _ _ p.0 (right_text _ (right_text _ (left_text _ (select_is dest cond s a b q.0 r.0 r.1))))
+    past_register dest _ _ p.0 (right_text _ (right_text _ (left_text _ (select_is dest cond s a b q.0 r.0 r.1))))
 instr_is (instrs.Cast dest op from a to) e =
     let p = and_parts (is_name dest) (spelled_cast op from to && spelled_operand from a) e in
     let q = and_parts (spelled_cast op from to) (spelled_operand from a) p.1 in
-    behind_register dest _ _ p.0 (as_cast dest _ _ (cast_is dest op from a to q.0 q.1))
+    past_register dest _ _ p.0 (as_cast dest _ _ (cast_is dest op from a to q.0 q.1))
 instr_is (instrs.Alloca dest ty n) e =
     let p = and_parts (is_name dest) (spelled_type ty && spelled_align n) e in
     let q = and_parts (spelled_type ty) (spelled_align n) p.1 in
-    behind_register dest _ _ p.0 (as_memory dest _ _ (left_text _ (alloca_is dest ty n q.0 q.1)))
+    past_register dest _ _ p.0 (as_memory dest _ _ (left_text _ (alloca_is dest ty n q.0 q.1)))
 instr_is (instrs.Load dest s addr n) e =
     let p = and_parts (is_name dest) (spelled_operand scalars.Ptr addr && spelled_align n) e in
     let q = and_parts (spelled_operand scalars.Ptr addr) (spelled_align n) p.1 in
-    behind_register dest _ _ p.0 (as_memory dest _ _ (right_text _ (left_text _ (load_is dest s addr n q.0 q.1))))
+    past_register dest _ _ p.0 (as_memory dest _ _ (right_text _ (left_text _ (load_is dest s addr n q.0 q.1))))
 instr_is (instrs.Store s value addr n) e =
     let p = and_parts (spelled_operand s value) (spelled_operand scalars.Ptr addr && spelled_align n) e in
     let q = and_parts (spelled_operand scalars.Ptr addr) (spelled_align n) p.1 in
@@ -436,7 +436,7 @@ instr_is (instrs.Gep dest inbounds ty base indices) e =
     && (not_empty indices && list_all spelled_index indices)) p.1 in
     let r = and_parts (spelled_operand scalars.Ptr base) (not_empty indices && list_all spelled_index indices) q.1 in
     let s = and_parts (not_empty indices) (list_all spelled_index indices) r.1 in
-    behind_register dest _ _ p.0 (as_memory dest _ _
+    past_register dest _ _ p.0 (as_memory dest _ _
     (right_text _ (right_text _ (left_text _ (gep_is dest inbounds ty base indices q.0 r.0 s.0 s.1)))))
 instr_is (instrs.Call None ret callee args) e =
     let p = and_parts (is_name callee) (list_all spelled_arg args) e in
@@ -444,6 +444,6 @@ instr_is (instrs.Call None ret callee args) e =
 instr_is (instrs.Call (Some dest) ret callee args) e =
     let p = and_parts (is_name dest) (is_name callee && list_all spelled_arg args) e in
     let q = and_parts (is_name callee) (list_all spelled_arg args) p.1 in
-    behind_register dest _ _ p.0 (as_memory dest _ _
+    past_register dest _ _ p.0 (as_memory dest _ _
     (right_text _ (right_text _ (right_text _
     (anywhere_text ends_word (call_is (Some dest) ret callee args q.0 q.1))))))

@@ -18,20 +18,20 @@ after_comma l p = mark_then _ _ 44 refl refl (blank_text 32 refl p)
 
 module _ {A : Type 0} (l : Part Fault A) (text : A → List ℕ) (test : A → Bool)
     (each : (x : A) → test x ≡ true → IsTextOf ends_word l.rule (text x) x) where
-  abbrev behind_comma : A → List ℕ
-  behind_comma x = codes ", " ++ text x
+  abbrev past_comma : A → List ℕ
+  past_comma x = codes ", " ++ text x
 
-  one_more_is : (x : A) → test x ≡ true → IsTextOf ends_word (one_more_by comma l).rule (behind_comma x) x
+  one_more_is : (x : A) → test x ≡ true → IsTextOf ends_word (one_more_by comma l).rule (past_comma x) x
   one_more_is x e = after_comma l (each x e)
 
-  after_commas_are : (xs : List A) → flat_map behind_comma xs ≡ after_commas (map text xs)
+  after_commas_are : (xs : List A) → flat_map past_comma xs ≡ after_commas (map text xs)
   after_commas_are [] = refl
   after_commas_are (x ∷ xs) = ap (λ (t : List ℕ). codes ", " ++ (text x ++ t)) (after_commas_are xs)
 
   others_are : (xs : List A) → list_all test xs ≡ true
       → IsTextOf ends_word (many (one_more_by comma l).rule) (after_commas (map text xs)) xs
   others_are xs e =
-      rw (← after_commas_are xs) (many_texts (one_more_by comma l).rule behind_comma ends_word test one_more_is
+      rw (← after_commas_are xs) (many_texts (one_more_by comma l).rule past_comma ends_word test one_more_is
       (λ x rest. refl) xs e)
 
   commas_leave : (xs : List A) → Leaves ends_word (after_commas (map text xs)) ends_word

@@ -68,14 +68,14 @@ record IsPlain (n : ℕ) (ds : List ℕ) : Type 0 where
   digits : are_digits ds ≡ true
   value : magnitude ds ≡ n
   unsigned : is_negative ds ≡ false
-  behind_minus : magnitude (45 ∷ ds) ≡ n
+  past_minus : magnitude (45 ∷ ds) ≡ n
 
 plain : (n : ℕ) (ds : List ℕ) → IsNumber n ds → IsPlain n ds
 plain n [] p = absurd (let s = p.some in omega arith)
 plain n (d ∷ ds) p =
     let minus = not_minus d ((and_parts (is_digit d) (list_all is_digit ds) p.all).0) in
     let value : digits_from 0 (d ∷ ds) ≡ n = p.value in
-    record { digits = p.all; value = rw (minus, value) refl; unsigned = minus; behind_minus = value }
+    record { digits = p.all; value = rw (minus, value) refl; unsigned = minus; past_minus = value }
 
 decimal_plain : (n : ℕ) → n < 2 ^ 64 → IsPlain n (decimal n)
 decimal_plain n h = plain n (decimal n) (decimal_is n h)
@@ -150,7 +150,7 @@ minus_again w n m ds lt le is p =
     let some : eqb m 0 ≡ false = grind (arith, nat_tests) in
     let small : leb m (2 ^ (bits_of w - 1)) ≡ true = grind (arith, nat_tests) in
     let back : 2 ^ bits_of w - m ≡ n = omega arith in
-    rw (p.behind_minus, some, small, back) refl
+    rw (p.past_minus, some, small, back) refl
 
 signed_literal : (w : Width) (n : ℕ) → n < 2 ^ bits_of w → IsLiteral w (signed_text (bits_of w) n) (bits w n)
 signed_literal w n lt = by_sign (nat_lt n (2 ^ (bits_of w - 1))) refl

@@ -9,7 +9,7 @@ use Rattle.hip_tokens.specs.Written.{ends_word}
 use Rattle.hip_rules.specs.Rule.{Rule, one, both, many}
 use Rattle.hip_rules.specs.Reader.{folded}
 use Rattle.hip_rules.specs.Part.{skipped}
-use Rattle.hip_rules.specs.Laws.Texts.{IsTextOf, Leaves, anything, then_text, last_text, nothing_text, token_text, word_then, local_text, global_text, mark_text, mark_then, blank_text, blank_behind, left_text, right_text, none_text, some_text, no_more_text, mapped_texts, many_texts, joined_texts}
+use Rattle.hip_rules.specs.Laws.Texts.{IsTextOf, Leaves, anything, then_text, last_text, nothing_text, token_text, word_then, local_text, global_text, mark_text, mark_then, blank_text, blank_past, left_text, right_text, none_text, some_text, no_more_text, mapped_texts, many_texts, joined_texts}
 use Rattle.hip_tree.specs.declared.block.Block.{Block}
 use Rattle.hip_grammar.specs.declared.fault.Fault.{Fault}
 use Rattle.hip_tree.specs.declared.program.Extern.{Extern}
@@ -63,7 +63,7 @@ place_line : (persistent : Bool) (n : Option ℕ) → spelled_align n ≡ true
 place_line persistent n e =
     subst (λ s. IsTextOf anything place.rule s (persistent, n))
     (append_assoc (section_text persistent) (align_text n) (codes "\n"))
-    (blank_behind 10 refl (λ rest h. refl) (place_is persistent n e))
+    (blank_past 10 refl (λ rest h. refl) (place_is persistent n e))
 
 place_leaves : (persistent : Bool) (n : Option ℕ)
     → Leaves ends_word (section_text persistent ++ (align_text n ++ codes "\n")) anything
@@ -144,7 +144,7 @@ function_is f h =
     (λ rest h. refl) f.params q.0)
     (then_text _ {s = []} (none_text _ anything)
     (blank_text 32 refl (mark_then _ _ 123 refl refl (blank_text 10 refl (then_text _ (blocks_are f.blocks r.0 r.1)
-    (last_text _ (blank_behind 10 refl (λ rest h. refl) (mark_text _ 125 refl refl)) (nothing_text anything))
+    (last_text _ (blank_past 10 refl (λ rest h. refl) (mark_text _ 125 refl refl)) (nothing_text anything))
     (λ rest h. refl))))) (λ rest h. refl)) (λ rest h. refl))) (λ rest h. refl))) (λ rest h. refl))
     (λ rest h. refl))
 

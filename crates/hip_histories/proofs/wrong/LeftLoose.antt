@@ -7,7 +7,7 @@ use Rattle.hip_runs.specs.Step.{start}
 use Rattle.hip_runs.specs.declared.report.Report.{Report}
 use Rattle.hip_repairs.specs.Clean.{IsClean}
 use Rattle.hip_repairs.specs.examples.Words.{zeroed}
-use Rattle.hip_repairs.proofs.worked.Runs.{Follows, address_value, done_opened, int_value, reports_are, told}
+use Rattle.hip_repairs.proofs.worked.Runs.{Follows, address_value, done_opened, int_value, reports_are, stated}
 use Rattle.hip_histories.specs.examples.WrongRepairs.{fence_before_flush, flush_before_store}
 
 abbrev stored : Deed
@@ -38,13 +38,13 @@ flush_follows = (
   (refl, simp (int_value, address_value, shape-Int) refl, (refl, refl, (refl, simp int_value refl, tt))),
 )
 
-flush_told : told (zeroed 1) (start flush_before_store (zeroed 1)) early_flush ≡ [] → ⊥
+flush_stated : stated (zeroed 1) (start flush_before_store (zeroed 1)) early_flush ≡ [] → ⊥
 unfolding done_opened
-flush_told e = not_empty _ _ e
+flush_stated e = not_empty _ _ e
 
 pub early_flush_refused : IsClean flush_before_store (zeroed 1) → ⊥
 early_flush_refused clean =
-    flush_told (sym (reports_are flush_before_store (zeroed 1) early_flush flush_follows) ∙ clean 4)
+    flush_stated (sym (reports_are flush_before_store (zeroed 1) early_flush flush_follows) ∙ clean 4)
 
 -- ---- the fence first
 
@@ -59,10 +59,10 @@ fence_follows = (
   (refl, refl, (refl, simp (address_value, shape-Int) refl, (refl, simp int_value refl, tt))),
 )
 
-fence_told : told (zeroed 1) (start fence_before_flush (zeroed 1)) early_fence ≡ [] → ⊥
+fence_stated : stated (zeroed 1) (start fence_before_flush (zeroed 1)) early_fence ≡ [] → ⊥
 unfolding done_opened
-fence_told e = not_empty _ _ e
+fence_stated e = not_empty _ _ e
 
 pub early_fence_refused : IsClean fence_before_flush (zeroed 1) → ⊥
 early_fence_refused clean =
-    fence_told (sym (reports_are fence_before_flush (zeroed 1) early_fence fence_follows) ∙ clean 4)
+    fence_stated (sym (reports_are fence_before_flush (zeroed 1) early_fence fence_follows) ∙ clean 4)

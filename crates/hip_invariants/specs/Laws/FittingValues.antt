@@ -43,7 +43,7 @@ use Rattle.hip_runs.specs.State.{Registers, World}
 use Rattle.hip_runs.specs.Step.{run}
 use Rattle.hip_runs.specs.Validity.{IsValid}
 use Rattle.hip_invariants.specs.Laws.InstrFacts.{CallFact, instr_fact, KeepsFact, fact_holds}
-use Rattle.hip_invariants.specs.Laws.Registers.Facts.{each_told, ValuesHold, each_value, assigned_fact, WaitsFor, fact_of_value}
+use Rattle.hip_invariants.specs.Laws.Registers.Facts.{each_stated, ValuesHold, each_value, assigned_fact, WaitsFor, fact_of_value}
 use Rattle.hip_invariants.specs.Laws.ConstantTypes.{constant_fits}
 use Rattle.hip_invariants.specs.Laws.Registers.Types.{assigned_type, phi_type, parameter_type}
 use Rattle.hip_invariants.specs.Types.{type_in, fits_type, FitsType, result_in, FitsResult, RegistersFit}
@@ -269,5 +269,5 @@ module _ (P : Program) (s : IsSound P) (I : Input) (valid : IsValid P I) where
 
   -- at each step
   pub registers_fit : (n : ℕ) → RegistersFit P (run P I n).frames
-  registers_fit n = each_told (FitsType P) (FitsResult P) (λ g name. record { is = none_fits _ }) (run P I n).frames
+  registers_fit n = each_stated (FitsType P) (FitsResult P) (λ g name. record { is = none_fits _ }) (run P I n).frames
       (fact_holds (FitsType P) (FitsResult P) P I types_kept n)

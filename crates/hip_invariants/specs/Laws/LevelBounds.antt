@@ -40,7 +40,7 @@ use Rattle.hip_runs.specs.Step.{run}
 use Rattle.hip_runs.specs.Laws.StepLaws.{IsTop}
 use Rattle.hip_runs.specs.Validity.{IsValid}
 use Rattle.hip_invariants.specs.Laws.InstrFacts.{instr_fact, fact_holds}
-use Rattle.hip_invariants.specs.Laws.Registers.Facts.{each_told, ValuesHold, each_value, assigned_fact, fact_of_value, values_in_frames}
+use Rattle.hip_invariants.specs.Laws.Registers.Facts.{each_stated, ValuesHold, each_value, assigned_fact, fact_of_value, values_in_frames}
 use Rattle.hip_invariants.specs.Laws.GlobalAddresses.{start_before_end}
 use Rattle.hip_invariants.specs.PointerLevels.{within_level, is_at_most, after_offset, number_level, global_level, level_step, gep_level_step, item_level_step, const_level, Levels, constant_index, known_index, both, known_path, gep_level, operand_level, goes_into, args_are_at_most, instr_is_closed, IsClosed, IsWithinLevel, RegistersAreWithin}
 
@@ -332,7 +332,7 @@ module _ (P : Program) (s : IsSound P) (I : Input) (L : Levels) (closed : IsClos
 
   -- the same, as `RegistersAreWithin` says it
   pub registers_within : (n : ℕ) → RegistersAreWithin L (run P I n).frames
-  registers_within n = each_told (IsWithinLevel L) (ResultIsWithin L) (λ g name. record { is = zero_within _ })
+  registers_within n = each_stated (IsWithinLevel L) (ResultIsWithin L) (λ g name. record { is = zero_within _ })
       (run P I n).frames (levels_hold n)
 
   -- a store through an operand of a level up to 32 lies below the region

@@ -169,8 +169,8 @@ module _ (P : Program) where
       abbrev InstrKeeps : Action → Type 0
       InstrKeeps x = StepKeeps ⊥ f x
 
-      reached_behind : AssignsOnly i None → top_is_reached P (next f)
-      reached_behind c = next_reached f.function f.block f.place f.registers f.registers None i r at (λ q h. inl h)
+      reached_past : AssignsOnly i None → top_is_reached P (next f)
+      reached_past c = next_reached f.function f.block f.place f.registers f.registers None i r at (λ q h. inl h)
           (λ q h. inr (c.only q h)) (λ q h. inl (has_now f.registers q h))
 
       reached_assigned : (dest : Option (List ℕ)) (v : ℕ) → AssignsOnly i dest
@@ -185,12 +185,12 @@ module _ (P : Program) where
       assigns_keeps dest v c = record { kept = reached_assigned dest v c; trap = λ e. let z : ⊥ = cc in z }
 
       still_keeps : AssignsOnly i None → (x : Action) → leaves_registers x → InstrKeeps x
-      still_keeps c (Stores a bytes) h = record { kept = reached_behind c; trap = λ e. let z : ⊥ = cc in z }
-      still_keeps c (Flushes a n) h = record { kept = reached_behind c; trap = λ e. let z : ⊥ = cc in z }
-      still_keeps c (Persists a n) h = record { kept = reached_behind c; trap = λ e. let z : ⊥ = cc in z }
-      still_keeps c Fences h = record { kept = reached_behind c; trap = λ e. let z : ⊥ = cc in z }
-      still_keeps c (Asserts a n) h = record { kept = reached_behind c; trap = λ e. let z : ⊥ = cc in z }
-      still_keeps c (Prints z) h = record { kept = reached_behind c; trap = λ e. let z : ⊥ = cc in z }
+      still_keeps c (Stores a bytes) h = record { kept = reached_past c; trap = λ e. let z : ⊥ = cc in z }
+      still_keeps c (Flushes a n) h = record { kept = reached_past c; trap = λ e. let z : ⊥ = cc in z }
+      still_keeps c (Persists a n) h = record { kept = reached_past c; trap = λ e. let z : ⊥ = cc in z }
+      still_keeps c Fences h = record { kept = reached_past c; trap = λ e. let z : ⊥ = cc in z }
+      still_keeps c (Asserts a n) h = record { kept = reached_past c; trap = λ e. let z : ⊥ = cc in z }
+      still_keeps c (Prints z) h = record { kept = reached_past c; trap = λ e. let z : ⊥ = cc in z }
       still_keeps c (Traps kind) h = absurd h
       still_keeps c (Assigns dest v) h = absurd h
       still_keeps c (Allocates dest a n) h = absurd h
@@ -269,7 +269,8 @@ module _ (P : Program) where
       case_keeps : (below : ℕ) (i : Instr) → slice_get r.block.body f.place ≡ Some i
           → instr_cases P I w below f.registers (StepKeeps ⊥ f) i
       case_keeps below (Binary dest op flags width x y) e =
-          λ v q. assigns_keeps I w f r (Binary dest op flags width x y) e (Some dest) _ (own (Binary dest op flags width x y) dest refl)
+          λ v q. assigns_keeps I w f r (Binary dest op flags width x y) e (Some dest) _
+              (own (Binary dest op flags width x y) dest refl)
       case_keeps below (Compare dest pred ty x y) e =
           assigns_keeps I w f r (Compare dest pred ty x y) e (Some dest) _ (own (Compare dest pred ty x y) dest refl)
       case_keeps below (Select dest test ty x y) e =
@@ -282,11 +283,13 @@ module _ (P : Program) where
             trap = λ e. let z : ⊥ = cc in z;
           }
       case_keeps below (Load dest ty addr align) e =
-          assigns_keeps I w f r (Load dest ty addr align) e (Some dest) _ (own (Load dest ty addr align) dest refl)
+          assigns_keeps I w f r (Load dest ty addr align) e (Some dest) _
+              (own (Load dest ty addr align) dest refl)
       case_keeps below (Store ty value addr align) e =
           still_keeps I w f r (Store ty value addr align) e (assigns_none (Store ty value addr align) refl) _ tt
       case_keeps below (Gep dest inbounds ty base indices) e =
-          assigns_keeps I w f r (Gep dest inbounds ty base indices) e (Some dest) _ (own (Gep dest inbounds ty base indices) dest refl)
+          assigns_keeps I w f r (Gep dest inbounds ty base indices) e (Some dest) _
+              (own (Gep dest inbounds ty base indices) dest refl)
       case_keeps below (Call None ret callee args) e =
           call_keeps I w f r (Call None ret callee args) e below None ret callee args
           (assigns_none (Call None ret callee args) refl) (λ t. assigns_none (Call None ret callee args) refl)

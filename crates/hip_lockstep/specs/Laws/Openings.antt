@@ -8,12 +8,12 @@ use Rattle.hip_io.specs.Counts.{Rose}
 use Rattle.hip_tree.specs.declared.program.Program.{Program}
 use Rattle.hip_types.specs.Bytes.{zeros}
 use Rattle.hip_mem.specs.Laws.BytesLaws.{length-zeros}
-use Rattle.hip_run_traces.specs.Headers.{Stops, Gives, behind_register, behind_start, filled, go_on, header, header_from, is_empty, is_next_line, valid_base, valid_limit, with_entry, with_line, with_number}
+use Rattle.hip_run_traces.specs.Headers.{Stops, Gives, past_register, past_start, filled, go_on, header, header_from, is_empty, is_next_line, valid_base, valid_limit, with_entry, with_line, with_number}
 use Rattle.hip_run_traces.specs.Laws.GivenLaws.{FitAll, header-given}
 use Rattle.hip_run_traces.specs.Laws.MisfitLaws.{front-stops}
 use Rattle.hip_run_traces.specs.Laws.TraceLaws.{length-header_of}
-use Rattle.hip_run_traces.specs.Misfits.{MisfitBehind, IsMisfit, StopsAt}
-use Rattle.hip_run_traces.specs.Traces.{header_of, trace, told}
+use Rattle.hip_run_traces.specs.Misfits.{MisfitPast, IsMisfit, StopsAt}
+use Rattle.hip_run_traces.specs.Traces.{header_of, trace, stated}
 use Rattle.hip_run_traces.specs.declared.misfit.MisfitKind.{MisfitKind}
 use Rattle.hip_run_traces.specs.declared.misfit.MisfitKind.TheVariants.{Malformed, Differs, Early, Extra}
 use Rattle.hip_runs.specs.Laws.Members.{le_true, lt_true}
@@ -27,7 +27,7 @@ use Rattle.hip_trace.specs.Reads.{ReaderState, HasNext, ahead, one_more}
 use Rattle.hip_trace.specs.declared.entry.Entry.{Entry}
 use Rattle.hip_trace.specs.declared.entry.Entry.TheVariants.{Start, Register, Input as Number, Image, Store, Flush, Fence, Persist, Assert, Stop, Trap, Cut}
 use Rattle.hip_trace.specs.declared.refusal.Progress.TheVariants.{Reading}
-use Rattle.hip_lockstep.specs.Laws.Readings.{next_read, reads_more, stays_more, told_append, told_map}
+use Rattle.hip_lockstep.specs.Laws.Readings.{next_read, reads_more, stays_more, stated_append, stated_map}
 use Rattle.hip_lockstep.specs.Laws.RunSteps.{IsUnspelled, fits_more, front_taken, later_faults, no_entry, spelled_malformed, spelled_next, spelled_none}
 use Rattle.hip_lockstep.specs.Nexts.{ReadsEntry}
 use Rattle.hip_lockstep.specs.Opening.{HasBase, HasGiven, HasAllGiven, HasHeader}
@@ -39,7 +39,7 @@ use Rattle.hip_lockstep.specs.declared.steps.Lockstep.{Lockstep}
 
 -- ---- a header of fewer than two entries
 
-no_start : (P : Program) (es : List (Option Entry)) → behind_start P es None ≡ Stops 0
+no_start : (P : Program) (es : List (Option Entry)) → past_start P es None ≡ Stops 0
 no_start P [] = refl
 no_start P (e ∷ es) = refl
 
@@ -50,56 +50,56 @@ none_starts P = refl
 pub bad_start : (P : Program) (e : Option Entry) (es : List (Option Entry)) → valid_limit e ≡ None
     → header P (e ∷ es) ≡ Stops 0
 unfolding header
-bad_start P e es q = ap (behind_start P es) q ∙ no_start P es
+bad_start P e es q = ap (past_start P es) q ∙ no_start P es
 
 pub start_alone : (P : Program) (e : Option Entry) (limit : ℕ) → valid_limit e ≡ Some limit
     → header P (e ∷ []) ≡ Stops 1
 unfolding header
-start_alone P e limit q = ap (behind_start P []) q
+start_alone P e limit q = ap (past_start P []) q
 
 pub bad_register : (P : Program) (e : Option Entry) (limit : ℕ) (x : Option Entry) (es : List (Option Entry))
     → valid_limit e ≡ Some limit → valid_base P x ≡ None → header P (e ∷ x ∷ es) ≡ Stops 1
 unfolding header
-bad_register P e limit x es q b = ap (behind_start P (x ∷ es)) q ∙ ap (behind_register P limit es) b
+bad_register P e limit x es q b = ap (past_start P (x ∷ es)) q ∙ ap (past_register P limit es) b
 
 pub both_valid : (P : Program) (e : Option Entry) (limit : ℕ) (x : Option Entry) (base : ℕ)
     (es : List (Option Entry)) → valid_limit e ≡ Some limit → valid_base P x ≡ Some base
     → header P (e ∷ x ∷ es) ≡ header_from P
     (record { base = base; image = []; numbers = []; limit = limit }) 2 es
 unfolding header
-both_valid P e limit x base es q b = ap (behind_start P (x ∷ es)) q ∙ ap (behind_register P limit es) b
+both_valid P e limit x base es q b = ap (past_start P (x ∷ es)) q ∙ ap (past_register P limit es) b
 
-after_told : (es : List Entry) (rest : List (Option Entry))
-    → slice_get (told es ++ rest) (length es) ≡ slice_get rest 0
-after_told [] rest = refl
-after_told (e ∷ es) rest = after_told es rest
+after_stated : (es : List Entry) (rest : List (Option Entry))
+    → slice_get (stated es ++ rest) (length es) ≡ slice_get rest 0
+after_stated [] rest = refl
+after_stated (e ∷ es) rest = after_stated es rest
 
 stops_here : (P : Program) (bytes : List ℕ) (es : List Entry) (rest : List (Option Entry)) (kind : MisfitKind)
-    → spelled true bytes ≡ told es ++ rest → header P (told es ++ rest) ≡ Stops (length es)
+    → spelled true bytes ≡ stated es ++ rest → header P (stated es ++ rest) ≡ Stops (length es)
     → StopsAt true (slice_get rest 0) kind → IsMisfit P bytes true (length es + 1) kind
 stops_here P bytes es rest kind spells head s = record {
-  here = subst (λ ps. MisfitBehind (header P ps) P true ps (length es + 1) kind) (sym spells)
-      (subst (λ h. MisfitBehind h P true (told es ++ rest) (length es + 1) kind) (sym head)
-      (refl, subst (λ p. StopsAt true p kind) (sym (after_told es rest)) s));
+  here = subst (λ ps. MisfitPast (header P ps) P true ps (length es + 1) kind) (sym spells)
+      (subst (λ h. MisfitPast h P true (stated es ++ rest) (length es + 1) kind) (sym head)
+      (refl, subst (λ p. StopsAt true p kind) (sym (after_stated es rest)) s));
 }
 
 -- the pieces of a front are the whole header, which has fewer than two entries
 all_of_header : (P : Program) (es : List Entry) (xs last : List (Option Entry))
-    → ((ys zs : List (Option Entry)) → told es ≡ ys ++ zs → header P ys ≡ Stops (length ys))
-    → told es ≡ xs ++ last → header P xs ≡ Stops (length xs)
+    → ((ys zs : List (Option Entry)) → stated es ≡ ys ++ zs → header P ys ≡ Stops (length ys))
+    → stated es ≡ xs ++ last → header P xs ≡ Stops (length xs)
 all_of_header P es xs last heads split = heads xs last split
 
 module _ (P : Program) (start : CabinetState) (es : List Entry) (r : ReaderState) (s : CabinetState)
     (few : length es + 1 < 2 ^ 128) (read : HasReadEntries start r s es)
-    (stops : (rest : List (Option Entry)) → IsUnspelled rest → header P (told es ++ rest) ≡ Stops (length es))
-    (fronts : (ys zs : List (Option Entry)) → told es ≡ ys ++ zs → header P ys ≡ Stops (length ys)) where
+    (stops : (rest : List (Option Entry)) → IsUnspelled rest → header P (stated es ++ rest) ≡ Stops (length es))
+    (fronts : (ys zs : List (Option Entry)) → stated es ≡ ys ++ zs → header P ys ≡ Stops (length ys)) where
   pub start_missing : (r' : ReaderState) (s' : CabinetState) (refusal : ReplayRefusal)
       → ReadsEntry (length es) r r' s s' (Err refusal) → Refuses P r' start s' refusal
   start_missing r' s' (refusals.Misfit entry Early) (number, none) =
       subst (λ k. HasMisfit P r' start s' k Early) (sym number) (record {
         reading = reads_more start s s' read.reading none.reading;
-        told = told_map (λ bytes. IsRead bytes es (ahead r s))
-            (λ bytes. IsMisfit P bytes true (length es + 1) Early) start.rest read.told
+        stated = stated_map (λ bytes. IsRead bytes es (ahead r s))
+            (λ bytes. IsMisfit P bytes true (length es + 1) Early) start.rest read.stated
             (λ bytes at h. stops_here P bytes es [] Early (spelled_none bytes es r s h none.ended) (stops [] tt)
             (refl, refl));
         count = none.count ∙ read.count ∙ (let e : length es ≡ begun_at Early (length es + 1) = omega arith in e);
@@ -107,8 +107,8 @@ module _ (P : Program) (start : CabinetState) (es : List Entry) (r : ReaderState
   start_missing r' s' (refusals.Misfit entry Malformed) (number, bad) =
       subst (λ k. HasMisfit P r' start s' k Malformed) (sym number) (record {
         reading = reads_more start s s' read.reading bad.reading;
-        told = told_map (λ bytes. IsRead bytes es (ahead r s))
-            (λ bytes. IsMisfit P bytes true (length es + 1) Malformed) start.rest read.told
+        stated = stated_map (λ bytes. IsRead bytes es (ahead r s))
+            (λ bytes. IsMisfit P bytes true (length es + 1) Malformed) start.rest read.stated
             (λ bytes at h.
             let spells = spelled_malformed bytes es r s h bad.entries in
             stops_here P bytes es (None ∷ spells.0) Malformed spells.1 (stops (None ∷ spells.0) tt) refl);
@@ -120,7 +120,7 @@ module _ (P : Program) (start : CabinetState) (es : List Entry) (r : ReaderState
     stays = stays_more start s s' read.reading.stays f.stays;
     later = later_faults start s s' read.reading f.later;
     rose = subst (λ k. Rose k s'.faults) read.reading.faults f.rose;
-    told = told_map (λ bytes. IsRead bytes es (ahead r s)) (λ bytes. ShowsNone P bytes s'.rest) start.rest read.told
+    stated = stated_map (λ bytes. IsRead bytes es (ahead r s)) (λ bytes. ShowsNone P bytes s'.rest) start.rest read.stated
         (λ bytes at h.
         let t = front_taken bytes es r r' s s' h f in
         record {
@@ -136,12 +136,12 @@ module _ (P : Program) (start : CabinetState) (es : List Entry) (r : ReaderState
 -- the second entry is not valid
 pub start_differs : (P : Program) (start : CabinetState) (es : List Entry) (e : Entry) (r : ReaderState)
     (s : CabinetState) → HasReadEntries start r s (es ++ e ∷ [])
-    → ((rest : List (Option Entry)) → header P (told es ++ Some e ∷ rest) ≡ Stops (length es))
+    → ((rest : List (Option Entry)) → header P (stated es ++ Some e ∷ rest) ≡ Stops (length es))
     → HasMisfit P r start s (length es + 1) Differs
 start_differs P start es e r s read stops = record {
   reading = read.reading;
-  told = told_map (λ bytes. IsRead bytes (es ++ e ∷ []) (ahead r s))
-      (λ bytes. IsMisfit P bytes true (length es + 1) Differs) start.rest read.told
+  stated = stated_map (λ bytes. IsRead bytes (es ++ e ∷ []) (ahead r s))
+      (λ bytes. IsMisfit P bytes true (length es + 1) Differs) start.rest read.stated
       (λ bytes at h.
       let spells = spelled_next bytes es e (ahead r s) h in
       stops_here P bytes es (Some e ∷ spells.0) Differs spells.1 (stops spells.0) refl);
@@ -154,26 +154,26 @@ empty_front : (ys zs : List (Option Entry)) → [] ≡ ys ++ zs → ys ≡ []
 empty_front [] zs q = refl
 empty_front (y ∷ ys) zs q = absurd (let z : ⊥ = cc in z)
 
-pub none_fronts : (P : Program) (ys zs : List (Option Entry)) → told [] ≡ ys ++ zs
+pub none_fronts : (P : Program) (ys zs : List (Option Entry)) → stated [] ≡ ys ++ zs
     → header P ys ≡ Stops (length ys)
 none_fronts P [] zs q = none_starts P
 none_fronts P (y ∷ ys) zs q = absurd (let z : ⊥ = cc in z)
 
 pub none_stops : (P : Program) (rest : List (Option Entry)) → IsUnspelled rest
-    → header P (told [] ++ rest) ≡ Stops 0
+    → header P (stated [] ++ rest) ≡ Stops 0
 none_stops P [] h = none_starts P
 none_stops P (None ∷ rest) h = bad_start P None rest refl
 none_stops P (Some e ∷ rest) h = absurd h
 
 pub one_fronts : (P : Program) (e : Entry) (limit : ℕ) → valid_limit (Some e) ≡ Some limit
-    → (ys zs : List (Option Entry)) → told (e ∷ []) ≡ ys ++ zs → header P ys ≡ Stops (length ys)
+    → (ys zs : List (Option Entry)) → stated (e ∷ []) ≡ ys ++ zs → header P ys ≡ Stops (length ys)
 one_fronts P e limit v [] zs q = none_starts P
 one_fronts P e limit v (y ∷ []) zs q = let same : Some e ≡ y = cc in
     start_alone P y limit (ap valid_limit (sym same) ∙ v)
 one_fronts P e limit v (y ∷ w ∷ ys) zs q = absurd (let z : ⊥ = cc in z)
 
 pub one_stops : (P : Program) (e : Entry) (limit : ℕ) → valid_limit (Some e) ≡ Some limit
-    → (rest : List (Option Entry)) → IsUnspelled rest → header P (told (e ∷ []) ++ rest) ≡ Stops 1
+    → (rest : List (Option Entry)) → IsUnspelled rest → header P (stated (e ∷ []) ++ rest) ≡ Stops 1
 one_stops P e limit v [] h = start_alone P (Some e) limit v
 one_stops P e limit v (None ∷ rest) h = bad_register P (Some e) limit None rest v refl
 one_stops P e limit v (Some x ∷ rest) h = absurd h
@@ -186,18 +186,18 @@ stopped_after start r s es read = record { reading = read.reading }
 
 -- ---- what INPUT and IMAGE entries give
 
-told_alike : (es fs : List Entry) → told es ≡ told fs → es ≡ fs
-told_alike [] [] q = refl
-told_alike [] (f ∷ fs) q = absurd (let z : ⊥ = cc in z)
-told_alike (e ∷ es) [] q = absurd (let z : ⊥ = cc in z)
-told_alike (e ∷ es) (f ∷ fs) q =
+stated_alike : (es fs : List Entry) → stated es ≡ stated fs → es ≡ fs
+stated_alike [] [] q = refl
+stated_alike [] (f ∷ fs) q = absurd (let z : ⊥ = cc in z)
+stated_alike (e ∷ es) [] q = absurd (let z : ⊥ = cc in z)
+stated_alike (e ∷ es) (f ∷ fs) q =
     let first : e ≡ f = cc in
-    let rest : told es ≡ told fs = cc in
-    ap (λ x. x ∷ es) first ∙ ap (λ xs. f ∷ xs) (told_alike es fs rest)
+    let rest : stated es ≡ stated fs = cc in
+    ap (λ x. x ∷ es) first ∙ ap (λ xs. f ∷ xs) (stated_alike es fs rest)
 
-told_long : (es : List Entry) → length (told es) ≡ length es
-told_long [] = refl
-told_long (e ∷ es) = ap suc (told_long es)
+stated_long : (es : List Entry) → length (stated es) ≡ length es
+stated_long [] = refl
+stated_long (e ∷ es) = ap suc (stated_long es)
 
 -- What was given, with bytes of 0 after it, is a valid input, whose header the entries are.
 pub record IsHeaderOf (P : Program) (given : Input) (entries : List Entry) (count : ℕ) : Type 0 where
@@ -205,24 +205,24 @@ pub record IsHeaderOf (P : Program) (given : Input) (entries : List Entry) (coun
   pub are : entries ≡ header_of (filled P given)
   pub number : count ≡ header_entries (filled P given)
 
-pub header_given_so : (P : Program) (given : Input) (es : List Entry) (count : ℕ) → FitAll (told es)
+pub header_given_so : (P : Program) (given : Input) (es : List Entry) (count : ℕ) → FitAll (stated es)
     → count ≡ length es → ((more : List (Option Entry))
-    → header P (told es ++ more) ≡ header_from P given count more) → IsHeaderOf P given es count
+    → header P (stated es ++ more) ≡ header_from P given count more) → IsHeaderOf P given es count
 header_given_so P given es count fit counted head =
-    let whole : header P (told es) ≡ Gives count (filled P given) = ap (header P) (sym (append-nil (told es)))
+    let whole : header P (stated es) ≡ Gives count (filled P given) = ap (header P) (sym (append-nil (stated es)))
     ∙ head [] in
-    let h = header-given P (told es) count (filled P given) fit whole in
-    let long = told_long es in
-    let longer = told_long (header_of (filled P given)) in
-    let both = ap length h.split ∙ length-append (told (header_of (filled P given))) h.rest in
+    let h = header-given P (stated es) count (filled P given) fit whole in
+    let long = stated_long es in
+    let longer = stated_long (header_of (filled P given)) in
+    let both = ap length h.split ∙ length-append (stated (header_of (filled P given))) h.rest in
     let same = length-header_of (filled P given) in
     let number = h.count in
     let none : h.rest ≡ [] = nothing h.rest (omega (arith, long, longer, both, same, number, counted)) in
     record {
       valid = h.valid;
-      are = told_alike es (header_of (filled P given))
-          (h.split ∙ ap (λ ps. told (header_of (filled P given)) ++ ps) none
-          ∙ append-nil (told (header_of (filled P given))));
+      are = stated_alike es (header_of (filled P given))
+          (h.split ∙ ap (λ ps. stated (header_of (filled P given)) ++ ps) none
+          ∙ append-nil (stated (header_of (filled P given))));
       number = h.count;
     }
   where
@@ -263,7 +263,7 @@ module _ {P : Program} {start : CabinetState} {r : ReaderState} {s : CabinetStat
       (subst (λ n. n + 1 < 2 ^ 128) counts few)
       (subst (λ es. HasReadEntries start r s es) entries_are is.read)
       (λ bytes at rest spells bad.
-      ap (header P) (spells ∙ ap (λ es. told es ++ rest) (sym entries_are)) ∙ is.header rest
+      ap (header P) (spells ∙ ap (λ es. stated es ++ rest) (sym entries_are)) ∙ is.header rest
       ∙ unspelled_gives P given count rest bad
       ∙ ap (λ n. Gives n (filled P given)) so.number)
       r' s' refusal (subst (λ n. ReadsEntry n r r' s s' (Err refusal)) counts h)
@@ -272,10 +272,10 @@ module _ {P : Program} {start : CabinetState} {r : ReaderState} {s : CabinetStat
   room = subst (λ n. n + 1 < 2 ^ 128) is.counted few
 
   header_after : (e : Entry) (more : List (Option Entry))
-      → header P (told (is.entries ++ e ∷ []) ++ more) ≡ header_from P given count (Some e ∷ more)
+      → header P (stated (is.entries ++ e ∷ []) ++ more) ≡ header_from P given count (Some e ∷ more)
   header_after e more =
-      ap (λ ps. header P (ps ++ more)) (told_append is.entries (e ∷ []))
-      ∙ ap (header P) (append_assoc (told is.entries) (Some e ∷ []) more)
+      ap (λ ps. header P (ps ++ more)) (stated_append is.entries (e ∷ []))
+      ∙ ap (header P) (append_assoc (stated is.entries) (Some e ∷ []) more)
       ∙ is.header (Some e ∷ more)
 
   -- one more entry of the header
@@ -324,15 +324,15 @@ pub header_read : (P : Program) (start : CabinetState) (r : ReaderState) (s : Ca
     → HasHeader P start r s (record { input = filled P given; lockstep = lockstep })
 header_read P start r s given lockstep h =
     let so = header_given_so P given h.entries lockstep.entries
-    (fit_front (told h.entries) (Some lockstep.next ∷ [])
-    (subst FitAll (told_append h.entries (lockstep.next ∷ [])) h.read.fit)) h.counted h.header in
+    (fit_front (stated h.entries) (Some lockstep.next ∷ [])
+    (subst FitAll (stated_append h.entries (lockstep.next ∷ [])) h.read.fit)) h.counted h.header in
     record {
       valid = so.valid;
       read = subst (λ es. HasReadEntries start r s (es ++ lockstep.next ∷ [])) so.are h.read;
       counted = h.counted ∙ ap (λ es. length es) so.are;
-      header = told_map (λ bytes. IsRead bytes (h.entries ++ lockstep.next ∷ []) (ahead r s))
+      header = stated_map (λ bytes. IsRead bytes (h.entries ++ lockstep.next ∷ []) (ahead r s))
           (λ bytes. header P (spelled true bytes)
-          ≡ Gives (header_entries (filled P given)) (filled P given)) start.rest h.read.told
+          ≡ Gives (header_entries (filled P given)) (filled P given)) start.rest h.read.stated
           (λ bytes at k.
           let spells = spelled_next bytes h.entries lockstep.next (ahead r s) k in
           ap (header P) spells.1 ∙ h.header (Some lockstep.next ∷ spells.0)

@@ -5,7 +5,7 @@ use Rattle.std.specs.List.{list_any}
 use Rattle.std.proofs.lemmas.Bool.{ltb-false}
 use Rattle.hip_io.specs.Cabinets.{CabinetState, StaysOpen}
 use Rattle.hip_run_traces.specs.Laws.GivenLaws.{FitAll}
-use Rattle.hip_run_traces.specs.Traces.{told}
+use Rattle.hip_run_traces.specs.Traces.{stated}
 use Rattle.hip_trace.specs.Laws.FitLaws.{spelled_fits}
 use Rattle.hip_trace.specs.Laws.PieceLaws.{no_piece, spelled_first, spelled_last}
 use Rattle.hip_trace.specs.Entries.{entry_by, entry_of, fields}
@@ -18,14 +18,14 @@ use Rattle.hip_lockstep.specs.Reading.{StopsAtSeparator, StopsAtEnd, IsRead, Has
 
 -- ---- what is known
 
-pub told_map : {A : Type 0} (P Q : A → Type 0) (o : Option A) → IfSome o P
+pub stated_map : {A : Type 0} (P Q : A → Type 0) (o : Option A) → IfSome o P
     → ((x : A) → o ≡ Some x → P x → Q x) → IfSome o Q
-told_map P Q None h f = tt
-told_map P Q (Some x) h f = f x refl h
+stated_map P Q None h f = tt
+stated_map P Q (Some x) h f = f x refl h
 
-pub told_at : {A : Type 0} (P : A → Type 0) (o : Option A) (x : A) → o ≡ Some x → IfSome o P → P x
-told_at P None x e h = absurd (let z : ⊥ = cc in z)
-told_at P (Some y) x e h = let same : y ≡ x = cc in subst P same h
+pub stated_at : {A : Type 0} (P : A → Type 0) (o : Option A) (x : A) → o ≡ Some x → IfSome o P → P x
+stated_at P None x e h = absurd (let z : ⊥ = cc in z)
+stated_at P (Some y) x e h = let same : y ≡ x = cc in subst P same h
 
 pub stays_more : (a b c : CabinetState) → StaysOpen a b → StaysOpen b c → StaysOpen a c
 stays_more a b c x y = record {
@@ -44,9 +44,9 @@ reads_more start mid new p q = record {
 
 -- ---- lists
 
-pub told_append : (es fs : List Entry) → told (es ++ fs) ≡ told es ++ told fs
-told_append [] fs = refl
-told_append (e ∷ es) fs = ap (λ (ps : List (Option Entry)). Some e ∷ ps) (told_append es fs)
+pub stated_append : (es fs : List Entry) → stated (es ++ fs) ≡ stated es ++ stated fs
+stated_append [] fs = refl
+stated_append (e ∷ es) fs = ap (λ (ps : List (Option Entry)). Some e ∷ ps) (stated_append es fs)
 
 fit_append : (xs ys : List (Option Entry)) → FitAll xs → FitAll ys → FitAll (xs ++ ys)
 fit_append [] ys h k = k
@@ -72,13 +72,13 @@ some_not_empty (b ∷ bs) left n e = cc
 -- ---- one piece more
 
 module _ (bytes : List ℕ) (es : List Entry) (e : Entry) (piece : List ℕ) (spells : entry_of piece ≡ Some e) where
-  told_one : told (es ++ e ∷ []) ≡ told es ++ Some e ∷ []
-  told_one = told_append es (e ∷ [])
+  stated_one : stated (es ++ e ∷ []) ≡ stated es ++ Some e ∷ []
+  stated_one = stated_append es (e ∷ [])
 
-  after : (more : List (Option Entry)) → told es ++ (entry_of piece ∷ more) ≡ told (es ++ e ∷ []) ++ more
+  after : (more : List (Option Entry)) → stated es ++ (entry_of piece ∷ more) ≡ stated (es ++ e ∷ []) ++ more
   after more =
-      ap (λ (o : Option Entry). told es ++ (o ∷ more)) spells ∙ sym (append_assoc (told es) (Some e ∷ []) more)
-      ∙ ap (λ (ps : List (Option Entry)). ps ++ more) (sym told_one)
+      ap (λ (o : Option Entry). stated es ++ (o ∷ more)) spells ∙ sym (append_assoc (stated es) (Some e ∷ []) more)
+      ∙ ap (λ (ps : List (Option Entry)). ps ++ more) (sym stated_one)
 
   at_separator : (text left : List ℕ) (separator : ℕ) → list_any is_separator piece ≡ false
       → is_separator separator ≡ true → StopsAtSeparator text es
@@ -88,7 +88,7 @@ module _ (bytes : List ℕ) (es : List Entry) (e : Entry) (piece : List ℕ) (sp
         ap (spelled w) (append_assoc text (piece ++ separator ∷ []) more
         ∙ ap (λ (xs : List ℕ). text ++ xs) (append_assoc piece (separator ∷ []) more))
         ∙ h.spells w (piece ++ separator ∷ more)
-        ∙ ap (λ (ps : List (Option Entry)). told es ++ ps) (spelled_first w piece separator more whole separates)
+        ∙ ap (λ (ps : List (Option Entry)). stated es ++ ps) (spelled_first w piece separator more whole separates)
         ∙ after (spelled w more);
   }
 
@@ -97,15 +97,15 @@ module _ (bytes : List ℕ) (es : List Entry) (e : Entry) (piece : List ℕ) (sp
   at_end text left whole some none h = record {
     none = none;
     spells =
-        h.spells true piece ∙ ap (λ (ps : List (Option Entry)). told es ++ ps) (spelled_last piece whole some)
-        ∙ after [] ∙ append-nil (told (es ++ e ∷ []));
+        h.spells true piece ∙ ap (λ (ps : List (Option Entry)). stated es ++ ps) (spelled_last piece whole some)
+        ∙ after [] ∙ append-nil (stated (es ++ e ∷ []));
     last = Some e ∷ [];
     front =
-        told_one
+        stated_one
         ∙ ap (λ (ps : List (Option Entry)). ps ++ Some e ∷ [])
-        (sym (h.spells false piece ∙ ap (λ (ps : List (Option Entry)). told es ++ ps)
+        (sym (h.spells false piece ∙ ap (λ (ps : List (Option Entry)). stated es ++ ps)
         (ap (λ (ts : List (List ℕ)). map entry_of ts) (no_piece piece whole (short_text piece e spells)))
-        ∙ append-nil (told es)));
+        ∙ append-nil (stated es)));
   }
 
   next_piece : (old new : Option (List ℕ)) → IsRead bytes es old → TakesPiece piece old new
@@ -165,10 +165,10 @@ next_read start s s' r r' es e few h n = record {
   reading = reads_more start s s' h.reading n.reading;
   progress = n.progress;
   count = n.count ∙ ap one_more h.count ∙ fits_more (length es) few ∙ sym (length-append es (e ∷ []));
-  fit = subst FitAll (sym (told_append es (e ∷ [])))
-      (fit_append (told es) (Some e ∷ []) h.fit (spelled_fits n.piece e n.spells, tt));
-  told = told_map (λ bytes. IsRead bytes es (ahead r s))
-      (λ bytes. IsRead bytes (es ++ e ∷ []) (ahead r' s')) start.rest h.told
+  fit = subst FitAll (sym (stated_append es (e ∷ [])))
+      (fit_append (stated es) (Some e ∷ []) h.fit (spelled_fits n.piece e n.spells, tt));
+  stated = stated_map (λ bytes. IsRead bytes es (ahead r s))
+      (λ bytes. IsRead bytes (es ++ e ∷ []) (ahead r' s')) start.rest h.stated
       (λ bytes at read. next_piece bytes es e n.piece n.spells (ahead r s) (ahead r' s') read n.taken);
 }
 
@@ -184,7 +184,7 @@ nothing_read start r new current = subst (λ (x : ReaderState). HasReadEntries s
   progress = refl;
   count = refl;
   fit = tt;
-  told = go start.rest;
+  stated = go start.rest;
 })
   where
     go : (o : Option (List ℕ)) → IfSome o (λ bytes. IsRead bytes [] (option_map (λ rest. [] ++ rest) o))
@@ -201,16 +201,16 @@ nothing_read start r new current = subst (λ (x : ReaderState). HasReadEntries s
 -- ---- what the whole file spells, and its front
 
 pub read_whole : (bytes : List ℕ) (es : List Entry) (o : Option (List ℕ)) (h : IsRead bytes es o)
-    → spelled true bytes ≡ told es ++ spelled true h.left
+    → spelled true bytes ≡ stated es ++ spelled true h.left
 read_whole bytes es o h = go h.spells
   where
     go : StopsAtSeparator h.text es ⊎ StopsAtEnd h.text es h.left
-        → spelled true bytes ≡ told es ++ spelled true h.left
+        → spelled true bytes ≡ stated es ++ spelled true h.left
     go (inl k) = ap (spelled true) h.bytes_are ∙ k.spells true h.left
     go (inr k) =
         ap (spelled true) (h.bytes_are ∙ ap (λ (xs : List ℕ). h.text ++ xs) k.none ∙ append-nil h.text)
         ∙ k.spells
-        ∙ sym (append-nil (told es)) ∙ ap (λ (xs : List ℕ). told es ++ spelled true xs) (sym k.none)
+        ∙ sym (append-nil (stated es)) ∙ ap (λ (xs : List ℕ). stated es ++ spelled true xs) (sym k.none)
 
 nothing_spelled : (held : List ℕ) → pieces false held ≡ [] → spelled false held ≡ []
 nothing_spelled held none = ap (λ (ts : List (List ℕ)). map entry_of ts) none
@@ -222,15 +222,15 @@ empty_front (b ∷ bs) rest e = absurd (let z : ⊥ = cc in z)
 -- the bytes that were taken, of which the last ones are no piece yet
 pub read_front : (bytes : List ℕ) (es : List Entry) (o : Option (List ℕ)) (h : IsRead bytes es o)
     (held rest : List ℕ) → h.left ≡ held ++ rest → pieces false held ≡ [] → (last : List (Option Entry))
-    × (told es ≡ spelled false (h.text ++ held) ++ last)
+    × (stated es ≡ spelled false (h.text ++ held) ++ last)
 read_front bytes es o h held rest split none = go h.spells
   where
     go : StopsAtSeparator h.text es ⊎ StopsAtEnd h.text es h.left → (last : List (Option Entry))
-        × (told es ≡ spelled false (h.text ++ held) ++ last)
+        × (stated es ≡ spelled false (h.text ++ held) ++ last)
     go (inl k) = (
       [],
       sym (append-nil (spelled false (h.text ++ held)) ∙ k.spells false held
-          ∙ ap (λ (ps : List (Option Entry)). told es ++ ps) (nothing_spelled held none) ∙ append-nil (told es)),
+          ∙ ap (λ (ps : List (Option Entry)). stated es ++ ps) (nothing_spelled held none) ∙ append-nil (stated es)),
     )
     go (inr k) =
         let empty : held ≡ [] = empty_front held rest (sym k.none ∙ split) in (

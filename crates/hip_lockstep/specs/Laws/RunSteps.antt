@@ -5,14 +5,14 @@ use Rattle.hip_io.specs.Cabinets.{CabinetState}
 use Rattle.hip_io.specs.Counts.{Rose}
 use Rattle.hip_tree.specs.declared.program.Program.{Program}
 use Rattle.hip_run_traces.specs.Headers.{Header, Gives, header}
-use Rattle.hip_run_traces.specs.Laws.MisfitLaws.{differs-behind, run-front}
+use Rattle.hip_run_traces.specs.Laws.MisfitLaws.{differs-past, run-front}
 use Rattle.hip_runs.specs.Laws.NextLaws.{rests-ended}
 use Rattle.hip_run_traces.specs.Laws.TraceLaws.{next-trace, whole-front, whole-trace}
-use Rattle.hip_run_traces.specs.Misfits.{DiffersAt, FirstDiffers, MisfitBehind, IsMisfit}
-use Rattle.hip_run_traces.specs.Traces.{IsTrace, entry_list, entry_of_ending, entry_of_event, trace, told}
+use Rattle.hip_run_traces.specs.Misfits.{DiffersAt, FirstDiffers, MisfitPast, IsMisfit}
+use Rattle.hip_run_traces.specs.Traces.{IsTrace, entry_list, entry_of_ending, entry_of_event, trace, stated}
 use Rattle.hip_run_traces.specs.declared.misfit.MisfitKind.{MisfitKind}
 use Rattle.hip_run_traces.specs.declared.misfit.MisfitKind.TheVariants.{Malformed, Differs, Early, Extra}
-use Rattle.hip_runs.specs.Laws.OutputLaws.{run_told}
+use Rattle.hip_runs.specs.Laws.OutputLaws.{run_stated}
 use Rattle.hip_runs.specs.Outputs.{ending_by}
 use Rattle.hip_runs.specs.State.{State}
 use Rattle.hip_runs.specs.Step.{event, has_ended, header_entries, run}
@@ -24,7 +24,7 @@ use Rattle.hip_runs.specs.declared.input.Input.{Input}
 use Rattle.hip_trace.specs.Pieces.{spelled}
 use Rattle.hip_trace.specs.Reads.{ReaderState, IsReading, HasFailed, ahead, entries_left, one_more}
 use Rattle.hip_trace.specs.declared.entry.Entry.{Entry}
-use Rattle.hip_lockstep.specs.Laws.Readings.{read_front, read_whole, reads_more, stays_more, told_append, told_at, told_map}
+use Rattle.hip_lockstep.specs.Laws.Readings.{read_front, read_whole, reads_more, stays_more, stated_append, stated_at, stated_map}
 use Rattle.hip_lockstep.specs.Nexts.{ReadsEntry}
 use Rattle.hip_lockstep.specs.Reading.{HasReadEntries, IsRead}
 use Rattle.hip_lockstep.specs.Refusals.{HasMisfit, HasReadFault, IsTaken, ShowsNone, Refuses, begun_at}
@@ -38,7 +38,7 @@ no_ending o q h = let z : is_some o ≡ false = ap (λ (x : Option Ending). is_s
 
 pub ending_after : (P : Program) (I : Input) (n : ℕ) (e : Event) → event P I (run P I n) ≡ e
     → (run P I (suc n)).world.ending ≡ ending_by e
-ending_after P I n e at = (run_told P I n).ending ∙ ap ending_by at
+ending_after P I n e at = (run_stated P I n).ending ∙ ap ending_by at
 
 pub trace_after : (P : Program) (I : Input) (n : ℕ) (e : Event) → (run P I n).world.ending ≡ None
     → event P I (run P I n) ≡ e → trace P I (suc n) ≡ trace P I n ++ entry_list (entry_of_event e)
@@ -141,10 +141,10 @@ IsUnspelled (Some e ∷ rest) = ⊥
 
 pub spelled_none : (bytes : List ℕ) (es : List Entry) (r : ReaderState) (s : CabinetState)
     → IsRead bytes es (ahead r s) → IfSome (ahead r s) (λ left. left ≡ [])
-    → spelled true bytes ≡ told es ++ []
+    → spelled true bytes ≡ stated es ++ []
 spelled_none bytes es r s h ended =
-    let none : h.left ≡ [] = told_at (λ left. left ≡ []) (ahead r s) h.left h.ahead_is ended in
-    read_whole bytes es (ahead r s) h ∙ ap (λ (xs : List ℕ). told es ++ spelled true xs) none
+    let none : h.left ≡ [] = stated_at (λ left. left ≡ []) (ahead r s) h.left h.ahead_is ended in
+    read_whole bytes es (ahead r s) h ∙ ap (λ (xs : List ℕ). stated es ++ spelled true xs) none
 
 first_none : (xs : List (Option Entry)) → slice_get xs 0 ≡ Some None → (rest : List (Option Entry))
     × (xs ≡ None ∷ rest)
@@ -153,21 +153,21 @@ first_none (x ∷ xs) h = let same : x ≡ None = cc in (xs, ap (λ o. o ∷ xs)
 
 pub spelled_malformed : (bytes : List ℕ) (es : List Entry) (r : ReaderState) (s : CabinetState)
     → IsRead bytes es (ahead r s) → IfSome (entries_left r s) (λ xs. slice_get xs 0 ≡ Some None)
-    → (rest : List (Option Entry)) × (spelled true bytes ≡ told es ++ None ∷ rest)
+    → (rest : List (Option Entry)) × (spelled true bytes ≡ stated es ++ None ∷ rest)
 spelled_malformed bytes es r s h bad =
     let left : entries_left r s ≡ Some (spelled true h.left) = ap (option_map (spelled true)) h.ahead_is in
     let first = first_none (spelled true h.left)
-    (told_at (λ xs. slice_get xs 0 ≡ Some None) (entries_left r s) (spelled true h.left) left bad) in
-    (first.0, read_whole bytes es (ahead r s) h ∙ ap (λ xs. told es ++ xs) first.1)
+    (stated_at (λ xs. slice_get xs 0 ≡ Some None) (entries_left r s) (spelled true h.left) left bad) in
+    (first.0, read_whole bytes es (ahead r s) h ∙ ap (λ xs. stated es ++ xs) first.1)
 
 pub spelled_next : (bytes : List ℕ) (es : List Entry) (e : Entry) (o : Option (List ℕ))
     → IsRead bytes (es ++ e ∷ []) o → (rest : List (Option Entry))
-    × (spelled true bytes ≡ told es ++ Some e ∷ rest)
+    × (spelled true bytes ≡ stated es ++ Some e ∷ rest)
 spelled_next bytes es e o h = (
   spelled true h.left,
   read_whole bytes (es ++ e ∷ []) o h
-      ∙ ap (λ xs. xs ++ spelled true h.left) (told_append es (e ∷ []))
-      ∙ append_assoc (told es) (Some e ∷ []) (spelled true h.left),
+      ∙ ap (λ xs. xs ++ spelled true h.left) (stated_append es (e ∷ []))
+      ∙ append_assoc (stated es) (Some e ∷ []) (spelled true h.left),
 )
 
 -- the bytes that were taken before a read failed
@@ -175,7 +175,7 @@ pub record HasFront (es : List Entry) (bytes : List ℕ) (rest : Option (List �
   pub front : List ℕ
   pub taken : IsTaken front bytes rest
   pub last : List (Option Entry)
-  pub spells : told es ≡ spelled false front ++ last
+  pub spells : stated es ≡ spelled false front ++ last
 
 pub front_taken : (bytes : List ℕ) (es : List Entry) (r r' : ReaderState) (s s' : CabinetState)
     → IsRead bytes es (ahead r s) → HasFailed r r' s s' → HasFront es bytes s'.rest
@@ -211,19 +211,19 @@ module _ (P : Program) (I : Input) (start : CabinetState) (valid : IsValid P I) 
   -- the file and the run's trace differ after the entries of some steps
   pub differs_run : (n : ℕ) (bytes : List ℕ) (rest : List (Option Entry)) (whole more : List Entry)
       (kind : MisfitKind) → header P (spelled true bytes) ≡ Gives (header_entries I) I
-      → spelled true bytes ≡ told (trace P I n) ++ rest → IsTrace P I whole → whole ≡ trace P I n ++ more
+      → spelled true bytes ≡ stated (trace P I n) ++ rest → IsTrace P I whole → whole ≡ trace P I n ++ more
       → DiffersAt true (slice_get rest 0) (slice_get more 0) kind
       → IsMisfit P bytes true (length (trace P I n) + 1) kind
   differs_run n bytes rest whole more kind head spells t split d = record {
-    here = subst (λ (x : Header). MisfitBehind x P true (spelled true bytes) (length (trace P I n) + 1) kind)
+    here = subst (λ (x : Header). MisfitPast x P true (spelled true bytes) (length (trace P I n) + 1) kind)
         (sym head) (record {
           trace = whole;
           is_trace = t;
           count = length (trace P I n);
           number = refl;
           differs = subst (λ ps. FirstDiffers true ps whole (length (trace P I n)) kind) (sym spells)
-              (subst (λ es. FirstDiffers true (told (trace P I n) ++ rest) es (length (trace P I n)) kind) (sym split)
-              (differs-behind true (trace P I n) rest more kind d));
+              (subst (λ es. FirstDiffers true (stated (trace P I n) ++ rest) es (length (trace P I n)) kind) (sym split)
+              (differs-past true (trace P I n) rest more kind d));
         });
   }
 
@@ -233,8 +233,8 @@ module _ (P : Program) (I : Input) (start : CabinetState) (valid : IsValid P I) 
     stays = stays_more start s s' read.reading.stays f.stays;
     later = later_faults start s s' read.reading f.later;
     rose = subst (λ k. Rose k s'.faults) read.reading.faults f.rose;
-    told = told_map (λ bytes. IsRead bytes (trace P I n) (ahead r s))
-        (λ bytes. ShowsNone P bytes s'.rest) start.rest read.told
+    stated = stated_map (λ bytes. IsRead bytes (trace P I n) (ahead r s))
+        (λ bytes. ShowsNone P bytes s'.rest) start.rest read.stated
         (λ bytes at h.
         let t = front_taken bytes (trace P I n) r r' s s' h f in
         record {
@@ -249,15 +249,15 @@ module _ (P : Program) (I : Input) (start : CabinetState) (valid : IsValid P I) 
   module _ (n : ℕ) (r : ReaderState) (s : CabinetState) (going : (run P I n).world.ending ≡ None)
       (few : length (trace P I n) + 1 < 2 ^ 128) (read : HasReadEntries start r s (trace P I n))
       (head : (bytes : List ℕ) → start.rest ≡ Some bytes → (rest : List (Option Entry))
-      → spelled true bytes ≡ told (trace P I n) ++ rest → IsUnspelled rest
+      → spelled true bytes ≡ stated (trace P I n) ++ rest → IsUnspelled rest
       → header P (spelled true bytes) ≡ Gives (header_entries I) I) where
     pub no_entry : (r' : ReaderState) (s' : CabinetState) (refusal : ReplayRefusal)
         → ReadsEntry (length (trace P I n)) r r' s s' (Err refusal) → Refuses P r' start s' refusal
     no_entry r' s' (refusals.Misfit entry Early) (number, none) =
         subst (λ k. HasMisfit P r' start s' k Early) (sym number) (record {
           reading = reads_more start s s' read.reading none.reading;
-          told = told_map (λ bytes. IsRead bytes (trace P I n) (ahead r s))
-              (λ bytes. IsMisfit P bytes true (length (trace P I n) + 1) Early) start.rest read.told
+          stated = stated_map (λ bytes. IsRead bytes (trace P I n) (ahead r s))
+              (λ bytes. IsMisfit P bytes true (length (trace P I n) + 1) Early) start.rest read.stated
               (λ bytes at h.
               let more = more_entries P I n going in
               let spells = spelled_none bytes (trace P I n) r s h none.ended in
@@ -269,8 +269,8 @@ module _ (P : Program) (I : Input) (start : CabinetState) (valid : IsValid P I) 
     no_entry r' s' (refusals.Misfit entry Malformed) (number, bad) =
         subst (λ k. HasMisfit P r' start s' k Malformed) (sym number) (record {
           reading = reads_more start s s' read.reading bad.reading;
-          told = told_map (λ bytes. IsRead bytes (trace P I n) (ahead r s))
-              (λ bytes. IsMisfit P bytes true (length (trace P I n) + 1) Malformed) start.rest read.told
+          stated = stated_map (λ bytes. IsRead bytes (trace P I n) (ahead r s))
+              (λ bytes. IsMisfit P bytes true (length (trace P I n) + 1) Malformed) start.rest read.stated
               (λ bytes at h.
               let more = more_entries P I n going in
               let spells = spelled_malformed bytes (trace P I n) r s h bad.entries in

@@ -12,11 +12,11 @@ placed : (b : Bool) (p n : ℕ) →
     cond (nat_lt (cond (not b) (1 + p) 0) (suc n)) (Some (cond (not b) (1 + p) 0)) None
     ≡ cond b (Some 0) (option_map suc (cond (nat_lt p n) (Some p) None))
 placed true p n = grind (arith, nat_tests)
-placed false p n = behind (nat_lt p n) (nat_lt (1 + p) (suc n)) (grind (arith, nat_tests))
+placed false p n = past (nat_lt p n) (nat_lt (1 + p) (suc n)) (grind (arith, nat_tests))
   where
-    behind : (b c : Bool) → c ≡ b → cond c (Some (1 + p)) None ≡ option_map suc (cond b (Some p) None)
-    behind true c e = let one : 1 + p ≡ suc p = omega arith in rw (e, one) refl
-    behind false c e = rw e refl
+    past : (b c : Bool) → c ≡ b → cond c (Some (1 + p)) None ≡ option_map suc (cond b (Some p) None)
+    past true c e = let one : 1 + p ≡ suc p = omega arith in rw (e, one) refl
+    past false c e = rw e refl
 
 -- the first name has number 0, and each other one its number among the rest, plus 1
 pub number_of-cons : (x : List ℕ) (xs : List (List ℕ)) (name : List ℕ)
@@ -41,16 +41,16 @@ pub number_cases : (x : List ℕ) (xs : List (List ℕ)) (name : List ℕ) (k : 
     → IsHere x name k ⊎ IsLater x xs name k
 number_cases x xs name k e = by_first (bytes_eq name x) refl
   where
-    behind : (o : Option ℕ) → number_of xs name ≡ o → bytes_eq name x ≡ false → option_map suc o ≡ Some k
+    past : (o : Option ℕ) → number_of xs name ≡ o → bytes_eq name x ≡ false → option_map suc o ≡ Some k
         → IsHere x name k ⊎ IsLater x xs name k
-    behind None n t f = cc
-    behind (Some j) n t f = inr (j, t, n, cc)
+    past None n t f = cc
+    past (Some j) n t f = inr (j, t, n, cc)
 
     by_first : (b : Bool) → bytes_eq name x ≡ b → IsHere x name k ⊎ IsLater x xs name k
     by_first true t =
         let s : Some 0 ≡ Some k = sym (at_first true name x xs t) ∙ e in
         inl (cc, sym ((bytes_eq-Decides name x).0 t), t)
-    by_first false t = behind (number_of xs name) refl t (sym (at_first false name x xs t) ∙ e)
+    by_first false t = past (number_of xs name) refl t (sym (at_first false name x xs t) ∙ e)
 
 number_later : (x : List ℕ) (xs : List (List ℕ)) (name : List ℕ) (k : ℕ) → bytes_eq name x ≡ false
     → number_of xs name ≡ Some k → number_of (x ∷ xs) name ≡ Some (suc k)
@@ -112,12 +112,12 @@ number_of-first xs name k e none =
     found.1 ∙ ap Some same
 
 -- a name that is not in the first list has its number after the numbers of that list
-pub number_of-behind : (xs ys : List (List ℕ)) (name : List ℕ) (k : ℕ) → number_of ys name ≡ Some k
+pub number_of-past : (xs ys : List (List ℕ)) (name : List ℕ) (k : ℕ) → number_of ys name ≡ Some k
     → ((j : ℕ) → ¬ (slice_get xs j ≡ Some name)) → number_of (xs ++ ys) name ≡ Some (length xs + k)
-number_of-behind [] ys name k e none = e ∙ ap Some (sym (zero-add k))
-number_of-behind (x ∷ xs) ys name k e none =
+number_of-past [] ys name k e none = e ∙ ap Some (sym (zero-add k))
+number_of-past (x ∷ xs) ys name k e none =
     at_first false name x (xs ++ ys) (other (bytes_eq name x) refl)
-    ∙ ap (option_map suc) (number_of-behind xs ys name k e (λ j f. none (suc j) f))
+    ∙ ap (option_map suc) (number_of-past xs ys name k e (λ j f. none (suc j) f))
     ∙ ap Some (sym (suc-add (length xs) k))
   where
     other : (b : Bool) → bytes_eq name x ≡ b → bytes_eq name x ≡ false

@@ -58,7 +58,7 @@ ends_below I lines (events.End x) h w s = tt
 -- ---- what the parts of a step did
 
 pub record Did (P : Program) (I : Input) (c0 c1 c2 c3 c4 c5 c6 : Notes) (lines : List (Waiting Part)) (base region : ℕ) (e : Event) (site : Option Site) (before after : ℕ) (ahead : List Mark) : Type 0 where
-  pub told : Reported (checked_range base region e) c0.births.items (c0.entries + 1) c0.fence c0.pending lines c0.reports c1.reports
+  pub stated : Reported (checked_range base region e) c0.births.items (c0.entries + 1) c0.fence c0.pending lines c0.reports c1.reports
   pub r1 : c1 ≡ record c0 { reports = c1.reports }
   pub follows : Follows e site base c0.steps (c0.entries + 1) c1.calls c1.pending c2.pending
   pub r2 : c2 ≡ record c1 { pending = c2.pending }
@@ -189,7 +189,7 @@ module _ (P : Program) (I : Input) (n : ℕ) (going : has_ended (run P I n) ≡ 
         recent = subst (λ x. AreMet x.keys c6.recent.items) (sym marks6) (subst (λ x. AreMet c4.marks.keys x.items) (sym recent6) d.known);
         flags = subst (λ x. WereHit x.keys c6.flags.items) (sym hit6) (subst (λ x. WereHit c5.hit.keys x.items) (sym flags6) d.flags);
         hit = ap (λ x. x.keys) hit6 ∙ d.hits ∙ hit_next P I n going c4.hit.keys (ap (λ x. x.keys) hit4 ∙ h.hit);
-        reports = λ x. reports6 ∙ reports_next P I n going c0 h (sym header6 ∙ x) base region is_base is_region c1.reports (before E refl d.told);
+        reports = λ x. reports6 ∙ reports_next P I n going c0 h (sym header6 ∙ x) base region is_base is_region c1.reports (before E refl d.stated);
       }
 
 -- ---- the same at equal values

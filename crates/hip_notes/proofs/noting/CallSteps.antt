@@ -19,8 +19,8 @@ pub data CallsMove (P : Program) (s s' : State) : Type 0 where
 same_level : (f f' : Frame) (fs : List Frame) → IsSameCall f f' → levels_of (f' ∷ fs) ≡ levels_of (f ∷ fs)
 same_level f f' fs k = ap (λ (o : Option Level). level_list o (levels_of fs)) k.level
 
-behind : (o : Option Level) (ls : List Level) (l : Level) → o ≡ Some l → drop 1 (level_list o ls) ≡ ls
-behind o ls l e = ap (λ (x : Option Level). drop 1 (level_list x ls)) e
+past : (o : Option Level) (ls : List Level) (l : Level) → o ≡ Some l → drop 1 (level_list o ls) ≡ ls
+past o ls l e = ap (λ (x : Option Level). drop 1 (level_list x ls)) e
 
 called_at : (P : Program) (o : Option Instr) (g : ℕ) → called_number P o ≡ Some g → (i : Instr) × (o ≡ Some i)
 called_at P None g e = absurd (let z : ⊥ = cc in z)
@@ -36,4 +36,4 @@ calls_move P s s' h (returns f g g' fs p q k c) = fewer (ap (λ (x : List Frame)
     has = (subst have_calls p h).0
 
     first : drop 1 (levels_of (f ∷ g ∷ fs)) ≡ levels_of (g ∷ fs)
-    first = behind f.level (levels_of (g ∷ fs)) has.0 has.1
+    first = past f.level (levels_of (g ∷ fs)) has.0 has.1

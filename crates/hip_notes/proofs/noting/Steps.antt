@@ -11,7 +11,7 @@ use Rattle.hip_mem.specs.Laws.BytesLaws.{length-bytes_of}
 use Rattle.hip_runs.specs.Found.Marks.{event_hits, frame_marks, hit, pointed, same_mark, unless_ended}
 use Rattle.hip_runs.specs.Found.Reports.{Range, check_reports, checked_by, checked_range, next_check, reports}
 use Rattle.hip_runs.specs.Laws.CallLaws.{run_moves}
-use Rattle.hip_runs.specs.Laws.Fits.{Told, site_told}
+use Rattle.hip_runs.specs.Laws.Fits.{Stated, site_stated}
 use Rattle.hip_runs.specs.Laws.HistoryLaws.{instr_at_place}
 use Rattle.hip_runs.specs.Laws.NextLaws.{counts-next, next_lines}
 use Rattle.hip_runs.specs.Places.{body_at, code_at}
@@ -31,7 +31,7 @@ use Rattle.hip_runs.specs.declared.report.Report.{Report}
 use Rattle.hip_invariants.specs.StackShape.{have_calls}
 use Rattle.hip_runs.specs.Seen.{next_site, site_in, top_site}
 use Rattle.hip_notes.specs.CallPaths.{births_of}
-use Rattle.hip_notes.specs.Checking.{reports_told}
+use Rattle.hip_notes.specs.Checking.{reports_stated}
 use Rattle.hip_notes.specs.Noted.{AreNoted, Follows, Reported, StaySame, births_after, calls_after}
 use Rattle.hip_notes.specs.Pending.{lines_of}
 use Rattle.hip_notes.specs.Sights.{marks_ahead}
@@ -82,13 +82,13 @@ module _ (P : Program) (I : Input) (n : ℕ) (going : has_ended (run P I n) ≡ 
   -- a step with a store stands at a site, which is seen
   pub at_store : (f : Frame) (fs : List Frame) → Now.frames ≡ f ∷ fs → (a v m : ℕ) → E ≡ events.Store a v m → next_site P Now ≡ Some (site_of f)
   at_store f fs q a v m e =
-      let t : Told (events.Store a v m) (instr_of P (site_of f)) = subst (λ (x : Event). Told x (instr_of P (site_of f))) e (site_told P I Now (site_of f) (ap since.top_site q)) in
+      let t : Stated (events.Store a v m) (instr_of P (site_of f)) = subst (λ (x : Event). Stated x (instr_of P (site_of f))) e (site_stated P I Now (site_of f) (ap since.top_site q)) in
       let i = some_store (instr_of P (site_of f)) t.is in
       site_seen P Now f fs i.0 going q i.1
 
   pub at_flush : (f : Frame) (fs : List Frame) → Now.frames ≡ f ∷ fs → (line size : ℕ) → E ≡ events.Flush line size → next_site P Now ≡ Some (site_of f)
   at_flush f fs q line size e =
-      let t : Told (events.Flush line size) (instr_of P (site_of f)) = subst (λ (x : Event). Told x (instr_of P (site_of f))) e (site_told P I Now (site_of f) (ap since.top_site q)) in
+      let t : Stated (events.Flush line size) (instr_of P (site_of f)) = subst (λ (x : Event). Stated x (instr_of P (site_of f))) e (site_stated P I Now (site_of f) (ap since.top_site q)) in
       let i = some_flush (instr_of P (site_of f)) t.is in
       site_seen P Now f fs i.0 going q i.1
 
@@ -248,6 +248,6 @@ module _ (P : Program) (I : Input) (n : ℕ) (going : has_ended (run P I n) ≡ 
       go (Some range) e k =
           k.3
           ∙ ap₂ (λ (x : List Report) (y : List Report). x ++ y) (h.reports header)
-          (ap (λ i. reports_told c.births.items i c.fence c.pending.stores.items k.0.entries) count
+          (ap (λ i. reports_stated c.births.items i c.fence c.pending.stores.items k.0.entries) count
           ∙ reports_of_check P I n c.header c.pending.stores.items (lines_of c.pending.lines) h.pending range.offset range.size c.births.items c.fence (h.births) h.fence header k.0 k.1 k.2)
           ∙ ap (λ x. reports P I n ++ check_reports Now x) (e ∙ sym check)

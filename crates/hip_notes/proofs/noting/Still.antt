@@ -67,18 +67,18 @@ still_leaves events.Fence s = absurd (let z : ⊥ = cc in z)
 still_leaves (events.Assert a n) s = absurd (let z : ⊥ = cc in z)
 still_leaves (events.End x) s = absurd (let z : ⊥ = cc in z)
 
-nothing_told : (e : Event) → leaves e ≡ true → (base region : ℕ) (lines : List (Waiting Part)) (c : Notes)
+nothing_stated : (e : Event) → leaves e ≡ true → (base region : ℕ) (lines : List (Waiting Part)) (c : Notes)
     → Reported (checked_range base region e) c.births.items (c.entries + 1) c.fence c.pending lines c.reports c.reports
-nothing_told events.Quiet s base region lines c = refl
-nothing_told (events.Print z) s base region lines c = refl
-nothing_told (events.Store a v m) s base region lines c = absurd (let z : ⊥ = cc in z)
-nothing_told (events.Flush l n) s base region lines c = absurd (let z : ⊥ = cc in z)
-nothing_told (events.Persist l n) s base region lines c = absurd (let z : ⊥ = cc in z)
-nothing_told events.Fence s base region lines c = absurd (let z : ⊥ = cc in z)
-nothing_told (events.Assert a n) s base region lines c = absurd (let z : ⊥ = cc in z)
-nothing_told (events.End (Trap kind)) s base region lines c = refl
-nothing_told (events.End Cut) s base region lines c = refl
-nothing_told (events.End (Stop code)) s base region lines c = absurd (let z : ⊥ = cc in z)
+nothing_stated events.Quiet s base region lines c = refl
+nothing_stated (events.Print z) s base region lines c = refl
+nothing_stated (events.Store a v m) s base region lines c = absurd (let z : ⊥ = cc in z)
+nothing_stated (events.Flush l n) s base region lines c = absurd (let z : ⊥ = cc in z)
+nothing_stated (events.Persist l n) s base region lines c = absurd (let z : ⊥ = cc in z)
+nothing_stated events.Fence s base region lines c = absurd (let z : ⊥ = cc in z)
+nothing_stated (events.Assert a n) s base region lines c = absurd (let z : ⊥ = cc in z)
+nothing_stated (events.End (Trap kind)) s base region lines c = refl
+nothing_stated (events.End Cut) s base region lines c = refl
+nothing_stated (events.End (Stop code)) s base region lines c = absurd (let z : ⊥ = cc in z)
 
 nothing_follows : (e : Event) → leaves e ≡ true → (site : Option Site) (base : ℕ) (c : Notes) → Follows e site base c.steps (c.entries + 1) c.calls c.pending c.pending
 nothing_follows events.Quiet s site base c = (refl, λ j. refl)
@@ -136,7 +136,7 @@ pub left_noted : (P : Program) (I : Input) (n : ℕ) → has_ended (run P I n) �
 left_noted P I n going shaped c c' h left depth alike is =
     let top = first_frame (run P I n).frames (standing-frame P I n) in
     let did : Did P I c c c c c c c' (shown (run P I (suc n)).lines) I.base (length I.image) (event P I (run P I n)) (next_site P (run P I n)) (length (run P I n).frames) (length (run P I (suc n)).frames) (marks_ahead P I (run P I n)) = record {
-      told = nothing_told (event P I (run P I n)) left I.base (length I.image) (shown (run P I (suc n)).lines) c;
+      stated = nothing_stated (event P I (run P I n)) left I.base (length I.image) (shown (run P I (suc n)).lines) c;
       r1 = refl;
       follows = nothing_follows (event P I (run P I n)) left (next_site P (run P I n)) I.base c;
       r2 = refl;
@@ -172,7 +172,7 @@ calls_noted P I n going shaped c c' c'' h still calls births rest alike is =
     let top = first_frame (run P I n).frames (standing-frame P I n) in
     let same_marks : c.marks ≡ c'.marks = sym (ap (λ (x : Notes). x.marks) rest) in
     let did : Did P I c c c c' c' c' c'' (shown (run P I (suc n)).lines) I.base (length I.image) e (next_site P (run P I n)) (length (run P I n).frames) (length (run P I (suc n)).frames) (marks_ahead P I (run P I n)) = record {
-      told = nothing_told e left I.base (length I.image) (shown (run P I (suc n)).lines) c;
+      stated = nothing_stated e left I.base (length I.image) (shown (run P I (suc n)).lines) c;
       r1 = refl;
       follows = nothing_follows e left (next_site P (run P I n)) I.base c;
       r2 = refl;

@@ -43,21 +43,21 @@ unread text parse.NoMemory P h r = h
 programs : (files : List NamedFile) (name : List ℕ) (P Q : Program) → IsProgramOf (Some files) name P
     → IsProgramOf (Some files) name Q → P ≡ Q
 programs files name P Q p q =
-    let text = same_bytes (file_of files name) q.text p.text q.is_text.told p.is_text.told in
+    let text = same_bytes (file_of files name) q.text p.text q.is_text.stated p.is_text.stated in
     same_program p.text P Q p.reads (subst (λ t. Reads t Q) text q.reads)
 
 excluded : (files : List NamedFile) (name : List ℕ) (P : Program) (why : LoadRefusal)
     → IsProgramOf (Some files) name P
     → HasNoProgram (Some files) name why → ⊥
-excluded files name P loads.Missing p h = not_there (file_of files name) p.text p.is_text.told h
+excluded files name P loads.Missing p h = not_there (file_of files name) p.text p.is_text.stated h
 excluded files name P loads.TooLarge p h =
-    let text = same_bytes (file_of files name) h.text p.text h.found p.is_text.told in
+    let text = same_bytes (file_of files name) h.text p.text h.found p.is_text.stated in
     omega (arith, ap length text, h.long, p.is_text.fits)
 excluded files name P (loads.Bad (refusals.Text why)) p h =
-    let text = same_bytes (file_of files name) h.text p.text h.is_text.told p.is_text.told in
+    let text = same_bytes (file_of files name) h.text p.text h.is_text.stated p.is_text.stated in
     unread p.text why P (subst (λ t. RefusesText t why) text h.refused) p.reads
 excluded files name P (loads.Bad (refusals.Form why)) p h =
-    let text = same_bytes (file_of files name) h.text p.text h.is_text.told p.is_text.told in
+    let text = same_bytes (file_of files name) h.text p.text h.is_text.stated p.is_text.stated in
     let same = same_program p.text h.refused.0 P (subst (λ t. Reads t h.refused.0) text h.refused.1) p.reads in
     h.refused.2.unsound (subst IsSound (sym same) p.sound)
 
@@ -83,7 +83,7 @@ bad text (refusals.Form a) (refusals.Form b) p q =
 bad_files : (files : List NamedFile) (name : List ℕ) (a b : ProgramRefusal) → IsBadProgram (Some files) name a
     → IsBadProgram (Some files) name b → without_paths (loads.Bad a) ≡ without_paths (loads.Bad b)
 bad_files files name a b p q =
-    let text = same_bytes (file_of files name) p.text q.text p.is_text.told q.is_text.told in
+    let text = same_bytes (file_of files name) p.text q.text p.is_text.stated q.is_text.stated in
     bad q.text a b (subst (λ t. RefusesProgram t a) text p.refused) q.refused
 
 one_refusal : (files : List NamedFile) (name : List ℕ) (a b : LoadRefusal) → HasNoProgram (Some files) name a
@@ -93,13 +93,13 @@ one_refusal files name loads.TooLarge loads.TooLarge p q = refl
 one_refusal files name (loads.Bad a) (loads.Bad b) p q = bad_files files name a b p q
 one_refusal files name loads.Missing loads.TooLarge p q = absurd (not_there (file_of files name) q.text q.found p)
 one_refusal files name loads.TooLarge loads.Missing p q = absurd (not_there (file_of files name) p.text p.found q)
-one_refusal files name loads.Missing (loads.Bad b) p q = absurd (not_there (file_of files name) q.text q.is_text.told p)
-one_refusal files name (loads.Bad a) loads.Missing p q = absurd (not_there (file_of files name) p.text p.is_text.told q)
+one_refusal files name loads.Missing (loads.Bad b) p q = absurd (not_there (file_of files name) q.text q.is_text.stated p)
+one_refusal files name (loads.Bad a) loads.Missing p q = absurd (not_there (file_of files name) p.text p.is_text.stated q)
 one_refusal files name loads.TooLarge (loads.Bad b) p q =
-    absurd (let text = same_bytes (file_of files name) p.text q.text p.found q.is_text.told in
+    absurd (let text = same_bytes (file_of files name) p.text q.text p.found q.is_text.stated in
     omega (arith, ap length text, p.long, q.is_text.fits))
 one_refusal files name (loads.Bad a) loads.TooLarge p q =
-    absurd (let text = same_bytes (file_of files name) q.text p.text q.found p.is_text.told in
+    absurd (let text = same_bytes (file_of files name) q.text p.text q.found p.is_text.stated in
     omega (arith, ap length text, q.long, p.is_text.fits))
 
 pub loads_one : (files : List NamedFile) (name : List ℕ) → LoadsOne files name

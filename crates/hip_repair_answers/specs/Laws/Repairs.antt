@@ -121,7 +121,7 @@ reruns P I found sound valid is =
     )
 
 pub answers_runs : (Texts : Program → Input → Findings → Answer → Type 0) → Makes Texts → AnswersRuns Texts
-answers_runs Texts made files old new p t P I told loaded traced met =
+answers_runs Texts made files old new p t P I stated loaded traced met =
     let found : (f : Findings) × IsFound P I f = found_exists P I in
     let valid : IsValid P I = (header-given P _ _ I (fit_pieces true traced.bytes) traced.trace.header_is).valid in
     let done : (a : Answer) × (a.status ≡ Done)
@@ -130,10 +130,10 @@ answers_runs Texts made files old new p t P I told loaded traced met =
       done.1,
       inr (inr (inr (record {
         program = P;
-        loaded = subst (λ fs. IsProgramOf fs p P) (sym told) loaded;
+        loaded = subst (λ fs. IsProgramOf fs p P) (sym stated) loaded;
         input = I;
-        traced = subst (λ (fs : Option (List NamedFile)). IfSome fs (λ told_files. IsTraceFile told_files t P I))
-            (sym told) traced;
+        traced = subst (λ (fs : Option (List NamedFile)). IfSome fs (λ stated_files. IsTraceFile stated_files t P I))
+            (sym stated) traced;
         valid = valid;
         found = found.0;
         found_is = found.1;
@@ -177,7 +177,7 @@ reruns_are_traces P I found sound is_input valid es is =
     (valid_again P (plan_for P found) (direct P) I valid) es is
 
 pub second_repair : SecondRepair
-second_repair P I found sound is_input valid is files p t on old new told met =
+second_repair P I found sound is_input valid is files p t on old new stated met =
     let Q = repaired_for P found in
     let cured = cures P I found sound valid is in
     let later : (f : Findings) × IsFound Q I f = found_exists Q I in
@@ -189,16 +189,16 @@ second_repair P I found sound is_input valid is files p t on old new told met =
         text = show Q;
         is_text = record {
           fits = on.fits;
-          told =
-              subst (λ (fs : Option (List NamedFile)). IfSome fs (λ told_files. file_of told_files p ≡ Some (show Q)))
-              (sym told) on.text;
+          stated =
+              subst (λ (fs : Option (List NamedFile)). IfSome fs (λ stated_files. file_of stated_files p ≡ Some (show Q)))
+              (sym stated) on.text;
         };
         reads = cured.reads;
         sound = cured.sound;
       };
       input = I;
-      traced = subst (λ (fs : Option (List NamedFile)). IfSome fs (λ told_files. IsTraceFile told_files t Q I))
-          (sym told) (record {
+      traced = subst (λ (fs : Option (List NamedFile)). IfSome fs (λ stated_files. IsTraceFile stated_files t Q I))
+          (sym stated) (record {
             bytes = lines_of on.trace;
             found = on.lines;
             trace = reruns_are_traces P I found sound is_input valid on.trace on.is_trace;

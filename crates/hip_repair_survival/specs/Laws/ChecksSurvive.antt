@@ -20,15 +20,15 @@ use Rattle.hip_survival.specs.Laws.CheckedBytes.{checked_survives}
 use Rattle.hip_survival.specs.Laws.StopImage.{stop_image}
 use Rattle.hip_repair_survival.specs.Kept.{ChecksSurvive}
 
-none_behind : {A : Type 0} (xs ys : List A) → xs ++ ys ≡ [] → ys ≡ []
-none_behind [] ys e = e
-none_behind (x ∷ xs) ys e = absurd (let z : ⊥ = cc in z)
+none_past : {A : Type 0} (xs ys : List A) → xs ++ ys ≡ [] → ys ≡ []
+none_past [] ys e = e
+none_past (x ∷ xs) ys e = absurd (let z : ⊥ = cc in z)
 
 pub none_reported : (P : Program) (I : Input) → IsClean P I → (n : ℕ)
     → check_reports (run P I n) (next_check P I (run P I n)) ≡ []
 unfolding reports
 none_reported P I clean n =
-    none_behind (reports P I n) (check_reports (run P I n) (next_check P I (run P I n))) (clean (suc n))
+    none_past (reports P I n) (check_reports (run P I n) (next_check P I (run P I n))) (clean (suc n))
 
 pub clean_survives : (P : Program) → IsSound P → (I : Input) → IsValid P I → IsClean P I → ChecksSurvive P I
 clean_survives P s I v clean = record {

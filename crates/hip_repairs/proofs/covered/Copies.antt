@@ -38,17 +38,17 @@ module _ (is : List Instr) (rest : List Marked) (more : HasInserted is (instrs_o
   fence_copied true = inserted the_fence refl more
   fence_copied false = more
 
-  copied_behind : (i : Instr) (b c : Bool) → HasInserted is (instrs_of ((added_flush i b ++ added_fence c) ++ rest))
-  copied_behind (Store ty value addr align) true c = inserted (flush_of ty addr align) (flush_is_still ty addr align) (fence_copied c)
-  copied_behind (Store ty value addr align) false c = fence_copied c
-  copied_behind (Binary dest op flags width x y) b c = fence_copied c
-  copied_behind (Compare dest pred ty x y) b c = fence_copied c
-  copied_behind (Select dest test ty x y) b c = fence_copied c
-  copied_behind (Cast dest op from x to) b c = fence_copied c
-  copied_behind (Alloca dest ty align) b c = fence_copied c
-  copied_behind (Load dest ty addr align) b c = fence_copied c
-  copied_behind (Gep dest inbounds ty base indices) b c = fence_copied c
-  copied_behind (Call dest ret callee args) b c = fence_copied c
+  copied_past : (i : Instr) (b c : Bool) → HasInserted is (instrs_of ((added_flush i b ++ added_fence c) ++ rest))
+  copied_past (Store ty value addr align) true c = inserted (flush_of ty addr align) (flush_is_still ty addr align) (fence_copied c)
+  copied_past (Store ty value addr align) false c = fence_copied c
+  copied_past (Binary dest op flags width x y) b c = fence_copied c
+  copied_past (Compare dest pred ty x y) b c = fence_copied c
+  copied_past (Select dest test ty x y) b c = fence_copied c
+  copied_past (Cast dest op from x to) b c = fence_copied c
+  copied_past (Alloca dest ty align) b c = fence_copied c
+  copied_past (Load dest ty addr align) b c = fence_copied c
+  copied_past (Gep dest inbounds ty base indices) b c = fence_copied c
+  copied_past (Call dest ret callee args) b c = fence_copied c
 
 module _ (clones : List Clone) (w : Wanted) (clone : Bool) (f : ℕ) where
   body_copied : (b k : ℕ) (is : List Instr) → HasInserted is (instrs_of (repaired_body clones w clone f b k is))
@@ -56,7 +56,7 @@ module _ (clones : List Clone) (w : Wanted) (clone : Bool) (f : ℕ) where
   body_copied b k (i ∷ is) =
       let s : Site = record { function = f; block = b; index = k } in
       kept i (renamed clones i (clone || w.hoist s)) (renamed_same clones i (clone || w.hoist s))
-      (copied_behind is (repaired_body clones w clone f b (suc k) is) (body_copied b (suc k) is) i
+      (copied_past is (repaired_body clones w clone f b (suc k) is) (body_copied b (suc k) is) i
       (w.flush_after s || (clone && not (w.skip s))) (w.fence_after s || w.hoist s))
 
   block_copied : (b : ℕ) (x : Block) → IsCopy x (repaired_block clones w clone f b x)

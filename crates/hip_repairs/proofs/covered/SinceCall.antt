@@ -94,13 +94,13 @@ record Over (N g : ℕ) (c : Frame) (rest : List Frame) (fs : List Frame) : Type
   clones : N ≤ g → AllFrom N (top ∷ above)
 
 -- the one that called stands after its call
-record Behind (c : Frame) (rest : List Frame) (fs : List Frame) : Type 0 where
+record Past (c : Frame) (rest : List Frame) (fs : List Frame) : Type 0 where
   dest : Option (List ℕ)
   value : ℕ
   frames : fs ≡ with_register dest value (next c) ∷ rest
 
 module _ (Q : Program) (N g : ℕ) (c : Frame) (rest : List Frame) where
-  over_moves : (top : Frame) (above fs : List Frame) (o : Option Ending) → (N ≤ g → AllFrom N (top ∷ above)) → (N ≤ top.function → (h : ℕ) → IsCallOf Q h (instr_here Q top) → N ≤ h) → Moves Q top (above ++ next c ∷ rest) fs o → o ≡ None → Over N g c rest fs ⊎ Behind c rest fs
+  over_moves : (top : Frame) (above fs : List Frame) (o : Option Ending) → (N ≤ g → AllFrom N (top ∷ above)) → (N ≤ top.function → (h : ℕ) → IsCallOf Q h (instr_here Q top) → N ≤ h) → Moves Q top (above ++ next c ∷ rest) fs o → o ≡ None → Over N g c rest fs ⊎ Past c rest fs
   over_moves top above fs o a k ends e = absurd (let z : ⊥ = cc in z)
   over_moves top above fs o a k (goes_on f same block place) e = inl (record { top = f; above = above; frames = refl; clones = λ h. (subst (λ y. N ≤ y) (sym same) (a h).0, (a h).1) })
   over_moves top above fs o a k (jumps f same place) e = inl (record { top = f; above = above; frames = refl; clones = λ h. (subst (λ y. N ≤ y) (sym same) (a h).0, (a h).1) })
@@ -155,7 +155,7 @@ module _ (Q : Program) (I : Input) (full : (i : ℕ) → (f : Frame) × (fs : Li
     made : N ≤ g → SinceClones N j (run Q I i).lines
 
   record Back (j g : ℕ) (c : Frame) (rest : List Frame) (i : ℕ) : Type 0 where
-    after : Behind c rest (run Q I i).frames
+    after : Past c rest (run Q I i).frames
     made : N ≤ g → SinceClones N j (run Q I i).lines
 
   inside_step : (j g : ℕ) (c : Frame) (rest : List Frame) (i : ℕ) → Inside j g c rest i → (run Q I (suc i)).world.ending ≡ None → Inside j g c rest (suc i) ⊎ Back j g c rest (suc i)
@@ -225,8 +225,8 @@ module _ (Q : Program) (I : Input) (full : (i : ℕ) → (f : Frame) × (fs : Li
   unfolding run
   start_depth = refl
 
-  no_start_behind : (n : ℕ) → IsAfterCloneCall Q N (run Q I n) → AtStart (run Q I n).frames → ⊥
-  no_start_behind n after s =
+  no_start_past : (n : ℕ) → IsAfterCloneCall Q N (run Q I n) → AtStart (run Q I n).frames → ⊥
+  no_start_past n after s =
       let h = after.frames in
       let e = s.frames in
       let same : after.frame ≡ s.top = cc in
@@ -244,13 +244,13 @@ module _ (Q : Program) (I : Input) (full : (i : ℕ) → (f : Frame) × (fs : Li
   last_before n after = go (find_last (depth n) n)
     where
       deep : (m : ℕ) → m ≡ n → ((i : ℕ) → i < n → depth i ≢ depth n) → ⊥
-      deep zero e none = no_start_behind n after (subst (λ k. AtStart (run Q I k).frames) e start_at)
+      deep zero e none = no_start_past n after (subst (λ k. AtStart (run Q I k).frames) e start_at)
       deep (suc m) e none =
           let ne = none 0 (omega arith) in
           let one = start_depth in
           let some : 1 ≤ depth n = omega (arith, ap length after.frames) in
           let low : depth 0 < depth n = below ne one some in
-          no_start_behind n after (climb 0 n after.going (λ i a b. none i b) n 0 (omega arith) (omega arith) low)
+          no_start_past n after (climb 0 n after.going (λ i a b. none i b) n 0 (omega arith) (omega arith) low)
         where
           below : (depth 0 ≡ depth n → ⊥) → depth 0 ≡ 1 → 1 ≤ depth n → depth 0 < depth n
           below ne one some = omega arith
@@ -345,7 +345,7 @@ module _ (Q : Program) (I : Input) (full : (i : ℕ) → (f : Frame) × (fs : Li
       first fs o q e (returns f gs dest v k) =
           let l = last.before in
           let low : depth (suc j) < depth n = omega (arith, ap length q, ap length k, depth_n) in
-          absurd (no_start_behind n after (climb j n ok last.between (n - suc j) (suc j) (omega arith) (omega arith) low))
+          absurd (no_start_past n after (climb j n ok last.between (n - suc j) (suc j) (omega arith) (omega arith) low))
 
       pub since_call : SinceCall j n c rest after
       since_call = let l = last.before in first _ _ refl (going Q I (suc j) n (omega arith) ok) out_j.moves

@@ -24,7 +24,7 @@ use Rattle.hip_tree.specs.declared.site.Site.{Site}
 use Rattle.hip_externs.specs.Externs.{call_of}
 use Rattle.hip_names.specs.Names.{number_of}
 use Rattle.hip_sound.specs.Numbering.{function_names, function_number, name_in}
-use Rattle.hip_names.specs.Laws.NumberLaws.{number_of-first, number_of-behind, number_of-known, number_of-there}
+use Rattle.hip_names.specs.Laws.NumberLaws.{number_of-first, number_of-past, number_of-known, number_of-there}
 use Rattle.hip_sound.specs.Laws.NumberingLaws.{function_number-there}
 use Rattle.hip_sound.specs.Sound.{top_names}
 use Rattle.hip_calls.specs.Fresh.{fresh_names, name_of}
@@ -215,7 +215,7 @@ module _ (P : Program) (plan : Plan) (skip : Site → Bool) where
   pub clone_number : (k : ℕ) (name : List ℕ) → slice_get fresh k ≡ Some name → function_number (repaired P plan skip) name ≡ Some (length P.functions + k)
   clone_number k name e =
       ap (λ names. number_of names name) names_then
-      ∙ number_of-behind (function_names P.functions) fresh name k (fresh_number k name e) (not_before k name e)
+      ∙ number_of-past (function_names P.functions) fresh name k (fresh_number k name e) (not_before k name e)
       ∙ ap (λ n. Some (n + k)) (length-map P.functions (λ f. f.name))
 
   pub fresh_extern : (k : ℕ) (name : List ℕ) → slice_get fresh k ≡ Some name → call_of name ≡ None

@@ -95,9 +95,9 @@ abbrev pub steps : ℕ → List Deed → ℕ
 steps n [] = n
 steps n (d ∷ ds) = steps (suc n) ds
 
-abbrev pub told : Input → State → List Deed → List Report
-told I s [] = []
-told I s (d ∷ ds) = check_reports s (checked_by I (shown I s d)) ++ told I (done I s d) ds
+abbrev pub stated : Input → State → List Deed → List Report
+stated I s [] = []
+stated I s (d ∷ ds) = check_reports s (checked_by I (shown I s d)) ++ stated I (done I s d) ds
 
 pub run_next : (P : Program) (I : Input) (n : ℕ) (s : State) (d : Deed) → run P I n ≡ s → s.world.ending ≡ None → next_deed P I s ≡ d → run P I (suc n) ≡ done I s d
 unfolding run
@@ -116,18 +116,18 @@ unfolding reports
 reports_next P I n s d r e h =
     ap (λ (x : State). reports P I n ++ check_reports x (next_check P I x)) r ∙ ap (λ x. reports P I n ++ check_reports s x) (check_next P I s d e h)
 
-reports_all : (P : Program) (I : Input) (n : ℕ) (s : State) (ds : List Deed) → run P I n ≡ s → Follows P I s ds → reports P I (steps n ds) ≡ reports P I n ++ told I s ds
+reports_all : (P : Program) (I : Input) (n : ℕ) (s : State) (ds : List Deed) → run P I n ≡ s → Follows P I s ds → reports P I (steps n ds) ≡ reports P I n ++ stated I s ds
 reports_all P I n s [] r h = sym (append-nil _)
 reports_all P I n s (d ∷ ds) r h =
     reports_all P I (suc n) (done I s d) ds (run_next P I n s d r h.0 h.1) h.2
-    ∙ ap (λ x. x ++ told I (done I s d) ds) (reports_next P I n s d r h.0 h.1)
-    ∙ append_assoc (reports P I n) (check_reports s (checked_by I (shown I s d))) (told I (done I s d) ds)
+    ∙ ap (λ x. x ++ stated I (done I s d) ds) (reports_next P I n s d r h.0 h.1)
+    ∙ append_assoc (reports P I n) (check_reports s (checked_by I (shown I s d))) (stated I (done I s d) ds)
 
 -- a whole run from the start on
 pub run_is : (P : Program) (I : Input) (ds : List Deed) → Follows P I (start P I) ds → run P I (steps 0 ds) ≡ after_all I (start P I) ds
 unfolding run
 run_is P I ds h = run_all P I 0 (start P I) ds refl h
 
-pub reports_are : (P : Program) (I : Input) (ds : List Deed) → Follows P I (start P I) ds → reports P I (steps 0 ds) ≡ told I (start P I) ds
+pub reports_are : (P : Program) (I : Input) (ds : List Deed) → Follows P I (start P I) ds → reports P I (steps 0 ds) ≡ stated I (start P I) ds
 unfolding run reports
 reports_are P I ds h = reports_all P I 0 (start P I) ds refl h

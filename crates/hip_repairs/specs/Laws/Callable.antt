@@ -45,9 +45,9 @@ pub record IsCallable (P : Program) : Type 0 where
 abbrev pub HasNumber : List Function → List ℕ → Type 0
 HasNumber fs name = (j : ℕ) × (number_of (function_names fs) name ≡ Some j)
 
-number_behind : (f : Function) (fs : List Function) (name : List ℕ) → HasNumber fs name
+number_past : (f : Function) (fs : List Function) (name : List ℕ) → HasNumber fs name
     → HasNumber (f ∷ fs) name
-number_behind f fs name h = by_first (bytes_eq name f.name) refl
+number_past f fs name h = by_first (bytes_eq name f.name) refl
   where
     whole : (b : Bool) → bytes_eq name f.name ≡ b
         → number_of (function_names (f ∷ fs)) name ≡ cond b (Some 0)
@@ -72,7 +72,7 @@ main_number_of (f ∷ fs) h = by_first (bytes_eq f.name (codes "main")) refl h (
     by_first : (b : Bool) → bytes_eq f.name (codes "main") ≡ b → (if b then is_main f else has_main fs) ≡ true
         → (has_main fs ≡ true → HasNumber fs (codes "main")) → HasNumber (f ∷ fs) (codes "main")
     by_first true e g rest = number_first f fs (codes "main") e
-    by_first false e g rest = number_behind f fs (codes "main") (rest g)
+    by_first false e g rest = number_past f fs (codes "main") (rest g)
 
 -- ---- calls
 
@@ -99,7 +99,7 @@ function_at (f ∷ fs) name s h = by_first (bytes_eq f.name name) refl h (functi
         ≡ Some s
         → (function_of fs name ≡ Some s → HasNumber fs name) → HasNumber (f ∷ fs) name
     by_first true t g rest = number_first f fs name t
-    by_first false t g rest = number_behind f fs name (rest g)
+    by_first false t g rest = number_past f fs name (rest g)
 
 -- a declared external function is of the table
 pub of_table : (e : Extern) (name : List ℕ) → e.name ≡ name → is_of e (known_signature e.name) ≡ true

@@ -245,14 +245,14 @@ pub strict_order : IsStrictOrder
 strict_order = record {
   apart = apart;
   trans = λ a b c h g. then_before a c (before_trans a b c (is_before a b h) (is_before b c g));
-  total = λ a b. told a b (total a b);
+  total = λ a b. stated a b (total a b);
 }
   where
-    told : (a b : Site) → Before a b ⊎ ((a ≡ b) ⊎ Before b a)
+    stated : (a b : Site) → Before a b ⊎ ((a ≡ b) ⊎ Before b a)
         → (site_before a b ≡ true) ⊎ ((a ≡ b) ⊎ (site_before b a ≡ true))
-    told a b (inl h) = inl (then_before a b h)
-    told a b (inr (inl h)) = inr (inl h)
-    told a b (inr (inr h)) = inr (inr (then_before b a h))
+    stated a b (inl h) = inl (then_before a b h)
+    stated a b (inr (inl h)) = inr (inl h)
+    stated a b (inr (inr h)) = inr (inr (then_before b a h))
 
 -- ---- lists that ascend
 

@@ -77,16 +77,16 @@ module _ (skip : Site → Bool) where
   abbrev w : Wanted
   w = wanted_by no_repairs skip
 
-  nothing_behind : (s : Site) (i : Instr) → inserted_after w false s i ≡ []
-  nothing_behind s (Binary dest op flags width a b) = refl
-  nothing_behind s (Compare dest pred ty a b) = refl
-  nothing_behind s (Select dest test ty a b) = refl
-  nothing_behind s (Cast dest op from a to) = refl
-  nothing_behind s (Alloca dest ty align) = refl
-  nothing_behind s (Load dest ty addr align) = refl
-  nothing_behind s (Store ty value addr align) = refl
-  nothing_behind s (Gep dest inbounds ty base indices) = refl
-  nothing_behind s (Call dest ret callee args) = refl
+  nothing_past : (s : Site) (i : Instr) → inserted_after w false s i ≡ []
+  nothing_past s (Binary dest op flags width a b) = refl
+  nothing_past s (Compare dest pred ty a b) = refl
+  nothing_past s (Select dest test ty a b) = refl
+  nothing_past s (Cast dest op from a to) = refl
+  nothing_past s (Alloca dest ty align) = refl
+  nothing_past s (Load dest ty addr align) = refl
+  nothing_past s (Store ty value addr align) = refl
+  nothing_past s (Gep dest inbounds ty base indices) = refl
+  nothing_past s (Call dest ret callee args) = refl
 
   same_name : (clones : List Clone) (i : Instr) → renamed clones i false ≡ i
   same_name clones (Binary dest op flags width a b) = refl
@@ -104,7 +104,7 @@ module _ (skip : Site → Bool) where
     same_body f b k [] = refl
     same_body f b k (i ∷ is) =
         ap (λ ms. (renamed clones i false, false) ∷ (ms ++ repaired_body clones w false f b (suc k) is))
-        (nothing_behind (record { function = f; block = b; index = k }) i)
+        (nothing_past (record { function = f; block = b; index = k }) i)
         ∙ ap (λ j. (j, false) ∷ repaired_body clones w false f b (suc k) is) (same_name clones i)
         ∙ ap (λ ms. (i, false) ∷ ms) (same_body f b (suc k) is)
 

@@ -138,8 +138,8 @@ module _ (F X P : Type 0) (kh : Tok → Bool) (rh : Reader F X) (kf : Tok → Bo
   abbrev led_part : ℕ → Outcome F P → Outcome F (List P × Option X)
   led_part n o = on_ok o (λ p more. led p (leading_at kh rh kf rf n more))
 
-  abbrev led_behind : ℕ → X → List At → Outcome F (List P × Option X)
-  led_behind n x m = cond (next kf m) (led_part n (rf x m)) (Ok (([], Some x), m))
+  abbrev led_past : ℕ → X → List At → Outcome F (List P × Option X)
+  led_past n x m = cond (next kf m) (led_part n (rf x m)) (Ok (([], Some x), m))
 
   same_part : (n m : ℕ) (x : X) (ts : List At) (o : Outcome F P) → rf x ts ≡ o → length ts ≤ n
       → length ts ≤ m
@@ -151,7 +151,7 @@ module _ (F X P : Type 0) (kh : Tok → Bool) (rh : Reader F X) (kf : Tok → Bo
   same_head : (n m : ℕ) (ts : List At) (o : Outcome F X) → rh ts ≡ o → length ts ≤ suc n
       → length ts ≤ suc m
       → ((more : List At) → length more ≤ n → length more ≤ m → leading_at kh rh kf rf n more
-      ≡ leading_at kh rh kf rf m more) → on_ok o (led_behind n) ≡ on_ok o (led_behind m)
+      ≡ leading_at kh rh kf rf m more) → on_ok o (led_past n) ≡ on_ok o (led_past m)
   same_head n m ts (Ok x) e a b h =
       let lt = some ts x e in ap (λ (o : Outcome F (List P × Option X)). cond (next kf x.1) o
       (Ok (([], Some x.0), x.1))) (same_part n m x.0 x.1 (rf x.0 x.1) refl (omega arith) (omega arith) h)
@@ -170,7 +170,7 @@ module _ (F X P : Type 0) (kh : Tok → Bool) (rh : Reader F X) (kf : Tok → Bo
       (same_head n m ts (rh ts) refl a b (λ more c d. leading_fuel n m more c d))
 
   leaders_opened : (ts : List At) → next kh ts ≡ true
-      → leaders_at kh rh kf rf ts ≡ on_ok (rh ts) (led_behind (length ts))
+      → leaders_at kh rh kf rf ts ≡ on_ok (rh ts) (led_past (length ts))
   unfolding leading_at
   leaders_opened [] e = absurd cc
   leaders_opened (t ∷ ts) e =

@@ -90,18 +90,18 @@ module _ (F X P B : Type 0) (h : Rule F X) (rh : Reader F X) (f : X → Rule F P
   goes_empty ps x = or_empty (both (f x) (λ p. phases (ps ++ (p ∷ [])))) (R ps x)
       (both_empty (f x) _ (f_exact x).empty)
 
-  behind : (n : ℕ) (ps : List P) (x : X) (m : List At) (b : Bool) → next kf m ≡ b
+  past : (n : ℕ) (ps : List P) (x : X) (m : List At) (b : Bool) → next kf m ≡ b
       → ((p : P) (rest : List At) → length rest ≤ n
       → Exactly (phases (ps ++ (p ∷ []))) d rest (ph n (ps ++ (p ∷ [])) rest)) → length m ≤ n
       → Exactly (goes ps x) d m (cond b (on_ok (rf x m) (λ p rest. ph n (ps ++ (p ∷ [])) rest)) (rR ps x m))
-  behind n ps x m true e others le = or_left (both (f x) (λ p. phases (ps ++ (p ∷ [])))) (R ps x) d m _
+  past n ps x m true e others le = or_left (both (f x) (λ p. phases (ps ++ (p ∷ [])))) (R ps x) d m _
       (both_where F P B (f x) (λ p. phases (ps ++ (p ∷ []))) c d (f_exact x).whole
       (λ p. phases_empty (ps ++ (p ∷ [])))
       (λ p w g. phases_absent (ps ++ (p ∷ [])) w g) (λ p rest. ph n (ps ++ (p ∷ [])) rest) m (rf x m)
       (λ p rest t. others p rest (let k = (f_exact x).within m rest ((f_exact x).whole m p rest t) in omega arith))
       ((f_exact x).reads m))
       (R_absent ps x m e) (both_empty (f x) _ (f_exact x).empty m)
-  behind n ps x m false e others le =
+  past n ps x m false e others le =
       or_right (both (f x) (λ p. phases (ps ++ (p ∷ [])))) (R ps x) d m (rR ps x m) ((R_exact ps x).reads m)
       (both_absent (f x) _ m (f_absent x m e)) ((R_exact ps x).empty m)
 
@@ -118,7 +118,7 @@ module _ (F X P B : Type 0) (h : Rule F X) (rh : Reader F X) (f : X → Rule F P
   opening n ps ts true e others le = or_left (both h (goes ps)) (O ps) d ts _
       (both_where F X B h (goes ps) never d h_exact.whole (goes_empty ps) (λ x w g. absurd (never_next w g))
       (λ x m. cond (next kf m) (on_ok (rf x m) (λ p rest. ph n (ps ++ (p ∷ [])) rest)) (rR ps x m)) ts (rh ts)
-      (λ x m t. behind n ps x m (next kf m) refl others (let k = h_some ts x m t in omega arith)) (h_exact.reads ts))
+      (λ x m t. past n ps x m (next kf m) refl others (let k = h_some ts x m t in omega arith)) (h_exact.reads ts))
       (O_absent ps ts e) (both_empty h (goes ps) h_exact.empty ts)
   opening n ps ts false e others le = closing ps ts e
 
@@ -153,15 +153,15 @@ module _ (F X P B : Type 0) (h : Rule F X) (rh : Reader F X) (f : X → Rule F P
   led_parts n ps (Ok p) h = h (ps ++ (p.0 ∷ [])) p.1 ∙ led ps p.0 (leading_at kh rh kf rf n p.1)
   led_parts n ps (Err e) h = refl
 
-  led_behind : (n : ℕ) (ps : List P) (x : X) (m : List At) (b : Bool)
+  led_past : (n : ℕ) (ps : List P) (x : X) (m : List At) (b : Bool)
       → ((ps : List P) (ts : List At) → ph n ps ts ≡ on_ok (leading_at kh rh kf rf n ts) (finish ps))
       → cond b (on_ok (rf x m) (λ p rest. ph n (ps ++ (p ∷ [])) rest))
       (rR ps x m)
       ≡ on_ok (cond b (on_ok (rf x m)
       (λ p more. on_ok (leading_at kh rh kf rf n more)
       (λ q rest. Ok ((p ∷ q.0, q.1), rest)))) (Ok (([], Some x), m))) (finish ps)
-  led_behind n ps x m true h = led_parts n ps (rf x m) h
-  led_behind n ps x m false h = ap (λ (qs : List P). rR qs x m) (sym (append-nil ps))
+  led_past n ps x m true h = led_parts n ps (rf x m) h
+  led_past n ps x m false h = ap (λ (qs : List P). rR qs x m) (sym (append-nil ps))
 
   led_head : (n : ℕ) (ps : List P) (o : Outcome F X)
       → ((ps : List P) (ts : List At) → ph n ps ts ≡ on_ok (leading_at kh rh kf rf n ts) (finish ps))
@@ -169,7 +169,7 @@ module _ (F X P B : Type 0) (h : Rule F X) (rh : Reader F X) (f : X → Rule F P
       ≡ on_ok (on_ok o (λ x m. cond (next kf m)
       (on_ok (rf x m) (λ p more. on_ok (leading_at kh rh kf rf n more) (λ q rest. Ok ((p ∷ q.0, q.1), rest))))
       (Ok (([], Some x), m)))) (finish ps)
-  led_head n ps (Ok x) h = led_behind n ps x.0 x.1 (next kf x.1) h
+  led_head n ps (Ok x) h = led_past n ps x.0 x.1 (next kf x.1) h
   led_head n ps (Err e) h = refl
 
   led_here : (n : ℕ) (ps : List P) (ts : List At) (b : Bool)

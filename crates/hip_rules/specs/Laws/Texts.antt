@@ -41,10 +41,10 @@ blank_text {l = l} {t = t} {x = x} b blank p =
     }
 
 -- a part with a separator after it
-pub blank_behind : {F A : Type 0} {l : Rule F A} {c : List ℕ → Bool} {s : List ℕ} {x : A} (b : ℕ)
+pub blank_past : {F A : Type 0} {l : Rule F A} {c : List ℕ → Bool} {s : List ℕ} {x : A} (b : ℕ)
     → is_blank b ≡ true
     → Leaves c (b ∷ []) anything → IsTextOf c l s x → IsTextOf anything l (s ++ b ∷ []) x
-blank_behind {l = l} {s = s} {x = x} b blank leaves p = record {
+blank_past {l = l} {s = s} {x = x} b blank leaves p = record {
   derives = λ line rest e.
       let q = p.derives line (b ∷ rest) (leaves rest refl) in
       (line_after q.0 b, rw (append_assoc s (b ∷ []) rest, ← cut_blank q.0 b rest blank) q.1);

@@ -8,8 +8,8 @@ use Rattle.hip_runs.specs.declared.input.Input.{Input}
 use Rattle.hip_run_traces.specs.Headers.{Header, Stops, Gives, header}
 use Rattle.hip_run_traces.specs.Laws.MisfitLaws.{agree-never, no_stop}
 use Rattle.hip_run_traces.specs.Laws.TraceLaws.{one-trace, whole-trace}
-use Rattle.hip_run_traces.specs.Misfits.{kind_of, FirstDiffers, StopsAt, DiffersFromRun, MisfitBehind, IsMisfit, IsTraceOf}
-use Rattle.hip_run_traces.specs.Traces.{IsTrace, told}
+use Rattle.hip_run_traces.specs.Misfits.{kind_of, FirstDiffers, StopsAt, DiffersFromRun, MisfitPast, IsMisfit, IsTraceOf}
+use Rattle.hip_run_traces.specs.Traces.{IsTrace, stated}
 use Rattle.hip_run_traces.specs.declared.misfit.MisfitKind.{MisfitKind}
 use Rattle.hip_run_traces.specs.declared.misfit.MisfitKind.TheVariants.{Differs, Early, Extra}
 use Rattle.hip_trace.specs.Laws.TextLaws.{trap_word}
@@ -116,8 +116,8 @@ piece_same (Some x) e = by (entry_same x e)
 
 -- All pieces spell the first entries, and all entries if the file is whole.
 record Agree (whole : Bool) (ps : List (Option Entry)) (es : List Entry) : Type 0 where
-  spell : ps ≡ told (take (length ps) es)
-  all : whole ≡ true → ps ≡ told es
+  spell : ps ≡ stated (take (length ps) es)
+  all : whole ≡ true → ps ≡ stated es
 
 -- either pieces and entries first differ at some number, in some way, or they agree
 abbrev Compared : Bool → List (Option Entry) → List Entry → Type 0
@@ -160,24 +160,24 @@ NoMisfit P bytes whole = (e : ℕ) (k : MisfitKind) → IsMisfit P bytes whole e
 
 module _ (P : Program) (bytes : List ℕ) where
   made : (whole : Bool) (e : ℕ) (k : MisfitKind) (h : Header) → header P (spelled whole bytes) ≡ h
-      → MisfitBehind h P whole (spelled whole bytes) e k → IsMisfit P bytes whole e k
+      → MisfitPast h P whole (spelled whole bytes) e k → IsMisfit P bytes whole e k
   made whole e k h q m =
-      record { here = subst (λ (x : Header). MisfitBehind x P whole (spelled whole bytes) e k) (sym q) m }
+      record { here = subst (λ (x : Header). MisfitPast x P whole (spelled whole bytes) e k) (sym q) m }
 
-  behind_run : (whole : Bool) (c : ℕ) (I : Input) → header P (spelled whole bytes) ≡ Gives c I
+  past_run : (whole : Bool) (c : ℕ) (I : Input) → header P (spelled whole bytes) ≡ Gives c I
       → (ts : List Entry)
       → IsTrace P I ts → (d : (n : ℕ) × (k : MisfitKind) × FirstDiffers whole (spelled whole bytes) ts n k)
       → SomeMisfit P bytes whole
-  behind_run whole c I q ts t d = (
+  past_run whole c I q ts t d = (
     d.0 + 1,
     d.1,
     made whole (d.0 + 1) d.1 (Gives c I) q
         (record { trace = ts; is_trace = t; count = d.0; number = refl; differs = d.2 }),
   )
 
-  behind_stop : (whole : Bool) (c : ℕ) → header P (spelled whole bytes) ≡ Stops c → (p : Option Entry)
+  past_stop : (whole : Bool) (c : ℕ) → header P (spelled whole bytes) ≡ Stops c → (p : Option Entry)
       → slice_get (spelled whole bytes) c ≡ Some p → SomeMisfit P bytes whole
-  behind_stop whole c q p at = (
+  past_stop whole c q p at = (
     c + 1,
     kind_of p Differs,
     made whole (c + 1) (kind_of p Differs) (Stops c) q
@@ -197,12 +197,12 @@ module _ (P : Program) (bytes : List ℕ) where
             made true (c + 1) Early (Stops c) q
                 (refl, subst (λ (o : Option (Option Entry)). StopsAt true o Early) (sym at) (refl, refl)),
           )
-      stop c q (Some p) at = inr (behind_stop true c q p at)
+      stop c q (Some p) at = inr (past_stop true c q p at)
 
       run : (c : ℕ) (I : Input) → header P (spelled true bytes) ≡ Gives c I → (ts : List Entry)
           → IsTrace P I ts
           → Compared true (spelled true bytes) ts → ((I : Input) × IsTraceOf P bytes I) ⊎ SomeMisfit P bytes true
-      run c I q ts t (inl d) = inr (behind_run true c I q ts t d)
+      run c I q ts t (inl d) = inr (past_run true c I q ts t d)
       run c I q ts t (inr a) =
           inl (I, record { entries = c; header_is = q; trace = ts; is_trace = t; spells = a.all refl })
 
@@ -214,21 +214,21 @@ module _ (P : Program) (bytes : List ℕ) where
   pub front-decided : SomeMisfit P bytes false ⊎ NoMisfit P bytes false
   front-decided = go (header P (spelled false bytes)) refl
     where
-      behind : (h : Header) → header P (spelled false bytes) ≡ h → (e : ℕ) (k : MisfitKind)
+      past : (h : Header) → header P (spelled false bytes) ≡ h → (e : ℕ) (k : MisfitKind)
           → IsMisfit P bytes false e k
-          → MisfitBehind h P false (spelled false bytes) e k
-      behind h q e k m = subst (λ (x : Header). MisfitBehind x P false (spelled false bytes) e k) q m.here
+          → MisfitPast h P false (spelled false bytes) e k
+      past h q e k m = subst (λ (x : Header). MisfitPast x P false (spelled false bytes) e k) q m.here
 
       stop : (c : ℕ) → header P (spelled false bytes) ≡ Stops c → (o : Option (Option Entry))
           → slice_get (spelled false bytes) c ≡ o → SomeMisfit P bytes false ⊎ NoMisfit P bytes false
-      stop c q None at = inr (λ e k m. no_stop (slice_get (spelled false bytes) c) k at (behind (Stops c) q e k m).1)
-      stop c q (Some p) at = inl (behind_stop false c q p at)
+      stop c q None at = inr (λ e k m. no_stop (slice_get (spelled false bytes) c) k at (past (Stops c) q e k m).1)
+      stop c q (Some p) at = inl (past_stop false c q p at)
 
       run : (c : ℕ) (I : Input) → header P (spelled false bytes) ≡ Gives c I → (ts : List Entry)
           → IsTrace P I ts
           → Compared false (spelled false bytes) ts → SomeMisfit P bytes false ⊎ NoMisfit P bytes false
-      run c I q ts t (inl d) = inl (behind_run false c I q ts t d)
-      run c I q ts t (inr a) = inr (λ e k m. never (behind (Gives c I) q e k m))
+      run c I q ts t (inl d) = inl (past_run false c I q ts t d)
+      run c I q ts t (inr a) = inr (λ e k m. never (past (Gives c I) q e k m))
         where
           never : {e : ℕ} {k : MisfitKind} → DiffersFromRun P I false (spelled false bytes) e k → ⊥
           never {k = k} d =

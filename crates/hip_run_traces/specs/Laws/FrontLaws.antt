@@ -68,12 +68,12 @@ splits_alike (b ∷ bs) rest = go (is_separator b) (splits_alike bs rest)
         }
     go false h = onto h.same h.last h.more h.rest (parts bs) (parts (bs ++ rest)) h.front_is h.whole_is
 
-counted_behind : (whole : Bool) (same : List (List ℕ)) (p : List ℕ) (ps : List (List ℕ))
+counted_past : (whole : Bool) (same : List (List ℕ)) (p : List ℕ) (ps : List (List ℕ))
     → counted whole (same ++ p ∷ ps) ≡ same ++ counted whole (p ∷ ps)
-counted_behind whole [] p ps = refl
-counted_behind whole (s ∷ []) p ps = refl
-counted_behind whole (s ∷ t ∷ ss) p ps =
-    ap (λ (qs : List (List ℕ)). s ∷ qs) (counted_behind whole (t ∷ ss) p ps)
+counted_past whole [] p ps = refl
+counted_past whole (s ∷ []) p ps = refl
+counted_past whole (s ∷ t ∷ ss) p ps =
+    ap (λ (qs : List (List ℕ)). s ∷ qs) (counted_past whole (t ∷ ss) p ps)
 
 map_append : (xs ys : List (List ℕ)) → map entry_of (xs ++ ys) ≡ map entry_of xs ++ map entry_of ys
 map_append [] ys = refl
@@ -118,14 +118,14 @@ front_spelled whole front rest = go (splits_alike front rest)
             ++ map entry_of (counted whole ((h.last ++ h.more) ∷ h.rest))
         wholes =
             ap (λ (ps : List (List ℕ)). map entry_of (counted whole ps)) h.whole_is
-            ∙ ap (map entry_of) (counted_behind whole h.same (h.last ++ h.more) h.rest)
+            ∙ ap (map entry_of) (counted_past whole h.same (h.last ++ h.more) h.rest)
             ∙ map_append h.same (counted whole ((h.last ++ h.more) ∷ h.rest))
 
         fronts : (b : Bool) → nat_lt 256 (length h.last) ≡ b
             → spelled false front ≡ map entry_of h.same ++ map entry_of (if b then h.last ∷ [] else [])
         fronts b q =
             ap (λ (ps : List (List ℕ)). map entry_of (counted false ps)) h.front_is
-            ∙ ap (map entry_of) (counted_behind false h.same h.last [])
+            ∙ ap (map entry_of) (counted_past false h.same h.last [])
             ∙ map_append h.same (counted false (h.last ∷ []))
             ∙ ap (λ (t : Bool). map entry_of h.same ++ map entry_of (if t then h.last ∷ [] else [])) q
 

@@ -15,11 +15,11 @@ use Rattle.hip_runs.specs.Step.{header_entries, some_byte}
 use Rattle.hip_runs.specs.Validity.{IsInput, IsValid}
 use Rattle.hip_runs.specs.declared.input.Input.{Input}
 use Rattle.hip_runs.specs.declared.limits.TheConstants.{MOST_NUMBERS, MOST_TURNS}
-use Rattle.hip_run_traces.specs.Headers.{Gives, valid_limit, is_empty, valid_base, is_next_line, with_number, with_line, with_entry, filled, go_on, header_from, behind_register, behind_start, header}
+use Rattle.hip_run_traces.specs.Headers.{Gives, valid_limit, is_empty, valid_base, is_next_line, with_number, with_line, with_entry, filled, go_on, header_from, past_register, past_start, header}
 use Rattle.hip_run_traces.specs.Laws.HeaderLaws.{whole_lines}
 use Rattle.hip_run_traces.specs.Laws.LineLaws.{lines_append, no_lines}
 use Rattle.hip_run_traces.specs.Laws.TraceLaws.{length-header_of}
-use Rattle.hip_run_traces.specs.Traces.{header_of, image_entries, told}
+use Rattle.hip_run_traces.specs.Traces.{header_of, image_entries, stated}
 use Rattle.hip_trace.specs.Laws.FitLaws.{spelled_fits}
 use Rattle.hip_trace.specs.Entries.{entry_of}
 use Rattle.hip_trace.specs.Fits.{IsLine, ValuesFit}
@@ -224,7 +224,7 @@ record IsGiven (P : Program) (J F : Input) (c h : ℕ) (es : List (Option Entry)
   limit : F.limit ≡ J.limit
   entries : List Entry
   rest : List (Option Entry)
-  split : es ≡ told entries ++ rest
+  split : es ≡ stated entries ++ rest
   all : so_far F ≡ so_far J ++ entries
   count : h ≡ c + length entries
 
@@ -350,14 +350,14 @@ pub record IsHeader (P : Program) (es : List (Option Entry)) (h : ℕ) (F : Inpu
   pub valid : IsValid P F
   pub count : h ≡ header_entries F
   pub rest : List (Option Entry)
-  pub split : es ≡ told (header_of F) ++ rest
+  pub split : es ≡ stated (header_of F) ++ rest
 
-behind : (P : Program) (limit base : ℕ) (es : List (Option Entry)) (h : ℕ) (F : Input) → limit ≤ MOST_TURNS
+past : (P : Program) (limit base : ℕ) (es : List (Option Entry)) (h : ℕ) (F : Input) → limit ≤ MOST_TURNS
     → IsBase base
     → FitAll es → header_from P (record { base = base; image = []; numbers = []; limit = limit }) 2 es ≡ Gives h F
     → IsHeader P (Some (Start limit) ∷ Some (Register base (region_size P)) ∷ es) h F
 unfolding header_of
-behind P limit base es h F few good fits q =
+past P limit base es h F few good fits q =
     let J : Input = record { base = base; image = []; numbers = []; limit = limit } in
     let r =
     given_from P es J F 2 h fits (record {
@@ -385,7 +385,7 @@ behind P limit base es h F few good fits q =
       rest = r.rest;
       split =
           ap (λ (xs : List (Option Entry)). Some (Start limit) ∷ Some (Register base (region_size P)) ∷ xs) r.split
-          ∙ ap (λ (xs : List Entry). told xs ++ r.rest) (sym top);
+          ∙ ap (λ (xs : List Entry). stated xs ++ r.rest) (sym top);
     }
 
 pub header-given : (P : Program) (es : List (Option Entry)) (h : ℕ) (F : Input) → FitAll es
@@ -397,23 +397,23 @@ header-given P (e ∷ es) h F fits q = first (valid_limit e) refl q
   where
     second : (limit : ℕ) (d : Option Entry) (ds : List (Option Entry)) → limit ≤ MOST_TURNS → FitAll ds
         → (o : Option ℕ)
-        → valid_base P d ≡ o → behind_register P limit ds o ≡ Gives h F
+        → valid_base P d ≡ o → past_register P limit ds o ≡ Gives h F
         → IsHeader P (Some (Start limit) ∷ d ∷ ds) h F
     second limit d ds few fit None k q = absurd (let z : ⊥ = cc in z)
     second limit d ds few fit (Some base) k q =
         let b = base_of P d base k in
         subst (λ (x : Option Entry). IsHeader P (Some (Start limit) ∷ x ∷ ds) h F) (sym b.0)
-        (behind P limit base ds h F few b.1 fit q)
+        (past P limit base ds h F few b.1 fit q)
 
     after : (limit : ℕ) (ds : List (Option Entry)) → limit ≤ MOST_TURNS → FitAll ds
-        → behind_start P ds (Some limit) ≡ Gives h F → IsHeader P (Some (Start limit) ∷ ds) h F
+        → past_start P ds (Some limit) ≡ Gives h F → IsHeader P (Some (Start limit) ∷ ds) h F
     after limit [] few fit q = absurd (let z : ⊥ = cc in z)
     after limit (d ∷ ds) few fit q = second limit d ds few fit.1 (valid_base P d) refl q
 
-    first : (o : Option ℕ) → valid_limit e ≡ o → behind_start P es o ≡ Gives h F → IsHeader P (e ∷ es) h F
+    first : (o : Option ℕ) → valid_limit e ≡ o → past_start P es o ≡ Gives h F → IsHeader P (e ∷ es) h F
     first None k q = absurd (none es q)
       where
-        none : (ds : List (Option Entry)) → behind_start P ds None ≡ Gives h F → ⊥
+        none : (ds : List (Option Entry)) → past_start P ds None ≡ Gives h F → ⊥
         none [] r = let z : ⊥ = cc in z
         none (d ∷ ds) r = let z : ⊥ = cc in z
     first (Some limit) k q =

@@ -17,9 +17,9 @@ use Rattle.hip_runs.specs.declared.event.Event.{Event}
 use Rattle.hip_runs.specs.declared.event.Event.TheVariants as events
 use Rattle.hip_runs.specs.declared.input.Input.{Input}
 use Rattle.hip_runs.specs.declared.limits.TheConstants.{MOST_NUMBERS, MOST_TURNS}
-use Rattle.hip_run_traces.specs.Headers.{Gives, valid_limit, valid_base, is_next_line, with_number, with_line, with_entry, filled, go_on, header_from, behind_register, behind_start, header}
+use Rattle.hip_run_traces.specs.Headers.{Gives, valid_limit, valid_base, is_next_line, with_number, with_line, with_entry, filled, go_on, header_from, past_register, past_start, header}
 use Rattle.hip_run_traces.specs.Laws.LineLaws.{no_byte, zeros-add}
-use Rattle.hip_run_traces.specs.Traces.{entry_of_ending, entry_of_event, entry_list, header_of, image_entries, next_entries, trace, told}
+use Rattle.hip_run_traces.specs.Traces.{entry_of_ending, entry_of_event, entry_list, header_of, image_entries, next_entries, trace, stated}
 use Rattle.hip_trace.specs.declared.entry.Entry.{Entry}
 use Rattle.hip_trace.specs.declared.entry.Entry.TheVariants.{Start, Register, Input as Number, Image}
 
@@ -54,9 +54,9 @@ ends_append P [] fs h k = k
 ends_append P (e ∷ es) fs h k = record { is = h.is }
 
 ends_there : (P : Program) (J : Input) (c : ℕ) (es : List Entry) → EndsHeader P es
-    → header_from P J c (told es) ≡ Gives c (filled P J)
+    → header_from P J c (stated es) ≡ Gives c (filled P J)
 ends_there P J c [] h = refl
-ends_there P J c (e ∷ es) h = ap (go_on P J c (λ more. header_from P more (suc c) (told es))) (h.is J)
+ends_there P J c (e ∷ es) h = ap (go_on P J c (λ more. header_from P more (suc c) (stated es))) (h.is J)
 
 -- the entries of a run's steps, after its header
 record StepsOf (P : Program) (I : Input) (n : ℕ) : Type 0 where
@@ -97,7 +97,7 @@ module _ (P : Program) (base limit : ℕ) (numbers : List ℤ) where
   lines_read : (n addr g c : ℕ) (A bytes : List ℕ) (rest : List Entry) → EndsHeader P rest
       → length bytes ≡ 64 * n
       → base + region_size P ≡ addr + 64 * n → addr ≡ base + length A + g
-      → header_from P (front A) c (told (image_entries n addr bytes ++ rest))
+      → header_from P (front A) c (stated (image_entries n addr bytes ++ rest))
       ≡ Gives (c + image_lines n bytes) (front (A ++ (zeros g ++ bytes)))
   lines_read zero addr g c A [] rest ends len fits at =
       let m : region_size P - length A ≡ g = omega (arith, fits, at) in
@@ -113,9 +113,9 @@ module _ (P : Program) (base limit : ℕ) (numbers : List ℤ) where
     where
       go : (b : Bool) → some_byte (take 64 bytes) ≡ b
           → ((more count : ℕ) (image : List ℕ) → addr + 64 ≡ base + length image + more
-          → header_from P (front image) count (told (image_entries n (addr + 64) (drop 64 bytes) ++ rest))
+          → header_from P (front image) count (stated (image_entries n (addr + 64) (drop 64 bytes) ++ rest))
           ≡ Gives (count + image_lines n (drop 64 bytes)) (front (image ++ (zeros more ++ drop 64 bytes))))
-          → header_from P (front A) c (told (((if b then Image addr (take 64 bytes) ∷ [] else [])
+          → header_from P (front A) c (stated (((if b then Image addr (take 64 bytes) ∷ [] else [])
           ++ image_entries n (addr + 64) (drop 64 bytes)) ++ rest))
           ≡ Gives (c + (cond b 1 0 + image_lines n (drop 64 bytes))) (front (A ++ (zeros g ++ bytes)))
       go false q ih =
@@ -151,7 +151,7 @@ module _ (P : Program) (base limit : ℕ) (numbers : List ℤ) where
           ∙ ap (λ (zs : List ℕ). A ++ (zeros g ++ zs)) (take-append-drop 64 bytes) in
           let count : suc c + image_lines n (drop 64 bytes) ≡ c + (1 + image_lines n (drop 64 bytes)) = omega arith in
           ap (go_on P (front A) c (λ more. header_from P more (suc c)
-          (told (image_entries n (addr + 64) (drop 64 bytes) ++ rest)))) read
+          (stated (image_entries n (addr + 64) (drop 64 bytes) ++ rest)))) read
           ∙ ih 0 (suc c) (A ++ (zeros g ++ take 64 bytes)) (omega (arith, at, long, longer, zeroed, taken))
           ∙ ap (λ (zs : List ℕ). Gives (suc c + image_lines n (drop 64 bytes)) (front zs)) image
           ∙ ap (λ (j : ℕ). Gives j (front (A ++ (zeros g ++ bytes)))) count
@@ -163,23 +163,23 @@ module _ (P : Program) (base limit : ℕ) where
   numbered ns = record { base = base; image = []; numbers = ns; limit = limit }
 
   numbers_read : (zs ns : List ℤ) (c : ℕ) (es : List Entry) → length ns + length zs ≤ MOST_NUMBERS
-      → header_from P (numbered ns) c (told (map (λ z. Number z) zs ++ es))
-      ≡ header_from P (numbered (ns ++ zs)) (c + length zs) (told es)
+      → header_from P (numbered ns) c (stated (map (λ z. Number z) zs ++ es))
+      ≡ header_from P (numbered (ns ++ zs)) (c + length zs) (stated es)
   numbers_read [] ns c es few =
       let same : c ≡ c + 0 = omega arith in
-      ap (λ (ms : List ℤ). header_from P (numbered ms) c (told es)) (sym (append-nil ns))
-      ∙ ap (λ (j : ℕ). header_from P (numbered (ns ++ [])) j (told es)) same
+      ap (λ (ms : List ℤ). header_from P (numbered ms) c (stated es)) (sym (append-nil ns))
+      ∙ ap (λ (j : ℕ). header_from P (numbered (ns ++ [])) j (stated es)) same
   numbers_read (z ∷ zs) ns c es few =
       let room : nat_lt (length ns) MOST_NUMBERS ≡ true = true_lt (length ns) MOST_NUMBERS (omega (arith, few)) in
       let read : with_number (numbered ns) z ≡ Some (numbered (ns ++ z ∷ [])) =
       ap (λ (t : Bool). if t then Some (numbered (ns ++ z ∷ [])) else None) room in
       let long = length-append ns (z ∷ []) in
       let count : suc c + length zs ≡ c + length (z ∷ zs) = omega arith in
-      ap (go_on P (numbered ns) c (λ more. header_from P more (suc c) (told (map (λ y. Number y) zs ++ es)))) read
+      ap (go_on P (numbered ns) c (λ more. header_from P more (suc c) (stated (map (λ y. Number y) zs ++ es)))) read
       ∙ numbers_read zs (ns ++ z ∷ []) (suc c) es (omega (arith, long, few))
-      ∙ ap (λ (ms : List ℤ). header_from P (numbered ms) (suc c + length zs) (told es))
+      ∙ ap (λ (ms : List ℤ). header_from P (numbered ms) (suc c + length zs) (stated es))
       (append_assoc ns (z ∷ []) zs)
-      ∙ ap (λ (j : ℕ). header_from P (numbered (ns ++ z ∷ zs)) j (told es)) count
+      ∙ ap (λ (j : ℕ). header_from P (numbered (ns ++ z ∷ zs)) j (stated es)) count
 
 -- ---- the whole header
 
@@ -198,17 +198,17 @@ module _ (P : Program) (I : Input) (valid : IsValid P I) where
       (true_both base_passes (eq-eqb (length I.image) (region_size P) valid.image))
 
   read_back : (rest : List Entry) → EndsHeader P rest
-      → header P (told (header_of I ++ rest)) ≡ Gives (header_entries I) I
+      → header P (stated (header_of I ++ rest)) ≡ Gives (header_entries I) I
   unfolding header header_of
   read_back rest ends =
       let whole : length I.image % 64 ≡ 0 = ap (λ n. n % 64) valid.image ∙ whole_lines (end_of true 0 P.globals) in
       let len : length I.image ≡ 64 * (length I.image / 64) = omega (arith, whole) in
-      ap (behind_start P (told (Register I.base (length I.image)
+      ap (past_start P (stated (Register I.base (length I.image)
       ∷ ((map (λ z. Number z) I.numbers ++ image_entries (length I.image / 64) I.base I.image) ++ rest))))
       limit_read
-      ∙ ap (behind_register P I.limit (told ((map (λ z. Number z) I.numbers
+      ∙ ap (past_register P I.limit (stated ((map (λ z. Number z) I.numbers
       ++ image_entries (length I.image / 64) I.base I.image) ++ rest))) base_read
-      ∙ ap (λ (es : List Entry). header_from P (numbered P I.base I.limit []) 2 (told es))
+      ∙ ap (λ (es : List Entry). header_from P (numbered P I.base I.limit []) 2 (stated es))
       (append_assoc (map (λ z. Number z) I.numbers) (image_entries (length I.image / 64) I.base I.image) rest)
       ∙ numbers_read P I.base I.limit I.numbers [] 2 (image_entries (length I.image / 64) I.base I.image ++ rest)
       (omega (arith, valid.numbers))
@@ -217,6 +217,6 @@ module _ (P : Program) (I : Input) (valid : IsValid P I) where
       (omega arith)
       ∙ ap (λ (zs : List ℕ). Gives (header_entries I) (front P I.base I.limit I.numbers (zs ++ I.image))) no_zeros
 
-  pub header-trace : (n : ℕ) → header P (told (trace P I n)) ≡ Gives (header_entries I) I
+  pub header-trace : (n : ℕ) → header P (stated (trace P I n)) ≡ Gives (header_entries I) I
   header-trace n =
-      let h = steps_of P I n in ap (λ (es : List Entry). header P (told es)) h.split ∙ read_back h.steps h.ends
+      let h = steps_of P I n in ap (λ (es : List Entry). header P (stated es)) h.split ∙ read_back h.steps h.ends

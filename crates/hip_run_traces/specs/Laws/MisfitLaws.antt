@@ -6,13 +6,13 @@ use Rattle.hip_tree.specs.declared.program.Program.{Program}
 use Rattle.hip_runs.specs.Step.{header_entries}
 use Rattle.hip_runs.specs.Validity.{IsValid}
 use Rattle.hip_runs.specs.declared.input.Input.{Input}
-use Rattle.hip_run_traces.specs.Headers.{Header, Stops, Gives, valid_limit, valid_base, with_entry, go_on, header_from, behind_register, behind_start, header}
+use Rattle.hip_run_traces.specs.Headers.{Header, Stops, Gives, valid_limit, valid_base, with_entry, go_on, header_from, past_register, past_start, header}
 use Rattle.hip_run_traces.specs.Laws.FrontLaws.{front_spelled}
 use Rattle.hip_run_traces.specs.Laws.GivenLaws.{fit_pieces, header-given}
 use Rattle.hip_run_traces.specs.Laws.HeaderLaws.{header-trace}
 use Rattle.hip_run_traces.specs.Laws.TraceLaws.{length-header_of, one-trace, whole-front, whole-trace}
-use Rattle.hip_run_traces.specs.Misfits.{DiffersAt, FirstDiffers, StopsAt, DiffersFromRun, MisfitBehind, IsMisfit, IsTraceOf}
-use Rattle.hip_run_traces.specs.Traces.{header_of, trace, IsTrace, told}
+use Rattle.hip_run_traces.specs.Misfits.{DiffersAt, FirstDiffers, StopsAt, DiffersFromRun, MisfitPast, IsMisfit, IsTraceOf}
+use Rattle.hip_run_traces.specs.Traces.{header_of, trace, IsTrace, stated}
 use Rattle.hip_run_traces.specs.declared.misfit.MisfitKind.{MisfitKind}
 use Rattle.hip_trace.specs.Pieces.{spelled}
 use Rattle.hip_trace.specs.declared.entry.Entry.{Entry}
@@ -40,13 +40,13 @@ take_appended xs ys zero le = refl
 take_appended [] ys (suc k) le = absurd (omega (arith, le))
 take_appended (x ∷ xs) ys (suc k) le = ap (λ zs. x ∷ zs) (take_appended xs ys k (omega (arith, le)))
 
-get_told : (es : List Entry) (k : ℕ) → slice_get (told es) k ≡ option_map (λ e. Some e) (slice_get es k)
-get_told [] k = refl
-get_told (e ∷ es) zero = refl
-get_told (e ∷ es) (suc k) = get_told es k
+get_stated : (es : List Entry) (k : ℕ) → slice_get (stated es) k ≡ option_map (λ e. Some e) (slice_get es k)
+get_stated [] k = refl
+get_stated (e ∷ es) zero = refl
+get_stated (e ∷ es) (suc k) = get_stated es k
 
 -- if the pieces spell the first entries, they spell each of them
-spelled_at : (ps : List (Option Entry)) (es : List Entry) (n k : ℕ) → k < n → take n ps ≡ told (take n es)
+spelled_at : (ps : List (Option Entry)) (es : List Entry) (n k : ℕ) → k < n → take n ps ≡ stated (take n es)
     → slice_get ps k ≡ option_map (λ e. Some e) (slice_get es k)
 spelled_at ps es zero k lt h = absurd (omega (arith, lt))
 spelled_at [] [] (suc n) k lt h = refl
@@ -54,7 +54,7 @@ spelled_at [] (e ∷ es) (suc n) k lt h = absurd (let z : ⊥ = cc in z)
 spelled_at (p ∷ ps) [] (suc n) k lt h = absurd (let z : ⊥ = cc in z)
 spelled_at (p ∷ ps) (e ∷ es) (suc n) zero lt h = let z : p ≡ Some e = cc in ap (λ (o : Option Entry). Some o) z
 spelled_at (p ∷ ps) (e ∷ es) (suc n) (suc k) lt h =
-    let z : take n ps ≡ told (take n es) = cc in spelled_at ps es n k (omega (arith, lt)) z
+    let z : take n ps ≡ stated (take n es) = cc in spelled_at ps es n k (omega (arith, lt)) z
 
 -- ---- one difference
 
@@ -72,7 +72,7 @@ one_kind whole (Some p) (Some e) k k' h g = h.1 ∙ sym g.1
 
 -- no difference comes before the end of the spelled entries
 not_before : (whole : Bool) (ps : List (Option Entry)) (es : List Entry) (c n : ℕ) (kind : MisfitKind)
-    → FirstDiffers whole ps es c kind → take n ps ≡ told (take n es) → c < n → ⊥
+    → FirstDiffers whole ps es c kind → take n ps ≡ stated (take n es) → c < n → ⊥
 not_before whole ps es c n kind d h lt =
     same_differs whole (slice_get es c) kind (subst
     (λ (p : Option (Option Entry)). DiffersAt whole p (slice_get es c) kind) (spelled_at ps es n c lt h) d.here)
@@ -98,10 +98,10 @@ one_stop : (whole : Bool) (p : Option (Option Entry)) (k k' : MisfitKind) → St
 one_stop whole None k k' h g = h.1 ∙ sym g.1
 one_stop whole (Some p) k k' h g = h ∙ sym g
 
-one_behind : (P : Program) (whole : Bool) (ps : List (Option Entry)) (h : Header) (e e' : ℕ) (k k' : MisfitKind)
-    → MisfitBehind h P whole ps e k → MisfitBehind h P whole ps e' k' → (e ≡ e') × (k ≡ k')
-one_behind P whole ps (Stops c) e e' k k' m m' = (m.0 ∙ sym m'.0, one_stop whole (slice_get ps c) k k' m.1 m'.1)
-one_behind P whole ps (Gives c I) e e' k k' m m' =
+one_past : (P : Program) (whole : Bool) (ps : List (Option Entry)) (h : Header) (e e' : ℕ) (k k' : MisfitKind)
+    → MisfitPast h P whole ps e k → MisfitPast h P whole ps e' k' → (e ≡ e') × (k ≡ k')
+one_past P whole ps (Stops c) e e' k k' m m' = (m.0 ∙ sym m'.0, one_stop whole (slice_get ps c) k k' m.1 m'.1)
+one_past P whole ps (Gives c I) e e' k k' m m' =
     let both =
     one_first whole ps m.trace m.count m'.count k k' m.differs
     (subst (λ (es : List Entry). FirstDiffers whole ps es m'.count k')
@@ -111,23 +111,23 @@ one_behind P whole ps (Gives c I) e e' k k' m m' =
 pub one-misfit : (P : Program) (bytes : List ℕ) (whole : Bool) (e e' : ℕ) (k k' : MisfitKind)
     → IsMisfit P bytes whole e k → IsMisfit P bytes whole e' k' → (e ≡ e') × (k ≡ k')
 one-misfit P bytes whole e e' k k' m m' =
-    one_behind P whole (spelled whole bytes) (header P (spelled whole bytes)) e e' k k' m.here m'.here
+    one_past P whole (spelled whole bytes) (header P (spelled whole bytes)) e e' k k' m.here m'.here
 
 -- ---- a run's trace has none
 
-take_told : (n : ℕ) (es : List Entry) → take n (told es) ≡ told (take n es)
-take_told zero es = refl
-take_told (suc n) [] = refl
-take_told (suc n) (e ∷ es) = ap (λ (ps : List (Option Entry)). Some e ∷ ps) (take_told n es)
+take_stated : (n : ℕ) (es : List Entry) → take n (stated es) ≡ stated (take n es)
+take_stated zero es = refl
+take_stated (suc n) [] = refl
+take_stated (suc n) (e ∷ es) = ap (λ (ps : List (Option Entry)). Some e ∷ ps) (take_stated n es)
 
 pub no-misfit : (P : Program) (bytes : List ℕ) (I : Input) (e : ℕ) (kind : MisfitKind) → IsTraceOf P bytes I
     → IsMisfit P bytes true e kind → ⊥
 no-misfit P bytes I e kind t m =
-    let d = subst (λ (h : Header). MisfitBehind h P true (spelled true bytes) e kind) t.header_is m.here in
+    let d = subst (λ (h : Header). MisfitPast h P true (spelled true bytes) e kind) t.header_is m.here in
     let same = one-trace P I d.trace t.trace d.is_trace t.is_trace in
-    let spells : spelled true bytes ≡ told d.trace = t.spells ∙ ap told (sym same) in
+    let spells : spelled true bytes ≡ stated d.trace = t.spells ∙ ap stated (sym same) in
     not_before true (spelled true bytes) d.trace d.count (suc d.count) kind d.differs
-    (ap (take (suc d.count)) spells ∙ take_told (suc d.count) d.trace) (omega arith)
+    (ap (take (suc d.count)) spells ∙ take_stated (suc d.count) d.trace) (omega arith)
 
 -- ---- a misfit follows the header
 
@@ -137,7 +137,7 @@ trace_zero P I = refl
 
 not_in : (P : Program) (whole : Bool) (ps : List (Option Entry)) (I : Input) (h e : ℕ) (kind : MisfitKind)
     (d : DiffersFromRun P I whole ps e kind) → h ≡ header_entries I → (rest : List (Option Entry))
-    → ps ≡ told (header_of I) ++ rest → (more : List Entry) → d.trace ≡ header_of I ++ more → h ≤ d.count
+    → ps ≡ stated (header_of I) ++ rest → (more : List Entry) → d.trace ≡ header_of I ++ more → h ≤ d.count
 not_in P whole ps I h e kind d count rest split more begins = go (order d.count h)
   where
     order : (a b : ℕ) → (a < b) ⊎ (b ≤ a)
@@ -146,16 +146,16 @@ not_in P whole ps I h e kind d count rest split more begins = go (order d.count 
     long : length (header_of I) ≡ h
     long = length-header_of I ∙ sym count
 
-    told_long : (es : List Entry) → length (told es) ≡ length es
-    told_long [] = refl
-    told_long (x ∷ es) = ap suc (told_long es)
+    stated_long : (es : List Entry) → length (stated es) ≡ length es
+    stated_long [] = refl
+    stated_long (x ∷ es) = ap suc (stated_long es)
 
-    first : take h ps ≡ told (take h d.trace)
+    first : take h ps ≡ stated (take h d.trace)
     first =
-        let len = told_long (header_of I) in
-        ap (take h) split ∙ take_appended (told (header_of I)) rest h (omega (arith, len, long))
-        ∙ take_told h (header_of I)
-        ∙ ap told (sym (take_appended (header_of I) more h (omega (arith, long))) ∙ ap (take h) (sym begins))
+        let len = stated_long (header_of I) in
+        ap (take h) split ∙ take_appended (stated (header_of I)) rest h (omega (arith, len, long))
+        ∙ take_stated h (header_of I)
+        ∙ ap stated (sym (take_appended (header_of I) more h (omega (arith, long))) ∙ ap (take h) (sym begins))
 
     go : (d.count < h) ⊎ (h ≤ d.count) → h ≤ d.count
     go (inl lt) = absurd (not_before whole ps d.trace d.count h kind d.differs first lt)
@@ -171,17 +171,17 @@ after_header P whole bytes I h e kind q d =
     not_in P whole (spelled whole bytes) I h e kind d given.count given.rest given.split front.0
     (front.1 ∙ ap (λ (es : List Entry). es ++ front.0) (trace_zero P I))
 
-pub behind-header : (P : Program) (bytes : List ℕ) (whole : Bool) (I : Input) (h e : ℕ) (kind : MisfitKind)
+pub past-header : (P : Program) (bytes : List ℕ) (whole : Bool) (I : Input) (h e : ℕ) (kind : MisfitKind)
     → IsMisfit P bytes whole e kind → header P (spelled whole bytes) ≡ Gives h I → h < e
-behind-header P bytes whole I h e kind m q =
-    let d = subst (λ (x : Header). MisfitBehind x P whole (spelled whole bytes) e kind) q m.here in
+past-header P bytes whole I h e kind m q =
+    let d = subst (λ (x : Header). MisfitPast x P whole (spelled whole bytes) e kind) q m.here in
     let le = after_header P whole bytes I h e kind q d in
     let number = d.number in
     omega (arith, le, number)
 
 -- ---- the first bytes decide
 
-no_start : (P : Program) (es : List (Option Entry)) → behind_start P es None ≡ Stops 0
+no_start : (P : Program) (es : List (Option Entry)) → past_start P es None ≡ Stops 0
 no_start P [] = refl
 no_start P (e ∷ es) = refl
 
@@ -207,15 +207,15 @@ stops_front P (x ∷ xs) ys c p q e = first (valid_limit x) xs q e
     one : (n : ℕ) → Stops 1 ≡ Stops n → 1 ≡ n
     one n r = cc
 
-    second : (limit : ℕ) (ws : List (Option Entry)) (o : Option ℕ) → behind_register P limit ws o ≡ Stops c
-        → behind_register P limit (ws ++ ys) o ≡ Stops c
+    second : (limit : ℕ) (ws : List (Option Entry)) (o : Option ℕ) → past_register P limit ws o ≡ Stops c
+        → past_register P limit (ws ++ ys) o ≡ Stops c
     second limit ws None r = r
     second limit ws (Some base) r =
         absurd (gives_not P ws (record { base = base; image = []; numbers = []; limit = limit }) 2 c r)
 
-    first : (o : Option ℕ) (zs : List (Option Entry)) → behind_start P zs o ≡ Stops c
+    first : (o : Option ℕ) (zs : List (Option Entry)) → past_start P zs o ≡ Stops c
         → slice_get (x ∷ zs) c ≡ Some p
-        → behind_start P (zs ++ ys) o ≡ Stops c
+        → past_start P (zs ++ ys) o ≡ Stops c
     first None zs r g = no_start P (zs ++ ys) ∙ sym (no_start P zs) ∙ r
     first (Some limit) [] r g =
         absurd (let same : 1 ≡ c = one c r in let there : slice_get (x ∷ []) 1
@@ -243,14 +243,14 @@ unfolding header
 gives_front P [] ys h F q lt = absurd (let z : ⊥ = cc in z)
 gives_front P (x ∷ xs) ys h F q lt = first (valid_limit x) xs q lt
   where
-    second : (limit : ℕ) (ws : List (Option Entry)) (o : Option ℕ) → behind_register P limit ws o ≡ Gives h F
-        → h < 2 + length ws → behind_register P limit (ws ++ ys) o ≡ Gives h F
+    second : (limit : ℕ) (ws : List (Option Entry)) (o : Option ℕ) → past_register P limit ws o ≡ Gives h F
+        → h < 2 + length ws → past_register P limit (ws ++ ys) o ≡ Gives h F
     second limit ws None r less = absurd (let z : ⊥ = cc in z)
     second limit ws (Some base) r less =
         from_front P ws ys (record { base = base; image = []; numbers = []; limit = limit }) F 2 h r less
 
-    first : (o : Option ℕ) (zs : List (Option Entry)) → behind_start P zs o ≡ Gives h F → h < length (x ∷ zs)
-        → behind_start P (zs ++ ys) o ≡ Gives h F
+    first : (o : Option ℕ) (zs : List (Option Entry)) → past_start P zs o ≡ Gives h F → h < length (x ∷ zs)
+        → past_start P (zs ++ ys) o ≡ Gives h F
     first None zs r less = absurd (let same : Stops 0 ≡ Gives h F = sym (no_start P zs) ∙ r in let z : ⊥ = cc in
         z)
     first (Some limit) [] r less = absurd (let z : ⊥ = cc in z)
@@ -272,21 +272,21 @@ module _ (P : Program) (front rest : List ℕ) (whole : Bool) (e : ℕ) (kind : 
   stop_stays : (more : List (Option Entry)) (c : ℕ) → header P xs ≡ Stops c → e ≡ c + 1
       → (p : Option (Option Entry))
       → slice_get xs c ≡ p → StopsAt false p kind
-      → MisfitBehind (header P (xs ++ more)) P whole (xs ++ more) e kind
+      → MisfitPast (header P (xs ++ more)) P whole (xs ++ more) e kind
   stop_stays more c q number None at s = absurd (let y = s.0 in let z : ⊥ = cc in z)
   stop_stays more c q number (Some p) at s =
-      subst (λ (h : Header). MisfitBehind h P whole (xs ++ more) e kind) (sym (stops_front P xs more c p q at))
+      subst (λ (h : Header). MisfitPast h P whole (xs ++ more) e kind) (sym (stops_front P xs more c p q at))
       (number, subst (λ (o : Option (Option Entry)). StopsAt whole o kind) (sym (get_front xs more c p at)) s)
 
   run_stays : (more : List (Option Entry)) (h : ℕ) (I : Input) → header P xs ≡ Gives h I
       → (d : DiffersFromRun P I false xs e kind) → (p : Option (Option Entry)) → slice_get xs d.count ≡ p
       → DiffersAt false p (slice_get d.trace d.count) kind
-      → MisfitBehind (header P (xs ++ more)) P whole (xs ++ more) e kind
+      → MisfitPast (header P (xs ++ more)) P whole (xs ++ more) e kind
   run_stays more h I q d None at s = absurd (not_there (slice_get d.trace d.count) kind s)
   run_stays more h I q d (Some p) at s =
       let within = get_within xs d.count p at in
       let le = after_header P false front I h e kind q d in
-      subst (λ (x : Header). MisfitBehind x P whole (xs ++ more) e kind)
+      subst (λ (x : Header). MisfitPast x P whole (xs ++ more) e kind)
       (sym (gives_front P xs more h I q (omega (arith, within, le))))
       (record {
         trace = d.trace;
@@ -301,8 +301,8 @@ module _ (P : Program) (front rest : List ℕ) (whole : Bool) (e : ℕ) (kind : 
         };
       })
 
-  stays : (more : List (Option Entry)) (h : Header) → header P xs ≡ h → MisfitBehind h P false xs e kind
-      → MisfitBehind (header P (xs ++ more)) P whole (xs ++ more) e kind
+  stays : (more : List (Option Entry)) (h : Header) → header P xs ≡ h → MisfitPast h P false xs e kind
+      → MisfitPast (header P (xs ++ more)) P whole (xs ++ more) e kind
   stays more (Stops c) q m = stop_stays more c q m.0 (slice_get xs c) refl m.1
   stays more (Gives h I) q m = run_stays more h I q m (slice_get xs m.count) refl m.differs.here
 
@@ -310,7 +310,7 @@ module _ (P : Program) (front rest : List ℕ) (whole : Bool) (e : ℕ) (kind : 
   front-misfit m =
       let f = front_spelled whole front rest in
       record {
-        here = subst (λ (zs : List (Option Entry)). MisfitBehind (header P zs) P whole zs e kind) (sym f.1)
+        here = subst (λ (zs : List (Option Entry)). MisfitPast (header P zs) P whole zs e kind) (sym f.1)
             (stays f.0 (header P xs) refl m.here);
       }
 
@@ -324,19 +324,19 @@ pub step-differs : (P : Program) (I : Input) (n : ℕ) (whole : Bool) (ps : List
 step-differs P I n whole ps es c kind t lt d =
     let f = whole-front P I n es t in
     record {
-      before = d.before ∙ ap told (sym (ap (take c) f.1 ∙ take_appended (trace P I n) f.0 c (omega (arith, lt))));
+      before = d.before ∙ ap stated (sym (ap (take c) f.1 ∙ take_appended (trace P I n) f.0 c (omega (arith, lt))));
       here =
           subst (λ (o : Option Entry). DiffersAt whole (slice_get ps c) o kind)
           (sym (ap (λ (xs : List Entry). slice_get xs c) f.1 ∙ get_appended (trace P I n) f.0 c lt)) d.here;
     }
 
 -- after entries that the pieces spell, the first difference is that of the rest
-pub differs-behind : (whole : Bool) (front : List Entry) (ps : List (Option Entry)) (more : List Entry)
+pub differs-past : (whole : Bool) (front : List Entry) (ps : List (Option Entry)) (more : List Entry)
     (kind : MisfitKind) → DiffersAt whole (slice_get ps 0) (slice_get more 0) kind
-    → FirstDiffers whole (told front ++ ps) (front ++ more) (length front) kind
-differs-behind whole [] ps more kind h = record { before = refl; here = h }
-differs-behind whole (e ∷ front) ps more kind h =
-    let r = differs-behind whole front ps more kind h in
+    → FirstDiffers whole (stated front ++ ps) (front ++ more) (length front) kind
+differs-past whole [] ps more kind h = record { before = refl; here = h }
+differs-past whole (e ∷ front) ps more kind h =
+    let r = differs-past whole front ps more kind h in
     record { before = ap (λ (xs : List (Option Entry)). Some e ∷ xs) r.before; here = r.here }
 
 -- ---- fronts without a misfit
@@ -352,7 +352,7 @@ take_whole (p ∷ ps) = ap (λ (xs : List (Option Entry)). p ∷ xs) (take_whole
 
 -- pieces that all spell the first entries do not differ from them
 pub agree-never : (ps : List (Option Entry)) (es : List Entry) (c : ℕ) (k : MisfitKind)
-    → ps ≡ told (take (length ps) es) → FirstDiffers false ps es c k → ⊥
+    → ps ≡ stated (take (length ps) es) → FirstDiffers false ps es c k → ⊥
 agree-never ps es c k spell d = go (order c (length ps))
   where
     order : (m n : ℕ) → (m < n) ⊎ (n ≤ m)
@@ -366,9 +366,9 @@ agree-never ps es c k spell d = go (order c (length ps))
 
 pub front-agrees : (P : Program) (bytes : List ℕ) (I : Input) (h : ℕ) (es : List Entry) (e : ℕ) (k : MisfitKind)
     → header P (spelled false bytes) ≡ Gives h I → IsTrace P I es
-    → spelled false bytes ≡ told (take (length (spelled false bytes)) es) → IsMisfit P bytes false e k → ⊥
+    → spelled false bytes ≡ stated (take (length (spelled false bytes)) es) → IsMisfit P bytes false e k → ⊥
 front-agrees P bytes I h es e k q t spell m =
-    let d = subst (λ (x : Header). MisfitBehind x P false (spelled false bytes) e k) q m.here in
+    let d = subst (λ (x : Header). MisfitPast x P false (spelled false bytes) e k) q m.here in
     agree-never (spelled false bytes) es d.count k spell
     (subst (λ (xs : List Entry). FirstDiffers false (spelled false bytes) xs d.count k)
     (one-trace P I d.trace es d.is_trace t) d.differs)
@@ -381,7 +381,7 @@ pub front-stops : (P : Program) (bytes : List ℕ) (h e : ℕ) (k : MisfitKind)
     → header P (spelled false bytes) ≡ Stops h
     → length (spelled false bytes) ≤ h → IsMisfit P bytes false e k → ⊥
 front-stops P bytes h e k q le m =
-    let d = subst (λ (x : Header). MisfitBehind x P false (spelled false bytes) e k) q m.here in
+    let d = subst (λ (x : Header). MisfitPast x P false (spelled false bytes) e k) q m.here in
     no_stop (slice_get (spelled false bytes) h) k (none_past (spelled false bytes) h le) d.1
 
 -- ---- fronts of a run's trace
@@ -390,22 +390,22 @@ take_length : {A : Type 0} (xs ys : List A) → take (length xs) (xs ++ ys) ≡ 
 take_length [] ys = refl
 take_length (x ∷ xs) ys = ap (λ zs. x ∷ zs) (take_length xs ys)
 
-told_append : (es fs : List Entry) → told (es ++ fs) ≡ told es ++ told fs
-told_append [] fs = refl
-told_append (e ∷ es) fs = ap (λ (ps : List (Option Entry)). Some e ∷ ps) (told_append es fs)
+stated_append : (es fs : List Entry) → stated (es ++ fs) ≡ stated es ++ stated fs
+stated_append [] fs = refl
+stated_append (e ∷ es) fs = ap (λ (ps : List (Option Entry)). Some e ∷ ps) (stated_append es fs)
 
 -- if some pieces are the first of those that spell the entries, they spell the first entries
-first_told : (xs more : List (Option Entry)) (front es : List Entry) → told front ≡ xs ++ more
+first_stated : (xs more : List (Option Entry)) (front es : List Entry) → stated front ≡ xs ++ more
     → (rest : List Entry)
-    → es ≡ front ++ rest → xs ≡ told (take (length xs) es)
-first_told xs more front es split rest begins =
-    let whole : told es ≡ xs ++ (more ++ told rest) =
-    ap told begins ∙ told_append front rest ∙ ap (λ (ps : List (Option Entry)). ps ++ told rest) split
-    ∙ append_assoc xs more (told rest) in
-    sym (sym (take_told (length xs) es) ∙ ap (take (length xs)) whole ∙ take_length xs (more ++ told rest))
+    → es ≡ front ++ rest → xs ≡ stated (take (length xs) es)
+first_stated xs more front es split rest begins =
+    let whole : stated es ≡ xs ++ (more ++ stated rest) =
+    ap stated begins ∙ stated_append front rest ∙ ap (λ (ps : List (Option Entry)). ps ++ stated rest) split
+    ∙ append_assoc xs more (stated rest) in
+    sym (sym (take_stated (length xs) es) ∙ ap (take (length xs)) whole ∙ take_length xs (more ++ stated rest))
 
 module _ (P : Program) (I : Input) (n : ℕ) (bytes : List ℕ) (more : List (Option Entry)) (e : ℕ) (k : MisfitKind)
-    (valid : IsValid P I) (split : told (trace P I n) ≡ spelled false bytes ++ more)
+    (valid : IsValid P I) (split : stated (trace P I n) ≡ spelled false bytes ++ more)
     (m : IsMisfit P bytes false e k) where
   whole_header : header P (spelled false bytes ++ more) ≡ Gives (header_entries I) I
   whole_header = ap (header P) (sym split) ∙ header-trace P I valid n
@@ -413,7 +413,7 @@ module _ (P : Program) (I : Input) (n : ℕ) (bytes : List ℕ) (more : List (Op
   stops_never : (c : ℕ) → header P (spelled false bytes) ≡ Stops c → (o : Option (Option Entry))
       → slice_get (spelled false bytes) c ≡ o → ⊥
   stops_never c q None at =
-      let d = subst (λ (x : Header). MisfitBehind x P false (spelled false bytes) e k) q m.here in
+      let d = subst (λ (x : Header). MisfitPast x P false (spelled false bytes) e k) q m.here in
       no_stop (slice_get (spelled false bytes) c) k at d.1
   stops_never c q (Some p) at =
       let same : Stops c ≡ Gives (header_entries I) I =
@@ -430,7 +430,7 @@ module _ (P : Program) (I : Input) (n : ℕ) (bytes : List ℕ) (more : List (Op
       let whole = whole-trace P I in
       let front = whole-front P I n whole.0 whole.1 in
       front-agrees P bytes F h whole.0 e k q (subst (λ (J : Input). IsTrace P J whole.0) (sym input) whole.1)
-      (first_told (spelled false bytes) more (trace P I n) whole.0 split front.0 front.1) m
+      (first_stated (spelled false bytes) more (trace P I n) whole.0 split front.0 front.1) m
 
   -- all pieces are of the header
   ends_later : (h : ℕ) (F : Input) → header P (spelled false bytes) ≡ Gives h F
@@ -439,24 +439,24 @@ module _ (P : Program) (I : Input) (n : ℕ) (bytes : List ℕ) (more : List (Op
       let given = header-given P (spelled false bytes) h F (fit_pieces false bytes) q in
       let whole = whole-trace P F in
       let front = whole-front P F 0 whole.0 whole.1 in
-      let both = ap length given.split ∙ length-append (told (header_of F)) given.rest in
-      let long = told_long (header_of F) in
+      let both = ap length given.split ∙ length-append (stated (header_of F)) given.rest in
+      let long = stated_long (header_of F) in
       let header = length-header_of F in
       let count = given.count in
       let empty : given.rest ≡ [] = nothing given.rest (omega (arith, both, long, header, count, le)) in
       front-agrees P bytes F h whole.0 e k q whole.1
-      (first_told (spelled false bytes) [] (header_of F) whole.0
+      (first_stated (spelled false bytes) [] (header_of F) whole.0
       (sym (append-nil (spelled false bytes) ∙ given.split
-      ∙ ap (λ (ps : List (Option Entry)). told (header_of F) ++ ps) empty ∙ append-nil (told (header_of F))))
+      ∙ ap (λ (ps : List (Option Entry)). stated (header_of F) ++ ps) empty ∙ append-nil (stated (header_of F))))
       front.0 (front.1 ∙ ap (λ (es : List Entry). es ++ front.0) (trace_zero P F))) m
     where
       nothing : (ps : List (Option Entry)) → length ps ≡ 0 → ps ≡ []
       nothing [] z = refl
       nothing (p ∷ ps) z = absurd (omega (arith, z))
 
-      told_long : (es : List Entry) → length (told es) ≡ length es
-      told_long [] = refl
-      told_long (x ∷ es) = ap suc (told_long es)
+      stated_long : (es : List Entry) → length (stated es) ≡ length es
+      stated_long [] = refl
+      stated_long (x ∷ es) = ap suc (stated_long es)
 
   pub run-front : ⊥
   run-front = go (header P (spelled false bytes)) refl

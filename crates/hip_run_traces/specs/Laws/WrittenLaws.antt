@@ -9,7 +9,7 @@ use Rattle.hip_run_traces.specs.Headers.{header}
 use Rattle.hip_run_traces.specs.Laws.HeaderLaws.{header-trace}
 use Rattle.hip_run_traces.specs.Laws.RangeLaws.{trace_fits}
 use Rattle.hip_run_traces.specs.Misfits.{IsTraceOf}
-use Rattle.hip_run_traces.specs.Traces.{IsTrace, told}
+use Rattle.hip_run_traces.specs.Traces.{IsTrace, stated}
 use Rattle.hip_trace.specs.Laws.WrittenLaws.{read_back}
 use Rattle.hip_trace.specs.Fits.{ValuesFit}
 use Rattle.hip_trace.specs.Pieces.{spelled}
@@ -21,10 +21,10 @@ pub written-trace : (P : Program) → IsSound P → (I : Input) → IsInput I �
     → IsTrace P I es → IsTraceOf P (lines_of es) I
 written-trace P sound I input valid es t =
     let fits = subst (All ValuesFit) (sym t.are) (trace_fits P I sound valid input t.steps) in
-    let spells : spelled true (lines_of es) ≡ told es = read_back es fits in
+    let spells : spelled true (lines_of es) ≡ stated es = read_back es fits in
     record {
       entries = header_entries I;
-      header_is = ap (header P) (spells ∙ ap told t.are) ∙ header-trace P I valid t.steps;
+      header_is = ap (header P) (spells ∙ ap stated t.are) ∙ header-trace P I valid t.steps;
       trace = es;
       is_trace = t;
       spells = spells;

@@ -49,7 +49,7 @@ pub record AreAlike (ps : List LoosePart) (bs : List LooseByte) (made : ℕ) : T
 
 -- A store has loose parts exactly if some loose byte has its tag, and all parts are flushed exactly if all those bytes
 -- are.
-pub record AreToldBy (ps : List LoosePart) (bs : List LooseByte) (made : ℕ) : Type 0 where
+pub record AreStatedBy (ps : List LoosePart) (bs : List LooseByte) (made : ℕ) : Type 0 where
   pub alike : AreAlike ps bs made
   pub some : not_empty ps ≡ has_tag made bs
   pub flushed : all_flushed ps ≡ tag_flushed made bs

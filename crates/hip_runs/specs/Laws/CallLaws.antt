@@ -119,9 +119,9 @@ AreDefined P [] = Unit {0}
 AreDefined P (l ∷ ls) = (is_defined_call P (instr_of P l.call) ≡ true) × AreDefined P ls
 
 module _ (P : Program) where
-  behind : (o : Option Level) (ls : List Level) → AreDefined P (level_list o ls) → AreDefined P ls
-  behind None ls h = h
-  behind (Some l) ls h = h.1
+  past : (o : Option Level) (ls : List Level) → AreDefined P (level_list o ls) → AreDefined P ls
+  past None ls h = h
+  past (Some l) ls h = h.1
 
   with_call : (o : Option Level) (l : Level) (ls : List Level) → o ≡ Some l
       → is_defined_call P (instr_of P l.call) ≡ true → AreDefined P ls → AreDefined P (level_list o ls)
@@ -141,7 +141,7 @@ module _ (P : Program) where
   defined_next s s' (calls f g fs p q d l c) h =
       subst Defined (sym q) (with_call g.level _ (levels_of (f ∷ fs)) l (ap is_some d) (subst Defined p h))
   defined_next s s' (returns f g g' fs p q k c) h =
-      subst Defined (sym q) (same_calls g g' fs k (behind f.level (levels_of (g ∷ fs)) (subst Defined p h)))
+      subst Defined (sym q) (same_calls g g' fs k (past f.level (levels_of (g ∷ fs)) (subst Defined p h)))
 
   run_defined : (I : Input) (n : ℕ) → Defined (run P I n).frames
   unfolding run

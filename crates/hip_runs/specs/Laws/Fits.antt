@@ -177,49 +177,49 @@ fits_end P I f (Some ends.Unreachable) o = record { is = tt {0} }
 
 -- A store is that of a `store`, a flush that of a call that flushes and takes no fence, a persist that of a call that
 -- does both. All other events fit any instruction.
-abbrev told : Event → Option Instr → Type 0
-told (events.Store a v n) o = is_store o ≡ true
-told (events.Flush l n) o = is_flush_call o ≡ true
-told (events.Persist l n) o = is_persist_call o ≡ true
-told _ o = Unit {0}
+abbrev stated : Event → Option Instr → Type 0
+stated (events.Store a v n) o = is_store o ≡ true
+stated (events.Flush l n) o = is_flush_call o ≡ true
+stated (events.Persist l n) o = is_persist_call o ≡ true
+stated _ o = Unit {0}
 
 -- the event fits the instruction
-pub record Told (e : Event) (o : Option Instr) : Type 0 where
-  pub is : told e o
+pub record Stated (e : Event) (o : Option Instr) : Type 0 where
+  pub is : stated e o
 
-told_cond : (b : Bool) (x y : Event) (o : Option Instr) → Told x o → Told y o → Told (cond b x y) o
-told_cond true x y o p q = p
-told_cond false x y o p q = q
+stated_cond : (b : Bool) (x y : Event) (o : Option Instr) → Stated x o → Stated y o → Stated (cond b x y) o
+stated_cond true x y o p q = p
+stated_cond false x y o p q = q
 
-event_told : (P : Program) (I : Input) (fs : List Frame) (x : Action) (o : Option Instr) → Fits P x o
-    → Told (event_of I fs x) o
-event_told P I fs (Traps kind) o h = record { is = tt {0} }
-event_told P I fs (Assigns to v) o h = record { is = tt {0} }
-event_told P I fs (Allocates to a n) o h = record { is = tt {0} }
-event_told P I fs (Stores a bytes) o h =
-    told_cond (in_region I a (length bytes)) (events.Store a (little_endian bytes) (length bytes)) events.Quiet o
+event_stated : (P : Program) (I : Input) (fs : List Frame) (x : Action) (o : Option Instr) → Fits P x o
+    → Stated (event_of I fs x) o
+event_stated P I fs (Traps kind) o h = record { is = tt {0} }
+event_stated P I fs (Assigns to v) o h = record { is = tt {0} }
+event_stated P I fs (Allocates to a n) o h = record { is = tt {0} }
+event_stated P I fs (Stores a bytes) o h =
+    stated_cond (in_region I a (length bytes)) (events.Store a (little_endian bytes) (length bytes)) events.Quiet o
     (record { is = h.is.0 }) (record { is = tt {0} })
-event_told P I fs (Flushes a n) o h =
-    told_cond (flushes_lines I a n) (events.Flush (first_line I a) (lines_size I a n)) events.Quiet o
+event_stated P I fs (Flushes a n) o h =
+    stated_cond (flushes_lines I a n) (events.Flush (first_line I a) (lines_size I a n)) events.Quiet o
     (record { is = h.is }) (record { is = tt {0} })
-event_told P I fs (Persists a n) o h =
-    told_cond (flushes_lines I a n) (events.Persist (first_line I a) (lines_size I a n)) events.Fence o
+event_stated P I fs (Persists a n) o h =
+    stated_cond (flushes_lines I a n) (events.Persist (first_line I a) (lines_size I a n)) events.Fence o
     (record { is = h.is }) (record { is = tt {0} })
-event_told P I fs Fences o h = record { is = tt {0} }
-event_told P I fs (Asserts a n) o h = record { is = tt {0} }
-event_told P I fs (Prints z) o h = record { is = tt {0} }
-event_told P I fs (Reads to z rest) o h = record { is = tt {0} }
-event_told P I fs (Calls g rs to) o h = record { is = tt {0} }
-event_told P I fs (Jumps b rs) o h = record { is = tt {0} }
-event_told P I fs (Returns v) o h =
-    told_cond (is_bottom fs) (events.End (Stop (signed W32 (bits W32 v).value))) events.Quiet o (record { is = tt {0} })
+event_stated P I fs Fences o h = record { is = tt {0} }
+event_stated P I fs (Asserts a n) o h = record { is = tt {0} }
+event_stated P I fs (Prints z) o h = record { is = tt {0} }
+event_stated P I fs (Reads to z rest) o h = record { is = tt {0} }
+event_stated P I fs (Calls g rs to) o h = record { is = tt {0} }
+event_stated P I fs (Jumps b rs) o h = record { is = tt {0} }
+event_stated P I fs (Returns v) o h =
+    stated_cond (is_bottom fs) (events.End (Stop (signed W32 (bits W32 v).value))) events.Quiet o (record { is = tt {0} })
     (record { is = tt {0} })
 
-at_told : (P : Program) (I : Input) (w : World) (fs : List Frame) (d : Deed) (o : Option Instr) → Fits P d.action o
-    → Told (event_at I w fs d) o
-at_told P I w fs d o h =
-    told_cond (is_cut I w d) (events.End Cut) (event_of I fs d.action) o (record { is = tt {0} })
-    (event_told P I fs d.action o h)
+at_stated : (P : Program) (I : Input) (w : World) (fs : List Frame) (d : Deed) (o : Option Instr) → Fits P d.action o
+    → Stated (event_at I w fs d) o
+at_stated P I w fs d o h =
+    stated_cond (is_cut I w d) (events.End Cut) (event_of I fs d.action) o (record { is = tt {0} })
+    (event_stated P I fs d.action o h)
 
 -- what the top frame does next fits the instruction at its place
 pub deed_fits : (P : Program) (I : Input) (w : World) (f : Frame) (fs : List Frame)
@@ -236,18 +236,18 @@ deed_fits P I w f fs = by_code (code_at P f) refl
         (fits_instr P I w (length fs) f.registers i)
 
 -- and so does the event of that step
-pub site_told : (P : Program) (I : Input) (s : State) (t : Site) → top_site s.frames ≡ Some t
-    → Told (event P I s) (instr_of P t)
+pub site_stated : (P : Program) (I : Input) (s : State) (t : Site) → top_site s.frames ≡ Some t
+    → Stated (event P I s) (instr_of P t)
 unfolding event
-site_told P I s t e = go s.world.ending
+site_stated P I s t e = go s.world.ending
   where
-    on_them : (fs : List Frame) → top_site fs ≡ Some t → Told (event_on_frames P I s.world fs) (instr_of P t)
+    on_them : (fs : List Frame) → top_site fs ≡ Some t → Stated (event_on_frames P I s.world fs) (instr_of P t)
     on_them [] q = record { is = tt {0} }
     on_them (f ∷ fs) q =
-        let same : site_of f ≡ t = cc in subst (λ u. Told (event_at I s.world fs (deed_at P I s.world f fs))
-        (instr_of P u)) same (at_told P I s.world fs (deed_at P I s.world f fs) (instr_of P (site_of f))
+        let same : site_of f ≡ t = cc in subst (λ u. Stated (event_at I s.world fs (deed_at P I s.world f fs))
+        (instr_of P u)) same (at_stated P I s.world fs (deed_at P I s.world f fs) (instr_of P (site_of f))
         (deed_fits P I s.world f fs))
 
-    go : (o : Option Ending) → Told (event_on_ending P I s o) (instr_of P t)
+    go : (o : Option Ending) → Stated (event_on_ending P I s o) (instr_of P t)
     go (Some x) = record { is = tt {0} }
     go None = on_them s.frames e

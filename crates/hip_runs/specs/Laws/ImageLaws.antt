@@ -42,11 +42,11 @@ take_parts (suc d) (suc q) (x ∷ xs) le =
     ∙ ap (λ k. x ∷ (take d xs ++ take k (drop d xs))) (let e : q - d ≡ suc q - suc d = omega arith in e)
 
 -- The byte after the first q parts of a line, from the byte after its durable parts.
-pub behind_durable : (l : Line StorePart) (q b first : ℕ) → l.durable ≤ q →
+pub past_durable : (l : Line StorePart) (q b first : ℕ) → l.durable ≤ q →
     byte_after covers byte_of (take q l.parts) b first
     ≡ byte_after covers byte_of (take (q - l.durable) (drop l.durable l.parts)) b
     (byte_after covers byte_of (take l.durable l.parts) b first)
-behind_durable l q b first le =
+past_durable l q b first le =
     ap (λ xs. byte_after covers byte_of xs b first) (take_parts l.durable q l.parts le)
     ∙ after_append (take l.durable l.parts) (take (q - l.durable) (drop l.durable l.parts)) b first
 

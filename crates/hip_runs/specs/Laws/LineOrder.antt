@@ -13,7 +13,7 @@ use Rattle.hip_runs.specs.Laws.HistoryLaws.{has_history, line_of_fresh, lines_or
 use Rattle.hip_runs.specs.StoredParts.Order.{HasOrder, last_fence, is_before}
 use Rattle.hip_runs.specs.StoredParts.After.{flushed_by}
 use Rattle.hip_runs.specs.StoredParts.Persistence.{part_of_store, noted_flush, noted_fence, flush_line, fence_line, fenced_lines}
-use Rattle.hip_runs.specs.Laws.SinceLaws.{line_of_start, below, fence_told, told_by_fence}
+use Rattle.hip_runs.specs.Laws.SinceLaws.{line_of_start, below, fence_stated, stated_by_fence}
 use Rattle.hip_runs.specs.State.{Level, Flush, StorePart, Counts, site_of, levels_of}
 use Rattle.hip_runs.specs.Step.{run, step, event}
 use Rattle.hip_runs.specs.Laws.StepLaws.{Cases, step-cases, counted-steps}
@@ -302,5 +302,5 @@ module _ (P : Program) (I : Input) (from : ℕ) where
 pub fenced_by_last : (P : Program) (I : Input) (n : ℕ) (x : StorePart) → PartOf (run P I n).lines x
     → x.fenced ≡ is_before x.step (last_fence P I n)
 fenced_by_last P I n x i =
-    both_ways _ _ (λ e. fenced_before P I x.step n (fence_told P I n x i e))
-    (λ e. told_by_fence P I n x i (before_fenced P I x.step n e))
+    both_ways _ _ (λ e. fenced_before P I x.step n (fence_stated P I n x i e))
+    (λ e. stated_by_fence P I n x i (before_fenced P I x.step n e))

@@ -337,18 +337,18 @@ part_seen P I n j k x l e g =
     let all : AllSeen P I n j n (Some l) = subst (AllSeen P I n j n) e (run_seen P I n j) in all k x g
 
 -- a durable part's line was flushed after the store, and a fence came after the flush
-pub durable_told : (P : Program) (I : Input) (n j k : ℕ) (x : StorePart) → IsDurableAt (run P I n) j k x
+pub durable_stated : (P : Program) (I : Input) (n j k : ℕ) (x : StorePart) → IsDurableAt (run P I n) j k x
     → IsFlushedThenFenced P I j x.step n
-durable_told P I n j k x d = go (slice_get (run P I n).lines j) refl d
+durable_stated P I n j k x d = go (slice_get (run P I n).lines j) refl d
   where
     go : (o : Option (Line StorePart)) → slice_get (run P I n).lines j ≡ o → IsDurableIn o k x
         → IsFlushedThenFenced P I j x.step n
     go None e h = absurd h
     go (Some l) e h = (part_seen P I n j k x l e h.0).durable h.1
 
-pub told_durable : (P : Program) (I : Input) (n j k : ℕ) (x : StorePart) → IsPartAt (run P I n) j k x
+pub stated_durable : (P : Program) (I : Input) (n j k : ℕ) (x : StorePart) → IsPartAt (run P I n) j k x
     → IsFlushedThenFenced P I j x.step n → IsDurableAt (run P I n) j k x
-told_durable P I n j k x p s = go (slice_get (run P I n).lines j) refl p
+stated_durable P I n j k x p s = go (slice_get (run P I n).lines j) refl p
   where
     go : (o : Option (Line StorePart)) → slice_get (run P I n).lines j ≡ o → IsPartIn o k x → IsDurableIn o k x
     go None e h = h

@@ -83,7 +83,7 @@ module _ (P : Program) (I : Input) (n : ℕ) where
 -- ---- what a part has of the steps since its store
 
 -- A part in line j, of a store before step n, has whether a fence came since, and the first flush of its line.
-record IsTold (P : Program) (I : Input) (n j : ℕ) (x : StorePart) : Type 0 where
+record IsStated (P : Program) (I : Input) (n j : ℕ) (x : StorePart) : Type 0 where
   line : x.offset / 64 ≡ j
   made : x.step < n
   fenced : x.fenced ≡ true → FencedSince P I x.step n
@@ -96,9 +96,9 @@ record IsHere (P : Program) (I : Input) (n : ℕ) (flush : Flush) : Type 0 where
   site : top_site (run P I n).frames ≡ Some flush.site
 
 module _ (P : Program) (I : Input) (n j : ℕ) where
-  told_same : fences (event P I (run P I n)) ≡ false → flushes I.base j (event P I (run P I n)) ≡ false
-      → (x : StorePart) → IsTold P I n j x → IsTold P I (suc n) j x
-  told_same q r x t = record {
+  stated_same : fences (event P I (run P I n)) ≡ false → flushes I.base j (event P I (run P I n)) ≡ false
+      → (x : StorePart) → IsStated P I n j x → IsStated P I (suc n) j x
+  stated_same q r x t = record {
     line = t.line;
     made = omega (arith, t.made);
     fenced = λ e. fenced_more P I n x.step (t.fenced e);
@@ -106,9 +106,9 @@ module _ (P : Program) (I : Input) (n j : ℕ) where
     flush = flush_kept P I n j x.step r x.first_flush t.flush;
   }
 
-  told_fence : fences (event P I (run P I n)) ≡ true → flushes I.base j (event P I (run P I n)) ≡ false
-      → (x : StorePart) → IsTold P I n j x → IsTold P I (suc n) j (noted_fence x)
-  told_fence q r x t = record {
+  stated_fence : fences (event P I (run P I n)) ≡ true → flushes I.base j (event P I (run P I n)) ≡ false
+      → (x : StorePart) → IsStated P I n j x → IsStated P I (suc n) j (noted_fence x)
+  stated_fence q r x t = record {
     line = t.line;
     made = omega (arith, t.made);
     fenced = λ e. fenced_now P I n x.step t.made q;
@@ -116,10 +116,10 @@ module _ (P : Program) (I : Input) (n j : ℕ) where
     flush = flush_kept P I n j x.step r x.first_flush t.flush;
   }
 
-  told_flush : (flush : Flush) → IsHere P I n flush → fences (event P I (run P I n)) ≡ false
-      → flushes I.base j (event P I (run P I n)) ≡ true → (x : StorePart) → IsTold P I n j x
-      → IsTold P I (suc n) j (noted_flush flush x)
-  told_flush flush h q r x t = record {
+  stated_flush : (flush : Flush) → IsHere P I n flush → fences (event P I (run P I n)) ≡ false
+      → flushes I.base j (event P I (run P I n)) ≡ true → (x : StorePart) → IsStated P I n j x
+      → IsStated P I (suc n) j (noted_flush flush x)
+  stated_flush flush h q r x t = record {
     line = t.line;
     made = omega (arith, t.made);
     fenced = λ e. fenced_more P I n x.step (t.fenced e);
@@ -127,10 +127,10 @@ module _ (P : Program) (I : Input) (n j : ℕ) where
     flush = flush_now P I n j x.step flush t.made h.step h.site r x.first_flush t.flush;
   }
 
-  told_persist : (flush : Flush) → IsHere P I n flush → fences (event P I (run P I n)) ≡ true
-      → flushes I.base j (event P I (run P I n)) ≡ true → (x : StorePart) → IsTold P I n j x
-      → IsTold P I (suc n) j (noted_fence (noted_flush flush x))
-  told_persist flush h q r x t = record {
+  stated_persist : (flush : Flush) → IsHere P I n flush → fences (event P I (run P I n)) ≡ true
+      → flushes I.base j (event P I (run P I n)) ≡ true → (x : StorePart) → IsStated P I n j x
+      → IsStated P I (suc n) j (noted_fence (noted_flush flush x))
+  stated_persist flush h q r x t = record {
     line = t.line;
     made = omega (arith, t.made);
     fenced = λ e. fenced_now P I n x.step t.made q;
@@ -139,9 +139,9 @@ module _ (P : Program) (I : Input) (n j : ℕ) where
   }
 
   -- a part that this step stores
-  told_new : (x : StorePart) → x.offset / 64 ≡ j → x.step ≡ n → x.fenced ≡ false → x.first_flush ≡ None
-      → IsTold P I (suc n) j x
-  told_new x line step fenced flush = record {
+  stated_new : (x : StorePart) → x.offset / 64 ≡ j → x.step ≡ n → x.fenced ≡ false → x.first_flush ≡ None
+      → IsStated P I (suc n) j x
+  stated_new x line step fenced flush = record {
     line = line;
     made = omega (arith, step);
     fenced = λ e. absurd (let b : false ≡ true = sym fenced ∙ e in let z : ⊥ = cc in z);
@@ -262,8 +262,8 @@ plain_flushes base j (events.End e) p = refl
 
 module _ (P : Program) (I : Input) (n : ℕ) where
   -- before step m, the history of each part of these lines is that of the steps since its store
-  abbrev AreTold : ℕ → List (Line StorePart) → Type 0
-  AreTold m ls = (j : ℕ) (x : StorePart) → InLine (slice_get ls j) x → IsTold P I m j x
+  abbrev AreStated : ℕ → List (Line StorePart) → Type 0
+  AreStated m ls = (j : ℕ) (x : StorePart) → InLine (slice_get ls j) x → IsStated P I m j x
 
   here : (f : Frame) (fs : List Frame) → IsTop (run P I n) f fs
       → IsHere P I n (flush_at (run P I n).counts (site_of f))
@@ -271,28 +271,28 @@ module _ (P : Program) (I : Input) (n : ℕ) where
 
   -- if step n has this event, the same holds after it
   abbrev Next : Event → List (Line StorePart) → Type 0
-  Next e ls = event P I (run P I n) ≡ e → AreTold (suc n) ls
+  Next e ls = event P I (run P I n) ≡ e → AreStated (suc n) ls
 
-  told_cases : AreTold n (run P I n).lines → Cases I (run P I n) Next
-  told_cases told = record {
+  stated_cases : AreStated n (run P I n).lines → Cases I (run P I n) Next
+  stated_cases stated = record {
     plain =
-        λ e p q j x i. told_same P I n j (ap fences q ∙ plain_fences e p)
-        (ap (flushes I.base j) q ∙ plain_flushes I.base j e p) x (told j x i);
+        λ e p q j x i. stated_same P I n j (ap fences q ∙ plain_fences e p)
+        (ap (flushes I.base j) q ∙ plain_flushes I.base j e p) x (stated j x i);
     store =
         λ f fs t a bytes e w q j x i. by_store f fs t a bytes e q j x
         (of_stored _ (a - I.base) (length bytes) _ j x i);
     flush =
         λ f fs t a m e q j y i. let r = of_flushed I _ a m _ j y i in
-        subst (IsTold P I (suc n) j) (sym r.2) (by_flush f fs t a m j r.0 q (has_bytes j (a - I.base) m)
-        (line_met I a m j e) (told j r.0 r.1));
+        subst (IsStated P I (suc n) j) (sym r.2) (by_flush f fs t a m j r.0 q (has_bytes j (a - I.base) m)
+        (line_met I a m j e) (stated j r.0 r.1));
     persist = λ f fs t a m e q j z i.
         let s = of_fenced _ j z i in
         let r = of_flushed I _ a m _ j s.0 s.1 in
-        subst (IsTold P I (suc n) j) (sym (s.2 ∙ ap noted_fence r.2))
-        (by_persist f fs t a m j r.0 q (has_bytes j (a - I.base) m) (line_met I a m j e) (told j r.0 r.1));
+        subst (IsStated P I (suc n) j) (sym (s.2 ∙ ap noted_fence r.2))
+        (by_persist f fs t a m j r.0 q (has_bytes j (a - I.base) m) (line_met I a m j e) (stated j r.0 r.1));
     fence =
-        λ q j y i. let r = of_fenced _ j y i in subst (IsTold P I (suc n) j) (sym r.2)
-        (told_fence P I n j (ap fences q) (ap (flushes I.base j) q) r.0 (told j r.0 r.1));
+        λ q j y i. let r = of_fenced _ j y i in subst (IsStated P I (suc n) j) (sym r.2)
+        (stated_fence P I n j (ap fences q) (ap (flushes I.base j) q) r.0 (stated j r.0 r.1));
   }
     where
       by_store : (f : Frame) (fs : List Frame) → IsTop (run P I n) f fs → (a : ℕ) (bytes : List ℕ)
@@ -302,9 +302,9 @@ module _ (P : Program) (I : Input) (n : ℕ) where
           InLine (slice_get (run P I n).lines j) x
           ⊎ ((has_bytes j (a - I.base) (length bytes) ≡ true)
           × (x ≡ part_of_store (run P I n).counts (site_of f) (levels_of (f ∷ fs)) (a - I.base) bytes j))
-          → IsTold P I (suc n) j x
-      by_store f fs t a bytes e q j x (inl i) = told_same P I n j (ap fences q) (ap (flushes I.base j) q) x (told j x i)
-      by_store f fs t a bytes e q j x (inr r) = told_new P I n j x
+          → IsStated P I (suc n) j x
+      by_store f fs t a bytes e q j x (inl i) = stated_same P I n j (ap fences q) (ap (flushes I.base j) q) x (stated j x i)
+      by_store f fs t a bytes e q j x (inr r) = stated_new P I n j x
           (ap (λ (y : StorePart). y.offset / 64) r.1 ∙ line_of_start (a - I.base) (length bytes) j r.0)
           (ap (λ (y : StorePart). y.step) r.1 ∙ counted-steps P I n t.going)
           (ap (λ (y : StorePart). y.fenced) r.1)
@@ -312,23 +312,23 @@ module _ (P : Program) (I : Input) (n : ℕ) where
 
       by_flush : (f : Frame) (fs : List Frame) → IsTop (run P I n) f fs → (a m j : ℕ) (x : StorePart)
           → event P I (run P I n) ≡ events.Flush (first_line I a) (lines_size I a m) →
-          (b : Bool) → has_line I.base j (first_line I a) (lines_size I a m) ≡ b → IsTold P I n j x
-          → IsTold P I (suc n) j (cond b (noted_flush (flush_at (run P I n).counts (site_of f)) x) x)
+          (b : Bool) → has_line I.base j (first_line I a) (lines_size I a m) ≡ b → IsStated P I n j x
+          → IsStated P I (suc n) j (cond b (noted_flush (flush_at (run P I n).counts (site_of f)) x) x)
       by_flush f fs t a m j x q true e h =
-          told_flush P I n j _ (here f fs t) (ap fences q) (ap (flushes I.base j) q ∙ e) x h
-      by_flush f fs t a m j x q false e h = told_same P I n j (ap fences q) (ap (flushes I.base j) q ∙ e) x h
+          stated_flush P I n j _ (here f fs t) (ap fences q) (ap (flushes I.base j) q ∙ e) x h
+      by_flush f fs t a m j x q false e h = stated_same P I n j (ap fences q) (ap (flushes I.base j) q ∙ e) x h
 
       by_persist : (f : Frame) (fs : List Frame) → IsTop (run P I n) f fs → (a m j : ℕ) (x : StorePart)
           → event P I (run P I n) ≡ events.Persist (first_line I a) (lines_size I a m) →
-          (b : Bool) → has_line I.base j (first_line I a) (lines_size I a m) ≡ b → IsTold P I n j x
-          → IsTold P I (suc n) j (noted_fence (cond b (noted_flush (flush_at (run P I n).counts (site_of f)) x) x))
+          (b : Bool) → has_line I.base j (first_line I a) (lines_size I a m) ≡ b → IsStated P I n j x
+          → IsStated P I (suc n) j (noted_fence (cond b (noted_flush (flush_at (run P I n).counts (site_of f)) x) x))
       by_persist f fs t a m j x q true e h =
-          told_persist P I n j _ (here f fs t) (ap fences q) (ap (flushes I.base j) q ∙ e) x h
-      by_persist f fs t a m j x q false e h = told_fence P I n j (ap fences q) (ap (flushes I.base j) q ∙ e) x h
+          stated_persist P I n j _ (here f fs t) (ap fences q) (ap (flushes I.base j) q ∙ e) x h
+      by_persist f fs t a m j x q false e h = stated_fence P I n j (ap fences q) (ap (flushes I.base j) q ∙ e) x h
 
-  told_next : AreTold n (run P I n).lines → AreTold (suc n) (run P I (suc n)).lines
+  stated_next : AreStated n (run P I n).lines → AreStated (suc n) (run P I (suc n)).lines
   unfolding run
-  told_next told = step-cases P I (run P I n) Next (told_cases told) refl
+  stated_next stated = step-cases P I (run P I n) Next (stated_cases stated) refl
 
 -- ---- a run
 
@@ -338,32 +338,32 @@ no_part zero j x i = i
 no_part (suc n) zero x i = i
 no_part (suc n) (suc j) x i = no_part n j x i
 
-run_told : (P : Program) (I : Input) (n j : ℕ) (x : StorePart) → InLine (slice_get (run P I n).lines j) x
-    → IsTold P I n j x
+run_stated : (P : Program) (I : Input) (n j : ℕ) (x : StorePart) → InLine (slice_get (run P I n).lines j) x
+    → IsStated P I n j x
 unfolding run
-run_told P I zero j x i = absurd (no_part _ j x i)
-run_told P I (suc n) j x i = told_next P I n (run_told P I n) j x i
+run_stated P I zero j x i = absurd (no_part _ j x i)
+run_stated P I (suc n) j x i = stated_next P I n (run_stated P I n) j x i
 
-part_told : (P : Program) (I : Input) (n : ℕ) (x : StorePart) → PartOf (run P I n).lines x
-    → IsTold P I n (x.offset / 64) x
-part_told P I n x i =
+part_stated : (P : Program) (I : Input) (n : ℕ) (x : StorePart) → PartOf (run P I n).lines x
+    → IsStated P I n (x.offset / 64) x
+part_stated P I n x i =
     let r = line_of_part (run P I n).lines x i in let t =
-    run_told P I n r.0 x r.1 in subst (λ j. IsTold P I n j x) (sym t.line) t
+    run_stated P I n r.0 x r.1 in subst (λ j. IsStated P I n j x) (sym t.line) t
 
 -- a part is fenced exactly if a fence came since its store
-pub fence_told : (P : Program) (I : Input) (n : ℕ) (x : StorePart) → PartOf (run P I n).lines x
+pub fence_stated : (P : Program) (I : Input) (n : ℕ) (x : StorePart) → PartOf (run P I n).lines x
     → x.fenced ≡ true
     → FencedSince P I x.step n
-fence_told P I n x i e = (part_told P I n x i).fenced e
+fence_stated P I n x i e = (part_stated P I n x i).fenced e
 
-pub told_by_fence : (P : Program) (I : Input) (n : ℕ) (x : StorePart) → PartOf (run P I n).lines x
+pub stated_by_fence : (P : Program) (I : Input) (n : ℕ) (x : StorePart) → PartOf (run P I n).lines x
     → FencedSince P I x.step n → x.fenced ≡ true
-told_by_fence P I n x i s = (part_told P I n x i).by_fence s
+stated_by_fence P I n x i s = (part_stated P I n x i).by_fence s
 
 -- a part has the first flush of its line since its store
-pub flush_told : (P : Program) (I : Input) (n : ℕ) (x : StorePart) → PartOf (run P I n).lines x
+pub flush_stated : (P : Program) (I : Input) (n : ℕ) (x : StorePart) → PartOf (run P I n).lines x
     → IsFirstFlush P I (x.offset / 64) x.step n x.first_flush
-flush_told P I n x i = (part_told P I n x i).flush
+flush_stated P I n x i = (part_stated P I n x i).flush
 
 -- there is only one first flush
 apart : (m n : ℕ) → (m < n) ⊎ ((m ≡ n) ⊎ (n < m))

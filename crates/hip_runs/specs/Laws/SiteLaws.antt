@@ -6,22 +6,22 @@ use Rattle.hip_tree.specs.declared.program.Program.{Program}
 use Rattle.hip_lines.specs.Line.{Line}
 use Rattle.hip_runs.specs.declared.event.Event.{Event}
 use Rattle.hip_runs.specs.declared.input.Input.{Input}
-use Rattle.hip_runs.specs.Laws.OrderLaws.{told_durable}
+use Rattle.hip_runs.specs.Laws.OrderLaws.{stated_durable}
 use Rattle.hip_runs.specs.StoredParts.Parts.{In, PartOf}
 use Rattle.hip_runs.specs.StoredParts.Since.{fences, flushes, IsFirst, IsFirstFlush, IsPartIn, IsDurableIn}
-use Rattle.hip_runs.specs.Laws.SinceLaws.{flush_told}
+use Rattle.hip_runs.specs.Laws.SinceLaws.{flush_stated}
 use Rattle.hip_runs.specs.Sites.{is_flush_call, is_persist_call, HasSites}
 use Rattle.hip_runs.specs.State.{Flush, StorePart}
 use Rattle.hip_runs.specs.Step.{event, run}
 use Rattle.hip_runs.specs.Laws.StoreLaws.{part-of_store}
 use Rattle.hip_runs.specs.Laws.CallLaws.{calls_defined}
-use Rattle.hip_runs.specs.Laws.Fits.{Told, site_told}
+use Rattle.hip_runs.specs.Laws.Fits.{Stated, site_stated}
 use Rattle.hip_runs.specs.Laws.LineOrder.{lines_well}
 use Rattle.hip_runs.specs.Laws.Found.LooseBytes.{part_at}
 use Rattle.hip_runs.specs.Laws.Members.{in_at}
 use Rattle.hip_runs.specs.declared.event.Event.TheVariants as events
 
-flush_of : (base j : ℕ) (e : Event) (o : Option Instr) → Told e o → flushes base j e ≡ true
+flush_of : (base j : ℕ) (e : Event) (o : Option Instr) → Stated e o → flushes base j e ≡ true
     → (is_flush_call o ≡ true) ⊎ ((is_persist_call o ≡ true) × (fences e ≡ true))
 flush_of base j events.Quiet o t h = absurd (let z : ⊥ = cc in z)
 flush_of base j (events.Print z) o t h = absurd (let z : ⊥ = cc in z)
@@ -35,20 +35,20 @@ flush_of base j (events.End e) o t h = absurd (let z : ⊥ = cc in z)
 module _ (P : Program) (I : Input) (n : ℕ) where
   first_of_part : (x : StorePart) (f : Flush) → PartOf (run P I n).lines x → x.first_flush ≡ Some f
       → IsFirst P I (x.offset / 64) x.step n f
-  first_of_part x f i e = subst (IsFirstFlush P I (x.offset / 64) x.step n) e (flush_told P I n x i)
+  first_of_part x f i e = subst (IsFirstFlush P I (x.offset / 64) x.step n) e (flush_stated P I n x i)
 
   by_site : (x : StorePart) (f : Flush) → IsFirst P I (x.offset / 64) x.step n f
       → (is_flush_call (instr_of P f.site) ≡ true)
       ⊎ ((is_persist_call (instr_of P f.site) ≡ true) × (fences (event P I (run P I f.step)) ≡ true))
   by_site x f h =
       flush_of I.base (x.offset / 64) (event P I (run P I f.step)) (instr_of P f.site)
-      (site_told P I (run P I f.step) f.site h.site) h.flushed
+      (site_stated P I (run P I f.step) f.site h.site) h.flushed
 
   pub has_sites : HasSites P (run P I n)
   has_sites = record {
     store = λ x i.
         let o = part-of_store P I n x i in
-        (subst (λ e. Told e (instr_of P x.site)) o.stored (site_told P I (run P I x.step) x.site o.site)).is;
+        (subst (λ e. Stated e (instr_of P x.site)) o.stored (site_stated P I (run P I x.step) x.site o.site)).is;
     flush = λ x f i e. either _ _ (by_site x f (first_of_part x f i e));
     unfenced = λ m l k x f q g le e.
         let i = part_at (run P I n).lines m l x q (in_at l.parts k x g) in
@@ -75,7 +75,7 @@ module _ (P : Program) (I : Input) (n : ℕ) where
           let at : slice_get (run P I n).lines (x.offset / 64) ≡ Some l = ap (slice_get (run P I n).lines) line
           ∙ q in
           let d =
-          told_durable P I n (x.offset / 64) k x (subst (λ o. IsPartIn o k x) (sym at) g)
+          stated_durable P I n (x.offset / 64) k x (subst (λ o. IsPartIn o k x) (sym at) g)
           (record {
             flush = f.step;
             fence = f.step;

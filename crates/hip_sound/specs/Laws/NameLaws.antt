@@ -105,59 +105,59 @@ pub record Tells {A : Type 0} (d : Declares A) (name : A → List ℕ) : Type 0 
   pub instr : (b i : ℕ) (r : Register) → name (d.instr b i r) ≡ r.name
 
 module _ {A : Type 0} (d : Declares A) (name : A → List ℕ) (t : Tells d name) where
-  registers_told : (b i : ℕ) (rs : List Register) → map name (map (d.instr b i) rs) ≡ names_of rs
-  registers_told b i [] = refl
-  registers_told b i (r ∷ rs) =
+  registers_stated : (b i : ℕ) (rs : List Register) → map name (map (d.instr b i) rs) ≡ names_of rs
+  registers_stated b i [] = refl
+  registers_stated b i (r ∷ rs) =
       ap (λ n. n ∷ map name (map (d.instr b i) rs)) (t.instr b i r)
-      ∙ ap (λ ns. r.name ∷ ns) (registers_told b i rs)
+      ∙ ap (λ ns. r.name ∷ ns) (registers_stated b i rs)
 
-  params_told : (params : List Param)
+  params_stated : (params : List Param)
       → map name (map d.parameter params) ≡ names_of (map (λ p. record { name = p.name; ty = Some p.ty }) params)
-  params_told [] = refl
-  params_told (p ∷ ps) =
-      ap (λ n. n ∷ map name (map d.parameter ps)) (t.parameter p) ∙ ap (λ ns. p.name ∷ ns) (params_told ps)
+  params_stated [] = refl
+  params_stated (p ∷ ps) =
+      ap (λ n. n ∷ map name (map d.parameter ps)) (t.parameter p) ∙ ap (λ ns. p.name ∷ ns) (params_stated ps)
 
-  phis_told : (n b : ℕ) (phis : List Phi)
+  phis_stated : (n b : ℕ) (phis : List Phi)
       → map name (numbered_from n (d.phi b) phis) ≡ names_of (phi_registers phis)
-  phis_told n b [] = refl
-  phis_told n b (p ∷ ps) =
+  phis_stated n b [] = refl
+  phis_stated n b (p ∷ ps) =
       ap (λ x. x ∷ map name (numbered_from (n + 1) (d.phi b) ps)) (t.phi b n p)
-      ∙ ap (λ ns. p.dest ∷ ns) (phis_told (n + 1) b ps)
+      ∙ ap (λ ns. p.dest ∷ ns) (phis_stated (n + 1) b ps)
 
-  body_told : (n b : ℕ) (body : List Instr)
+  body_stated : (n b : ℕ) (body : List Instr)
       → map name (joined (numbered_from n (instr_declared (d.instr b)) body)) ≡ names_of (body_registers body)
-  body_told n b [] = refl
-  body_told n b (i ∷ is) =
+  body_stated n b [] = refl
+  body_stated n b (i ∷ is) =
       map-append name (instr_declared (d.instr b) n i) (joined (numbered_from (n + 1) (instr_declared (d.instr b)) is))
       ∙ ap (λ ns. ns ++ map name (joined (numbered_from (n + 1) (instr_declared (d.instr b)) is)))
-      (registers_told b n (assigned_by i))
-      ∙ ap (λ ns. names_of (assigned_by i) ++ ns) (body_told (n + 1) b is)
+      (registers_stated b n (assigned_by i))
+      ∙ ap (λ ns. names_of (assigned_by i) ++ ns) (body_stated (n + 1) b is)
       ∙ sym (map-append (λ r. r.name) (assigned_by i) (body_registers is))
 
-  block_told : (b : ℕ) (block : Block) → map name (block_declared d b block) ≡ names_in_block block
-  block_told b block =
+  block_stated : (b : ℕ) (block : Block) → map name (block_declared d b block) ≡ names_in_block block
+  block_stated b block =
       ap (λ n. n ∷ map name (numbered (d.phi b) block.phis ++ body_declared (d.instr b) block.body))
       (t.label b block.label)
       ∙ ap (λ ns. block.label ∷ ns)
       (map-append name (numbered (d.phi b) block.phis) (body_declared (d.instr b) block.body)
-      ∙ ap (λ ns. ns ++ map name (body_declared (d.instr b) block.body)) (phis_told 0 b block.phis)
-      ∙ ap (λ ns. names_of (phi_registers block.phis) ++ ns) (body_told 0 b block.body)
+      ∙ ap (λ ns. ns ++ map name (body_declared (d.instr b) block.body)) (phis_stated 0 b block.phis)
+      ∙ ap (λ ns. names_of (phi_registers block.phis) ++ ns) (body_stated 0 b block.body)
       ∙ sym (map-append (λ r. r.name) (phi_registers block.phis) (body_registers block.body)))
 
-  blocks_told : (n : ℕ) (blocks : List Block)
+  blocks_stated : (n : ℕ) (blocks : List Block)
       → map name (joined (numbered_from n (block_declared d) blocks)) ≡ flat_map names_in_block blocks
-  blocks_told n [] = refl
-  blocks_told n (b ∷ bs) =
+  blocks_stated n [] = refl
+  blocks_stated n (b ∷ bs) =
       map-append name (block_declared d n b) (joined (numbered_from (n + 1) (block_declared d) bs))
-      ∙ ap (λ ns. ns ++ map name (joined (numbered_from (n + 1) (block_declared d) bs))) (block_told n b)
-      ∙ ap (λ ns. names_in_block b ++ ns) (blocks_told (n + 1) bs)
+      ∙ ap (λ ns. ns ++ map name (joined (numbered_from (n + 1) (block_declared d) bs))) (block_stated n b)
+      ∙ ap (λ ns. names_in_block b ++ ns) (blocks_stated (n + 1) bs)
 
   -- the items of a function's declarations have the names in it, in their order
   pub declared_names-are : (fn : Function) → map name (declared_by d fn) ≡ names_in_function fn
   declared_names-are fn =
       map-append name (map d.parameter fn.params) (blocks_declared d fn.blocks)
-      ∙ ap (λ ns. ns ++ map name (blocks_declared d fn.blocks)) (params_told fn.params)
-      ∙ ap (λ ns. names_of (parameter_registers fn) ++ ns) (blocks_told 0 fn.blocks)
+      ∙ ap (λ ns. ns ++ map name (blocks_declared d fn.blocks)) (params_stated fn.params)
+      ∙ ap (λ ns. names_of (parameter_registers fn) ++ ns) (blocks_stated 0 fn.blocks)
 
 inner_names-are : (f : ℕ) (fn : Function) → place_names (inner_names f fn) ≡ names_in_function fn
 inner_names-are f fn =

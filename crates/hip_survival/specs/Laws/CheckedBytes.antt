@@ -27,7 +27,7 @@ use Rattle.hip_runs.specs.declared.report.Report.{Report}
 use Rattle.hip_survival.specs.Survival.{IsLooseAt, Survives}
 use Rattle.hip_survival.specs.Laws.Bounded.{touches, Bounded, deed_bounded}
 use Rattle.hip_survival.specs.Laws.TightBytes.{tight_survives}
-use Rattle.hip_survival.specs.Laws.ToldBytes.{loose_of_part, part_of_loose}
+use Rattle.hip_survival.specs.Laws.StatedBytes.{loose_of_part, part_of_loose}
 
 -- ---- a loose byte of the range is reported
 

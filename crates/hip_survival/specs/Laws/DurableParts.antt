@@ -7,7 +7,7 @@ use Rattle.hip_lines.specs.Loose.{IsLastOver, last_over}
 use Rattle.hip_lines.specs.Laws.LooseLaws.{Finds, last_over-finds}
 use Rattle.hip_runs.specs.Crash.{covers, byte_of, IsCrashImage}
 use Rattle.hip_runs.specs.Laws.LineOrder.{in_lines}
-use Rattle.hip_runs.specs.Laws.OrderLaws.{told_durable}
+use Rattle.hip_runs.specs.Laws.OrderLaws.{stated_durable}
 use Rattle.hip_runs.specs.State.{StorePart}
 use Rattle.hip_runs.specs.Step.{run}
 use Rattle.hip_runs.specs.StoredParts.Since.{IsPartIn, IsPartAt, IsDurableIn, IsDurableAt, IsFlushedThenFenced}
@@ -91,4 +91,4 @@ pub fenced_in_image : (P : Program) (I : Input) (n line place : ℕ) (part : Sto
     → (content : List ℕ) → IsCrashImage I (run P I n) content
     → (b : ℕ) → covers part b ≡ true → IsFromPartOn (run P I n) line place content b
 fenced_in_image P I n line place part there f =
-    durable_in_image P I n line place part (told_durable P I n line place part there f)
+    durable_in_image P I n line place part (stated_durable P I n line place part there f)

@@ -10,6 +10,6 @@ pub returns : goal.returns
 returns c =
     let P = c.args.checked.now in
     let plan = c.args.plan.now in
-    let told : c.passes.result ≡ test.passes P plan = c.passes.ensures ∙ ap (λ (p : Program). test.passes p plan) c.program.ensures.is in
+    let stated : c.passes.result ≡ test.passes P plan = c.passes.ensures ∙ ap (λ (p : Program). test.passes p plan) c.program.ensures.is in
     let callable = callable_of P (sound-passes P c.program.ensures.sound) in
-    (λ t. passes_suits P callable plan (sym told ∙ t), λ s. told ∙ suits_passes P callable plan s)
+    (λ t. passes_suits P callable plan (sym stated ∙ t), λ s. stated ∙ suits_passes P callable plan s)

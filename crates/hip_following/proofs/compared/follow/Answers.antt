@@ -4,7 +4,7 @@ use Rattle.hip_lockstep.specs.InStep.{FollowsStep, IsInStep}
 use Rattle.hip_run_traces.specs.Traces.{trace}
 use Rattle.hip_runs.specs.Ends.{longest}
 use Rattle.hip_sound.specs.Sound.{IsSound}
-use Rattle.hip_lockstep.proofs.Going.{IsGoing, IsTold, told_by}
+use Rattle.hip_lockstep.proofs.Going.{IsGoing, IsStated, stated_by}
 use Rattle.hip_report.proofs.Noted.{noted_now}
 use Rattle.hip_lockstep.proofs.Rooms.{room}
 use Rattle.hip_following.proofs.Quietly.{event_there, in_step_there, input_there, nearer, over_there, program_there, taken_there}
@@ -27,59 +27,59 @@ meet-requires-clause-room g c =
 
 pub steps-smaller : goal.steps-smaller
 steps-smaller g c =
-    let told : IsTold c.args.machine.now.program c.args.machine.now.input = told_by c.args.machine.now.program c.args.machine.now.input c.events_tell_output_and_ending.ensures.output c.events_tell_output_and_ending.ensures.ending c.runs_end.ensures c.runs_are_bounded.ensures.bounded in
+    let stated : IsStated c.args.machine.now.program c.args.machine.now.input = stated_by c.args.machine.now.program c.args.machine.now.input c.events_tell_output_and_ending.ensures.output c.events_tell_output_and_ending.ensures.ending c.runs_end.ensures c.runs_are_bounded.ensures.bounded in
     let is : IsGoing c.args.machine.now.program c.args.machine.now.input c.steps.machine = record { program = c.steps.invariant.program; input = c.steps.invariant.input; going = (c.steps.invariant.so_far c.requires.begun.0 c.requires.begun.1).going } in
     let to = c.in-Ok.ensures.machine in
     let next = subst (λ o. FollowsStep c.args.machine.now.program c.args.machine.now.input c.requires.begun.0 to.before.taken c.meet.new.reader (g.C.Cabinet.state c.meet.new.cabinet) c.meet.new.self (Ok o)) c.in-None.is
-    (c.in-Ok-meet.ensures.meets c.args.machine.now.program c.args.machine.now.input c.requires.begun.0 to.before.taken (in_step_there told is to c.requires.begun.0 c.steps.reader (g.C.Cabinet.state c.steps.cabinet) c.steps.lockstep (c.steps.invariant.so_far c.requires.begun.0 c.requires.begun.1)) (event_there told is to)) in
-    nearer told is to next.going
+    (c.in-Ok-meet.ensures.meets c.args.machine.now.program c.args.machine.now.input c.requires.begun.0 to.before.taken (in_step_there stated is to c.requires.begun.0 c.steps.reader (g.C.Cabinet.state c.steps.cabinet) c.steps.lockstep (c.steps.invariant.so_far c.requires.begun.0 c.requires.begun.1)) (event_there stated is to)) in
+    nearer stated is to next.going
 
 pub steps-preserved : goal.steps-preserved
 steps-preserved g c =
-    let told : IsTold c.args.machine.now.program c.args.machine.now.input = told_by c.args.machine.now.program c.args.machine.now.input c.events_tell_output_and_ending.ensures.output c.events_tell_output_and_ending.ensures.ending c.runs_end.ensures c.runs_are_bounded.ensures.bounded in
+    let stated : IsStated c.args.machine.now.program c.args.machine.now.input = stated_by c.args.machine.now.program c.args.machine.now.input c.events_tell_output_and_ending.ensures.output c.events_tell_output_and_ending.ensures.ending c.runs_end.ensures c.runs_are_bounded.ensures.bounded in
     let is : IsGoing c.args.machine.now.program c.args.machine.now.input c.steps.machine = record { program = c.steps.invariant.program; input = c.steps.invariant.input; going = (c.steps.invariant.so_far c.requires.begun.0 c.requires.begun.1).going } in
     let to = c.in-Ok.ensures.machine in
     record {
-      program = program_there told is to;
-      input = input_there told is to;
+      program = program_there stated is to;
+      input = input_there stated is to;
       current = c.in-Ok-meet.ensures.current;
       so_far = λ start h.
           let next = subst (λ o. FollowsStep c.args.machine.now.program c.args.machine.now.input start to.before.taken c.meet.new.reader (g.C.Cabinet.state c.meet.new.cabinet) c.meet.new.self (Ok o)) c.in-None.is
-          (c.in-Ok-meet.ensures.meets c.args.machine.now.program c.args.machine.now.input start to.before.taken (in_step_there told is to start c.steps.reader (g.C.Cabinet.state c.steps.cabinet) c.steps.lockstep (c.steps.invariant.so_far start h)) (event_there told is to)) in
-          subst (λ n. IsInStep c.args.machine.now.program c.args.machine.now.input start n c.meet.new.reader (g.C.Cabinet.state c.meet.new.cabinet) c.meet.new.self) (sym (taken_there told is to)) next;
+          (c.in-Ok-meet.ensures.meets c.args.machine.now.program c.args.machine.now.input start to.before.taken (in_step_there stated is to start c.steps.reader (g.C.Cabinet.state c.steps.cabinet) c.steps.lockstep (c.steps.invariant.so_far start h)) (event_there stated is to)) in
+          subst (λ n. IsInStep c.args.machine.now.program c.args.machine.now.input start n c.meet.new.reader (g.C.Cabinet.state c.meet.new.cabinet) c.meet.new.self) (sym (taken_there stated is to)) next;
       noted = noted_now c.next_event.new.self c.next_event.new.machine c.steps.tracker.header c.in-Ok.ensures.noted;
       header = ap (λ t. t.header) c.in-Ok.ensures.noted ∙ c.steps.invariant.header;
     }
 
 pub returns-in-Some-clause-steps : goal.returns-in-Some-clause-steps
 returns-in-Some-clause-steps g c =
-    let told : IsTold c.args.machine.now.program c.args.machine.now.input = told_by c.args.machine.now.program c.args.machine.now.input c.events_tell_output_and_ending.ensures.output c.events_tell_output_and_ending.ensures.ending c.runs_end.ensures c.runs_are_bounded.ensures.bounded in
+    let stated : IsStated c.args.machine.now.program c.args.machine.now.input = stated_by c.args.machine.now.program c.args.machine.now.input c.events_tell_output_and_ending.ensures.output c.events_tell_output_and_ending.ensures.ending c.runs_end.ensures c.runs_are_bounded.ensures.bounded in
     let is : IsGoing c.args.machine.now.program c.args.machine.now.input c.steps.machine = record { program = c.steps.invariant.program; input = c.steps.invariant.input; going = (c.steps.invariant.so_far c.requires.begun.0 c.requires.begun.1).going } in
     let to = c.in-Ok.ensures.machine in
     λ start h. (
       suc to.before.taken,
       subst (λ o. FollowsStep c.args.machine.now.program c.args.machine.now.input start to.before.taken c.meet.new.reader (g.C.Cabinet.state c.meet.new.cabinet) c.meet.new.self (Ok o)) c.in-Some.is
-          (c.in-Ok-meet.ensures.meets c.args.machine.now.program c.args.machine.now.input start to.before.taken (in_step_there told is to start c.steps.reader (g.C.Cabinet.state c.steps.cabinet) c.steps.lockstep (c.steps.invariant.so_far start h)) (event_there told is to)),
+          (c.in-Ok-meet.ensures.meets c.args.machine.now.program c.args.machine.now.input start to.before.taken (in_step_there stated is to start c.steps.reader (g.C.Cabinet.state c.steps.cabinet) c.steps.lockstep (c.steps.invariant.so_far start h)) (event_there stated is to)),
     )
 
 pub returns-in-Err-meet-clause-steps : goal.returns-in-Err-meet-clause-steps
 returns-in-Err-meet-clause-steps g c =
-    let told : IsTold c.args.machine.now.program c.args.machine.now.input = told_by c.args.machine.now.program c.args.machine.now.input c.events_tell_output_and_ending.ensures.output c.events_tell_output_and_ending.ensures.ending c.runs_end.ensures c.runs_are_bounded.ensures.bounded in
+    let stated : IsStated c.args.machine.now.program c.args.machine.now.input = stated_by c.args.machine.now.program c.args.machine.now.input c.events_tell_output_and_ending.ensures.output c.events_tell_output_and_ending.ensures.ending c.runs_end.ensures c.runs_are_bounded.ensures.bounded in
     let is : IsGoing c.args.machine.now.program c.args.machine.now.input c.steps.machine = record { program = c.steps.invariant.program; input = c.steps.invariant.input; going = (c.steps.invariant.so_far c.requires.begun.0 c.requires.begun.1).going } in
     let to = c.in-Ok.ensures.machine in
-    λ start h. c.in-Err-meet.ensures.meets c.args.machine.now.program c.args.machine.now.input start to.before.taken (in_step_there told is to start c.steps.reader (g.C.Cabinet.state c.steps.cabinet) c.steps.lockstep (c.steps.invariant.so_far start h)) (event_there told is to)
+    λ start h. c.in-Err-meet.ensures.meets c.args.machine.now.program c.args.machine.now.input start to.before.taken (in_step_there stated is to start c.steps.reader (g.C.Cabinet.state c.steps.cabinet) c.steps.lockstep (c.steps.invariant.so_far start h)) (event_there stated is to)
 
 pub returns-in-Some-clause-over : goal.returns-in-Some-clause-over
 returns-in-Some-clause-over g c =
-    let told : IsTold c.args.machine.now.program c.args.machine.now.input = told_by c.args.machine.now.program c.args.machine.now.input c.events_tell_output_and_ending.ensures.output c.events_tell_output_and_ending.ensures.ending c.runs_end.ensures c.runs_are_bounded.ensures.bounded in
+    let stated : IsStated c.args.machine.now.program c.args.machine.now.input = stated_by c.args.machine.now.program c.args.machine.now.input c.events_tell_output_and_ending.ensures.output c.events_tell_output_and_ending.ensures.ending c.runs_end.ensures c.runs_are_bounded.ensures.bounded in
     let is : IsGoing c.args.machine.now.program c.args.machine.now.input c.steps.machine = record { program = c.steps.invariant.program; input = c.steps.invariant.input; going = (c.steps.invariant.so_far c.requires.begun.0 c.requires.begun.1).going } in
     let to = c.in-Ok.ensures.machine in
     let over = subst (λ o. FollowsStep c.args.machine.now.program c.args.machine.now.input c.requires.begun.0 to.before.taken c.meet.new.reader (g.C.Cabinet.state c.meet.new.cabinet) c.meet.new.self (Ok o)) c.in-Some.is
-    (c.in-Ok-meet.ensures.meets c.args.machine.now.program c.args.machine.now.input c.requires.begun.0 to.before.taken (in_step_there told is to c.requires.begun.0 c.steps.reader (g.C.Cabinet.state c.steps.cabinet) c.steps.lockstep (c.steps.invariant.so_far c.requires.begun.0 c.requires.begun.1)) (event_there told is to)) in
+    (c.in-Ok-meet.ensures.meets c.args.machine.now.program c.args.machine.now.input c.requires.begun.0 to.before.taken (in_step_there stated is to c.requires.begun.0 c.steps.reader (g.C.Cabinet.state c.steps.cabinet) c.steps.lockstep (c.steps.invariant.so_far c.requires.begun.0 c.requires.begun.1)) (event_there stated is to)) in
     record {
-      program = program_there told is to;
-      input = input_there told is to;
-      ended = over_there told is to c.in-Some.ending over.ended;
+      program = program_there stated is to;
+      input = input_there stated is to;
+      ended = over_there stated is to c.in-Some.ending over.ended;
       noted = noted_now c.next_event.new.self c.next_event.new.machine c.steps.tracker.header c.in-Ok.ensures.noted;
       header = ap (λ t. t.header) c.in-Ok.ensures.noted ∙ c.steps.invariant.header;
     }

@@ -111,11 +111,11 @@ module _ (Fact : ℕ → List ℕ → ℕ → Type 0) (Returned : ℕ → ℕ �
   values_in_frames (f ∷ fs) = ValuesHold f.function f.registers × values_in_frames fs
 
   -- if the fact holds of 0 in each register, it holds of each register of each frame
-  pub each_told : ((g : ℕ) (name : List ℕ) → Fact g name 0) → (fs : List Frame) → values_in_frames fs
+  pub each_stated : ((g : ℕ) (name : List ℕ) → Fact g name 0) → (fs : List Frame) → values_in_frames fs
       → each_register Fact fs
-  each_told none [] h = tt
-  each_told none (f ∷ fs) h =
-      (λ name. fact_of_value f.function f.registers name h.0 (none f.function name), each_told none fs h.1)
+  each_stated none [] h = tt
+  each_stated none (f ∷ fs) h =
+      (λ name. fact_of_value f.function f.registers name h.0 (none f.function name), each_stated none fs h.1)
 
   module _ (P : Program) (I : Input) where
     -- Each case in which a register gets a value, or a function returns one, keeps the fact: an instruction, a phi, and

@@ -2,7 +2,7 @@ use Rattle.std.proofs.Common.{◌≡◌, List, ◌∷◌, [], ◌++◌, map, tak
 use Rattle.std.proofs.Math.Path.{fun_ext}
 use Rattle.hip_tree.specs.declared.program.GlobalVar.{GlobalVar}
 use Rattle.hip_names.specs.Tables.{Entry, StandsFor}
-use Rattle.hip_levels.proofs.ConstantLevels.{entry_of, entries_next, take_whole, globals_told}
+use Rattle.hip_levels.proofs.ConstantLevels.{entry_of, entries_next, take_whole, globals_stated}
 use Rattle.hip_levels.proofs.constants.persistence_table.Goals as goal
 
 pub each-preserved : goal.each-preserved
@@ -19,4 +19,4 @@ pub returns : goal.returns
 returns c =
     let gs = c.args.globals.now in
     let all : take c.each.global-index gs ≡ gs = take_whole gs c.each.global-index (omega arith) in
-    fun_ext (λ name. globals_told c.each.table.names c.each.table.values gs (subst (λ (xs : List GlobalVar). StandsFor c.each.table.names c.each.table.values (map entry_of xs)) all c.each.invariant) name)
+    fun_ext (λ name. globals_stated c.each.table.names c.each.table.values gs (subst (λ (xs : List GlobalVar). StandsFor c.each.table.names c.each.table.values (map entry_of xs)) all c.each.invariant) name)

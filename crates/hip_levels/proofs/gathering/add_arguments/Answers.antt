@@ -22,13 +22,13 @@ all_taken P g h (p ∷ ps) [] k le = ap (argument_rules P g h (drop k (p ∷ ps)
 all_taken P g h (p ∷ ps) (a ∷ args) zero le = absurd (omega arith)
 all_taken P g h (p ∷ ps) (a ∷ args) (suc k) le = all_taken P g h ps args k (omega arith)
 
-nothing_behind : (xs : List Rule) → xs ++ [] ≡ xs
-nothing_behind [] = refl
-nothing_behind (x ∷ xs) = ap (λ ys. x ∷ ys) (nothing_behind xs)
+nothing_past : (xs : List Rule) → xs ++ [] ≡ xs
+nothing_past [] = refl
+nothing_past (x ∷ xs) = ap (λ ys. x ∷ ys) (nothing_past xs)
 
 pub returns : goal.returns
 returns c =
     let P = c.args.scope.now.program.now in
     let taken : argument_rules P c.args.function c.args.callee (drop c.each.place c.args.params.now) (drop c.each.place c.args.args.now) ≡ [] =
     all_taken P c.args.function c.args.callee c.args.params.now c.args.args.now c.each.place (omega (arith, c.min-count.ensures)) in
-    sym (ap (λ rs. c.each.rules ++ rs) taken ∙ nothing_behind c.each.rules) ∙ c.each.invariant
+    sym (ap (λ rs. c.each.rules ++ rs) taken ∙ nothing_past c.each.rules) ∙ c.each.invariant

@@ -5,7 +5,7 @@ use Rattle.hip_levels.specs.Bounds.{Known}
 use Rattle.hip_levels.specs.Gathered.{level_with}
 use Rattle.hip_levels.specs.Rules.{offset_bound}
 use Rattle.hip_levels.specs.Tables.{level_of}
-use Rattle.hip_levels.proofs.ConstantLevels.{level_behind}
+use Rattle.hip_levels.proofs.ConstantLevels.{level_past}
 use Rattle.hip_levels.proofs.gathering.operand_at_offset.Goals as goal
 
 pub returns-in_ok-level-in-Fixed-clause-bound : goal.returns-in_ok-level-in-Fixed-clause-bound
@@ -15,5 +15,5 @@ returns-in_ok-level-in-Fixed-clause-bound c =
     let offset = c.args.offset in
     let level = c.in_ok-level-in-Fixed.level in
     let is : level_of level ≡ level_with _ value = c.in_ok-level-in-Fixed.ensures.level ∙ ap (λ (names : List ℕ → PointerLevel). level_with names value) c.requires.scope.globals in
-    ap Known (ap level_of c.at_offset.ensures ∙ level_behind level offset c.in_ok-level-in-Fixed.ensures.small ∙ ap (λ a. after_offset a offset) is)
+    ap Known (ap level_of c.at_offset.ensures ∙ level_past level offset c.in_ok-level-in-Fixed.ensures.small ∙ ap (λ a. after_offset a offset) is)
     ∙ sym (ap (λ (o : Operand). offset_bound P c.args.function o offset) c.in-Fixed.is)

@@ -4,12 +4,12 @@ use Rattle.hip_storage.specs.Contents.{after_pop, block_trap}
 use Rattle.hip_machine.specs.Acts.{Keeps}
 use Rattle.hip_machine.specs.declared.core_parts.Core.{Core}
 use Rattle.hip_machine.proofs.CallArms.{on_err}
-use Rattle.hip_machine.proofs.MemoryArms.{acts_alloca, acts_alloca_trap, behind_block, keeps_storage, mark_rises, taken_back}
+use Rattle.hip_machine.proofs.MemoryArms.{acts_alloca, acts_alloca_trap, past_block, keeps_storage, mark_rises, taken_back}
 use Rattle.std.proofs.Common.{arith}
 use Rattle.hip_machine.proofs.memory_steps.alloca.Goals as goal
 
-pub keep_block-requires-clause-behind : goal.keep_block-requires-clause-behind
-keep_block-requires-clause-behind c = behind_block c.args.core.now.blocks c.in-Ok.ensures.ok c.requires.laid.behind
+pub keep_block-requires-clause-past : goal.keep_block-requires-clause-past
+keep_block-requires-clause-past c = past_block c.args.core.now.blocks c.in-Ok.ensures.ok c.requires.laid.past
 
 pub keep_block-requires-clause-high : goal.keep_block-requires-clause-high
 keep_block-requires-clause-high c = let m = c.mark-mark.ensures.mark in let r = mark_rises c.in-Ok.ensures.ok in omega (arith, m, r)

@@ -11,7 +11,7 @@ returns-in-Store c =
     let core = c.args.core.now in
     let op = c.index-op.result.now in
     let here : slice_get code.ops.items core.top.place ≡ Some op = c.requires.here ∙ ap Some (sym (c.index-op.ensures ∙ get_or_from_slice_get code.ops.items core.top.place c.requires.op op c.requires.here)) in
-    if_ok _ _ (λ values told. subst (λ (i : Instr). (k : ℕ) → TellsPointer code core i k (slice_get values k)) (sym c.in-Store.is) (tells_stored op here told))
+    if_ok _ _ (λ values stated. subst (λ (i : Instr). (k : ℕ) → TellsPointer code core i k (slice_get values k)) (sym c.in-Store.is) (tells_stored op here stated))
     c.address_in.result c.address_in.ensures
 
 pub returns-in-Call : goal.returns-in-Call

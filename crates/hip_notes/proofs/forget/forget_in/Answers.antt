@@ -15,7 +15,7 @@ returns-in-Ok c =
     let now = sym c.keep.ensures.lines in
     inr (record {
       tags = bag.contains nat_cmp c.in-Ok.needed.tags;
-      told = c.in-Ok.ensures.tags;
+      stated = c.in-Ok.ensures.tags;
       stores = c.keep.ensures.stores;
       lines = λ j. subst (λ (m : BTreeMap ℕ LineNote). MayThin c.args.lines.now.lines j (lines_of notes j) (lines_of m j)) now (c.in-Ok.ensures.lines j);
       there = λ x i some. subst (λ (m : BTreeMap ℕ LineNote). IsSome (lines_of m (x.offset / LINE_SIZE))) now (c.in-Ok.ensures.there x i some);

@@ -7,7 +7,7 @@ abbrev pub invariant-each : goal.invariant-each
 invariant-each l = record {
   low : l.first ≤ l.next;
   high : (l.next ≡ l.first) ⊎ (l.next ≤ l.end);
-  told : (j : ℕ) → lines_of l.lines j ≡ cond (is_between l.first l.next j) (option_map (with_flush l.flush) (lines_of l.fn.lines j)) (lines_of l.fn.lines j);
+  stated : (j : ℕ) → lines_of l.lines j ≡ cond (is_between l.first l.next j) (option_map (with_flush l.flush) (lines_of l.fn.lines j)) (lines_of l.fn.lines j);
 }
 
 abbrev pub decreases-each : goal.decreases-each

@@ -47,22 +47,22 @@ each-preserved c =
     let rest : List Report = c.next.new.self in
     let are : left ≡ r ∷ rest = c.in-Some.ensures.steps in
     let level : n ≡ choice P found r = c.choose_by-level.ensures ∙ ap (λ (f : Findings). choice P f r) c.in_ok-worths.ensures in
-    let put = λ (o : Option Site) (old new : List Site) (told : puts c.program-program.result.now o old new) (s : Site).
-    told s ∙ ap (λ (p : Program). (is_site o s && is_there p s) || has_site old s) c.program-program.ensures.is in
-    let told = c.in_ok-add_asked.ensures in
+    let put = λ (o : Option Site) (old new : List Site) (stated : puts c.program-program.result.now o old new) (s : Site).
+    stated s ∙ ap (λ (p : Program). (is_site o s && is_there p s) || has_site old s) c.program-program.ensures.is in
+    let stated = c.in_ok-add_asked.ensures in
     record {
       flushes =
           asked_more P (λ x s. asks_flush x.kind (choice P found x) x.path s) reports left rest r (flush_asked r.kind n r.path) c.each.sites.flush_after c.add_asked.new.sites.flush_after are
           (λ s. flush_is r.kind n r.path s ∙ ap (λ (k : ℕ). asks_flush r.kind k r.path s) level)
-          (put (flush_asked r.kind n r.path) c.each.sites.flush_after c.add_asked.new.sites.flush_after told.flushes) c.each.invariant.flushes;
+          (put (flush_asked r.kind n r.path) c.each.sites.flush_after c.add_asked.new.sites.flush_after stated.flushes) c.each.invariant.flushes;
       fences =
           asked_more P (λ x s. asks_fence x.kind (choice P found x) x.flush_site x.path s) reports left rest r (fence_asked r.kind n r.flush_site r.path) c.each.sites.fence_after c.add_asked.new.sites.fence_after are
           (λ s. fence_is r.kind n r.flush_site r.path s ∙ ap (λ (k : ℕ). asks_fence r.kind k r.flush_site r.path s) level)
-          (put (fence_asked r.kind n r.flush_site r.path) c.each.sites.fence_after c.add_asked.new.sites.fence_after told.fences) c.each.invariant.fences;
+          (put (fence_asked r.kind n r.flush_site r.path) c.each.sites.fence_after c.add_asked.new.sites.fence_after stated.fences) c.each.invariant.fences;
       hoists =
           asked_more P (λ x s. asks_hoist x.kind (choice P found x) x.path s) reports left rest r (hoist_asked r.kind n r.path) c.each.sites.hoist c.add_asked.new.sites.hoist are
           (λ s. hoist_is r.kind n r.path s ∙ ap (λ (k : ℕ). asks_hoist r.kind k r.path s) level)
-          (put (hoist_asked r.kind n r.path) c.each.sites.hoist c.add_asked.new.sites.hoist told.hoists) c.each.invariant.hoists;
+          (put (hoist_asked r.kind n r.path) c.each.sites.hoist c.add_asked.new.sites.hoist stated.hoists) c.each.invariant.hoists;
     }
 
 pub returns-clause-is : goal.returns-clause-is

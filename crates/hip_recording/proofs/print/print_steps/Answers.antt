@@ -1,5 +1,5 @@
 use Rattle.std.proofs.Common.{sym, ◌∙◌, subst}
-use Rattle.hip_lockstep.proofs.Going.{told_by}
+use Rattle.hip_lockstep.proofs.Going.{stated_by}
 use Rattle.hip_recording.proofs.Outputs.{IsPrinting, fails_next, prints_last, prints_next, started, stopped}
 use Rattle.hip_recording.proofs.Silently.{prints_nearer}
 use Rattle.hip_recording.proofs.print.print_steps.Goals as goal
@@ -10,25 +10,25 @@ steps-init g c = subst (λ n. IsPrinting c.args.runner.now.program c.args.runner
 
 pub returns-in-Err : goal.returns-in-Err
 returns-in-Err g c =
-    let told = told_by c.args.runner.now.program c.args.runner.now.input c.events_tell_output_and_ending.ensures.output c.events_tell_output_and_ending.ensures.ending c.runs_end.ensures c.runs_are_bounded.ensures.bounded in
-    stopped told c.steps.invariant
+    let stated = stated_by c.args.runner.now.program c.args.runner.now.input c.events_tell_output_and_ending.ensures.output c.events_tell_output_and_ending.ensures.ending c.runs_end.ensures c.runs_are_bounded.ensures.bounded in
+    stopped stated c.steps.invariant
 
 pub steps-smaller : goal.steps-smaller
 steps-smaller g c =
-    let told = told_by c.args.runner.now.program c.args.runner.now.input c.events_tell_output_and_ending.ensures.output c.events_tell_output_and_ending.ensures.ending c.runs_end.ensures c.runs_are_bounded.ensures.bounded in
-    prints_nearer told c.steps.invariant.on c.in-Ok.ensures.ok (sym c.ending_of.ensures ∙ c.in-None.is)
+    let stated = stated_by c.args.runner.now.program c.args.runner.now.input c.events_tell_output_and_ending.ensures.output c.events_tell_output_and_ending.ensures.ending c.runs_end.ensures c.runs_are_bounded.ensures.bounded in
+    prints_nearer stated c.steps.invariant.on c.in-Ok.ensures.ok (sym c.ending_of.ensures ∙ c.in-None.is)
 
 pub steps-preserved : goal.steps-preserved
 steps-preserved g c =
-    let told = told_by c.args.runner.now.program c.args.runner.now.input c.events_tell_output_and_ending.ensures.output c.events_tell_output_and_ending.ensures.ending c.runs_end.ensures c.runs_are_bounded.ensures.bounded in
-    prints_next told c.steps.invariant c.in-Ok.ensures.ok (g.S.Sink.state c.put_event.new.out) (sym c.ending_of.ensures ∙ c.in-None.is) c.in-Done.ensures
+    let stated = stated_by c.args.runner.now.program c.args.runner.now.input c.events_tell_output_and_ending.ensures.output c.events_tell_output_and_ending.ensures.ending c.runs_end.ensures c.runs_are_bounded.ensures.bounded in
+    prints_next stated c.steps.invariant c.in-Ok.ensures.ok (g.S.Sink.state c.put_event.new.out) (sym c.ending_of.ensures ∙ c.in-None.is) c.in-Done.ensures
 
 pub returns-in-Failed : goal.returns-in-Failed
 returns-in-Failed g c =
-    let told = told_by c.args.runner.now.program c.args.runner.now.input c.events_tell_output_and_ending.ensures.output c.events_tell_output_and_ending.ensures.ending c.runs_end.ensures c.runs_are_bounded.ensures.bounded in
-    fails_next told c.steps.invariant c.in-Ok.ensures.ok (g.S.Sink.state c.put_event.new.out) c.in-Failed.ensures
+    let stated = stated_by c.args.runner.now.program c.args.runner.now.input c.events_tell_output_and_ending.ensures.output c.events_tell_output_and_ending.ensures.ending c.runs_end.ensures c.runs_are_bounded.ensures.bounded in
+    fails_next stated c.steps.invariant c.in-Ok.ensures.ok (g.S.Sink.state c.put_event.new.out) c.in-Failed.ensures
 
 pub returns-in-Some : goal.returns-in-Some
 returns-in-Some g c =
-    let told = told_by c.args.runner.now.program c.args.runner.now.input c.events_tell_output_and_ending.ensures.output c.events_tell_output_and_ending.ensures.ending c.runs_end.ensures c.runs_are_bounded.ensures.bounded in
-    prints_last told c.steps.invariant c.in-Ok.ensures.ok c.in-Some.ending (sym c.ending_of.ensures ∙ c.in-Some.is)
+    let stated = stated_by c.args.runner.now.program c.args.runner.now.input c.events_tell_output_and_ending.ensures.output c.events_tell_output_and_ending.ensures.ending c.runs_end.ensures c.runs_are_bounded.ensures.bounded in
+    prints_last stated c.steps.invariant c.in-Ok.ensures.ok c.in-Some.ending (sym c.ending_of.ensures ∙ c.in-Some.is)

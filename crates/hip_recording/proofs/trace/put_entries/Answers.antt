@@ -2,7 +2,7 @@ use Rattle.std.proofs.Common.{◌^◌, ◌<◌, refl, sym, ap, ◌∙◌, subst,
 use Rattle.hip_runs.specs.Ends.{longest}
 use Rattle.hip_runs.specs.Step.{run}
 use Rattle.hip_sound.specs.Sound.{IsSound}
-use Rattle.hip_lockstep.proofs.Going.{starts, told_by}
+use Rattle.hip_lockstep.proofs.Going.{starts, stated_by}
 use Rattle.hip_recording.proofs.Quietly.{comes_nearer, comes_on}
 use Rattle.hip_recording.proofs.TraceTexts.{count_at, count_fits_next, counted_next, failed_next, header_at, recorded_last, stopped, written_next}
 use Rattle.hip_recording.proofs.trace.put_entries.Goals as goal
@@ -16,39 +16,39 @@ steps-init g c = record {
 
 pub returns-in-Err : goal.returns-in-Err
 returns-in-Err g c = λ start h.
-    let told = told_by c.args.runner.now.program c.args.runner.now.input c.events_tell_output_and_ending.ensures.output c.events_tell_output_and_ending.ensures.ending c.runs_end.ensures c.runs_are_bounded.ensures.bounded in
-    stopped told (record { on = c.steps.invariant.on; written = c.steps.invariant.so_far start h })
+    let stated = stated_by c.args.runner.now.program c.args.runner.now.input c.events_tell_output_and_ending.ensures.output c.events_tell_output_and_ending.ensures.ending c.runs_end.ensures c.runs_are_bounded.ensures.bounded in
+    stopped stated (record { on = c.steps.invariant.on; written = c.steps.invariant.so_far start h })
 
 pub overflow_add-entries : goal.overflow_add-entries
 overflow_add-entries g c =
-    let told = told_by c.args.runner.now.program c.args.runner.now.input c.events_tell_output_and_ending.ensures.output c.events_tell_output_and_ending.ensures.ending c.runs_end.ensures c.runs_are_bounded.ensures.bounded in
+    let stated = stated_by c.args.runner.now.program c.args.runner.now.input c.events_tell_output_and_ending.ensures.output c.events_tell_output_and_ending.ensures.ending c.runs_end.ensures c.runs_are_bounded.ensures.bounded in
     let short : longest c.args.runner.now.program < 2 ^ 64 = subst (λ p. longest p < 2 ^ 64) (c.program-program.ensures.is ∙ c.checked.ensures) (subst (λ n. n < 2 ^ 64) c.longest-most.ensures (let fits = c.longest-most.type_inv in omega (arith, fits))) in
-    let few = count_fits_next told c.steps.invariant.on c.in-Ok.ensures.ok c.steps.entries c.in-Ok-put_entry.more c.steps.invariant.counted c.in-Ok-put_entry.ensures.count
+    let few = count_fits_next stated c.steps.invariant.on c.in-Ok.ensures.ok c.steps.entries c.in-Ok-put_entry.more c.steps.invariant.counted c.in-Ok-put_entry.ensures.count
     (c.runs_are_bounded.ensures.fit c.args.runner.now.program c.args.runner.now.input (subst (λ p. IsSound p) c.checked.ensures c.program-program.ensures.sound) c.requires.valid short) in
     omega (arith, few)
 
 pub returns-in-Err-put_entry : goal.returns-in-Err-put_entry
 returns-in-Err-put_entry g c = λ start h.
-    let told = told_by c.args.runner.now.program c.args.runner.now.input c.events_tell_output_and_ending.ensures.output c.events_tell_output_and_ending.ensures.ending c.runs_end.ensures c.runs_are_bounded.ensures.bounded in
-    failed_next told (record { on = c.steps.invariant.on; written = c.steps.invariant.so_far start h }) c.in-Ok.ensures.ok (g.S.Sink.state c.put_entry.new.out) c.in-Err-put_entry.ensures.wrote
+    let stated = stated_by c.args.runner.now.program c.args.runner.now.input c.events_tell_output_and_ending.ensures.output c.events_tell_output_and_ending.ensures.ending c.runs_end.ensures c.runs_are_bounded.ensures.bounded in
+    failed_next stated (record { on = c.steps.invariant.on; written = c.steps.invariant.so_far start h }) c.in-Ok.ensures.ok (g.S.Sink.state c.put_entry.new.out) c.in-Err-put_entry.ensures.wrote
 
 pub returns-in-Some : goal.returns-in-Some
 returns-in-Some g c = λ start h.
-    let told = told_by c.args.runner.now.program c.args.runner.now.input c.events_tell_output_and_ending.ensures.output c.events_tell_output_and_ending.ensures.ending c.runs_end.ensures c.runs_are_bounded.ensures.bounded in
-    recorded_last told (record { on = c.steps.invariant.on; written = c.steps.invariant.so_far start h }) c.in-Ok.ensures.ok (g.S.Sink.state c.put_entry.new.out) c.in-Some.ending c.steps.entries c.in-Ok-put_entry.more
+    let stated = stated_by c.args.runner.now.program c.args.runner.now.input c.events_tell_output_and_ending.ensures.output c.events_tell_output_and_ending.ensures.ending c.runs_end.ensures c.runs_are_bounded.ensures.bounded in
+    recorded_last stated (record { on = c.steps.invariant.on; written = c.steps.invariant.so_far start h }) c.in-Ok.ensures.ok (g.S.Sink.state c.put_entry.new.out) c.in-Some.ending c.steps.entries c.in-Ok-put_entry.more
     (sym c.ending_of.ensures ∙ c.in-Some.is) c.in-Ok-put_entry.ensures.wrote c.steps.invariant.counted c.in-Ok-put_entry.ensures.count
 
 pub steps-smaller : goal.steps-smaller
 steps-smaller g c =
-    let told = told_by c.args.runner.now.program c.args.runner.now.input c.events_tell_output_and_ending.ensures.output c.events_tell_output_and_ending.ensures.ending c.runs_end.ensures c.runs_are_bounded.ensures.bounded in
-    comes_nearer told c.steps.invariant.on c.in-Ok.ensures.ok (sym c.ending_of.ensures ∙ c.in-None.is)
+    let stated = stated_by c.args.runner.now.program c.args.runner.now.input c.events_tell_output_and_ending.ensures.output c.events_tell_output_and_ending.ensures.ending c.runs_end.ensures c.runs_are_bounded.ensures.bounded in
+    comes_nearer stated c.steps.invariant.on c.in-Ok.ensures.ok (sym c.ending_of.ensures ∙ c.in-None.is)
 
 pub steps-preserved : goal.steps-preserved
 steps-preserved g c =
-    let told = told_by c.args.runner.now.program c.args.runner.now.input c.events_tell_output_and_ending.ensures.output c.events_tell_output_and_ending.ensures.ending c.runs_end.ensures c.runs_are_bounded.ensures.bounded in
+    let stated = stated_by c.args.runner.now.program c.args.runner.now.input c.events_tell_output_and_ending.ensures.output c.events_tell_output_and_ending.ensures.ending c.runs_end.ensures c.runs_are_bounded.ensures.bounded in
     let goes = sym c.ending_of.ensures ∙ c.in-None.is in
     record {
-      on = comes_on told c.steps.invariant.on c.in-Ok.ensures.ok goes;
-      counted = counted_next told c.steps.invariant.on c.in-Ok.ensures.ok c.steps.entries c.in-Ok-put_entry.more c.steps.invariant.counted c.in-Ok-put_entry.ensures.count;
-      so_far = λ start h. (written_next told (record { on = c.steps.invariant.on; written = c.steps.invariant.so_far start h }) c.in-Ok.ensures.ok (g.S.Sink.state c.put_entry.new.out) goes c.in-Ok-put_entry.ensures.wrote).written;
+      on = comes_on stated c.steps.invariant.on c.in-Ok.ensures.ok goes;
+      counted = counted_next stated c.steps.invariant.on c.in-Ok.ensures.ok c.steps.entries c.in-Ok-put_entry.more c.steps.invariant.counted c.in-Ok-put_entry.ensures.count;
+      so_far = λ start h. (written_next stated (record { on = c.steps.invariant.on; written = c.steps.invariant.so_far start h }) c.in-Ok.ensures.ok (g.S.Sink.state c.put_entry.new.out) goes c.in-Ok-put_entry.ensures.wrote).written;
     }

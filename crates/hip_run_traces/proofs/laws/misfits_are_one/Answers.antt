@@ -1,4 +1,4 @@
-use Rattle.hip_run_traces.specs.Laws.MisfitLaws.{behind-header, no-misfit, one-misfit}
+use Rattle.hip_run_traces.specs.Laws.MisfitLaws.{past-header, no-misfit, one-misfit}
 use Rattle.hip_run_traces.proofs.laws.misfits_are_one.Goals as goal
 
 pub returns-clause-entry : goal.returns-clause-entry
@@ -11,4 +11,4 @@ pub returns-clause-none : goal.returns-clause-none
 returns-clause-none c = no-misfit
 
 pub returns-clause-after : goal.returns-clause-after
-returns-clause-after c = behind-header
+returns-clause-after c = past-header

@@ -175,7 +175,7 @@ part_found o n made d f k (x ∷ ps) y zero p s =
     go false b c p q r e = absurd (let z : ⊥ = cc in z)
 part_found o n made d f k (x ∷ ps) y (suc i) p s =
     let e : k + suc i ≡ suc k + i = omega arith in
-    behind _ (part_found o n made d f (suc k) ps y i p
+    past _ (part_found o n made d f (suc k) ps y i p
     (record {
       at = s.at;
       step = s.step;
@@ -185,11 +185,11 @@ part_found o n made d f k (x ∷ ps) y (suc i) p s =
           ∙ ap (λ j. record { part = p; flushed = nat_lt j f }) e;
     }))
   where
-    behind : (b : Bool) → In y (loose_from o n made d f (suc k) ps)
+    past : (b : Bool) → In y (loose_from o n made d f (suc k) ps)
         → In y (cond b (record { part = x; flushed = nat_lt k f } ∷ loose_from o n made d f (suc k) ps)
         (loose_from o n made d f (suc k) ps))
-    behind true h = inr h
-    behind false h = h
+    past true h = inr h
+    past false h = h
 
 -- ---- the loose bytes of a range, by their places
 
@@ -226,21 +226,21 @@ bytes_in ws o (suc n) x b le lt e = go (λ low. bytes_in ws (suc o) n x b low (o
 -- ---- the loose byte of a line
 
 -- byte b is loose by the part p at place k, and x is that loose byte
-record IsTold (l : Line StorePart) (b : ℕ) (x : LooseByte) (k : ℕ) (p : StorePart) : Type 0 where
+record IsStated (l : Line StorePart) (b : ℕ) (x : LooseByte) (k : ℕ) (p : StorePart) : Type 0 where
   by : IsLooseBy covers l b k p
   is : x ≡ record { offset = b; tag = p.step; flushed = nat_lt k l.flushed }
 
 shift : (k d f : ℕ) → d ≤ k → nat_lt (k - d) (f - d) ≡ nat_lt k f
 shift k d f h = grind (arith, nat_tests)
 
-told_byte : (l : Line StorePart) (b : ℕ) (x : LooseByte) → bytes.loose_in (shown_line l) b ≡ Some x
-    → (k : ℕ) × (p : StorePart) × IsTold l b x k p
-told_byte l b x e =
+stated_byte : (l : Line StorePart) (b : ℕ) (x : LooseByte) → bytes.loose_in (shown_line l) b ≡ Some x
+    → (k : ℕ) × (p : StorePart) × IsStated l b x k p
+stated_byte l b x e =
     go (last_over bytes.part_covers b (shown_line l).parts) (last_over-finds bytes.part_covers b (shown_line l).parts) e
   where
     go : (o : Option (ℕ × Part)) → Finds bytes.part_covers (shown_line l).parts b o
         → option_map (bytes.loose_by (shown_line l) b) o ≡ Some x → (k : ℕ) × (p : StorePart)
-        × IsTold l b x k p
+        × IsStated l b x k p
     go None h e = absurd (let z : ⊥ = cc in z)
     go (Some (i, q)) h e =
         let a = loose-drop bytes.part_covers (map_line shown_part l) b i q h in
@@ -260,9 +260,9 @@ told_byte l b x e =
           },
         )
 
-byte_told : (l : Line StorePart) (b : ℕ) (k : ℕ) (p : StorePart) → IsLooseBy covers l b k p
+byte_stated : (l : Line StorePart) (b : ℕ) (k : ℕ) (p : StorePart) → IsLooseBy covers l b k p
     → bytes.loose_in (shown_line l) b ≡ Some (record { offset = b; tag = p.step; flushed = nat_lt k l.flushed })
-byte_told l b k p h =
+byte_stated l b k p h =
     go (last_over bytes.part_covers b (shown_line l).parts) (last_over-finds bytes.part_covers b (shown_line l).parts)
   where
     there : IsLastOver bytes.part_covers (shown_line l).parts b (k - l.durable) (shown_part p)
@@ -379,7 +379,7 @@ module _ (ls : List (Line StorePart)) (inside : AreInLines ls) (o n made : ℕ) 
       let there : bytes.loose_at (shown ls) c ≡ Some
       (record { offset = c; tag = y.part.step; flushed = nat_lt k l.flushed }) =
       ap (λ (w : Option (Pending Part)). option_and_then (λ x. bytes.loose_in x c) w)
-      (get-map shown_line ls (c / 64) l line) ∙ byte_told l c k y.part r.loose in (
+      (get-map shown_line ls (c / 64) l line) ∙ byte_stated l c k y.part r.loose in (
         record { offset = c; tag = y.part.step; flushed = nat_lt k l.flushed },
         bytes_in (shown ls) o n _ c r.low r.high there,
         r.step,
@@ -397,7 +397,7 @@ module _ (ls : List (Line StorePart)) (inside : AreInLines ls) (o n made : ℕ) 
       go c le lt (Some w) e q =
           let m = get-of_map shown_line ls (c / 64) w e in
           let l = m.0 in
-          let t = told_byte l c x (subst (λ v. bytes.loose_in v c ≡ Some x) (sym m.2) q) in
+          let t = stated_byte l c x (subst (λ v. bytes.loose_in v c ≡ Some x) (sym m.2) q) in
           let k = t.0 in
           let p = t.1 in
           let step : p.step ≡ made = sym (ap (λ (u : LooseByte). u.tag) t.2.is) ∙ tag in (

@@ -12,7 +12,7 @@ use Rattle.hip_runs.specs.State.{levels_of}
 use Rattle.hip_runs.specs.Step.{run}
 use Rattle.hip_runs.specs.Laws.Found.LooseBytes.{part_loose, loose_there, are_alike}
 use Rattle.hip_runs.specs.Laws.LineOrder.{in_lines}
-use Rattle.hip_runs.specs.Found.Tags.{AreAlike, AreToldBy, AscendWithin, HoldsTags, IsNoneBeside, has_tag, loose_bytes, tag_flushed}
+use Rattle.hip_runs.specs.Found.Tags.{AreAlike, AreStatedBy, AscendWithin, HoldsTags, IsNoneBeside, has_tag, loose_bytes, tag_flushed}
 use Rattle.hip_runs.specs.Laws.Members.{all_in, any_in, equal_true, in_all, in_any, true_equal}
 use Rattle.std.specs.Cmp.{both_ways}
 
@@ -62,8 +62,8 @@ module _ {A : Type 0} (f : ℕ → List A) where
 -- ---- tags
 
 module _ (ps : List LoosePart) (bs : List LooseByte) (made : ℕ) (h : AreAlike ps bs made) where
-  some_told : not_empty ps ≡ has_tag made bs
-  some_told = both_ways _ _ (λ e. to ps (λ p i. h.byte_of p i) e) (λ e. from (any_in (λ b. nat_eq b.tag made) bs e))
+  some_stated : not_empty ps ≡ has_tag made bs
+  some_stated = both_ways _ _ (λ e. to ps (λ p i. h.byte_of p i) e) (λ e. from (any_in (λ b. nat_eq b.tag made) bs e))
     where
       to : (qs : List LoosePart)
           → ((p : LoosePart) → In p qs → (b : LooseByte) × In b bs × (b.tag ≡ made)
@@ -80,8 +80,8 @@ module _ (ps : List LoosePart) (bs : List LooseByte) (made : ℕ) (h : AreAlike 
       from : (b : LooseByte) × In b bs × (nat_eq b.tag made ≡ true) → not_empty ps ≡ true
       from r = let q = h.part_of r.0 r.1 (equal_true r.0.tag made r.2) in there ps q.0 q.1
 
-  flushed_told : all_flushed ps ≡ tag_flushed made bs
-  flushed_told = both_ways _ _
+  flushed_stated : all_flushed ps ≡ tag_flushed made bs
+  flushed_stated = both_ways _ _
       (λ e. all_in (λ b. not (nat_eq b.tag made) || b.flushed) bs (λ b i. to e b i (nat_eq b.tag made) refl))
       (λ e. all_in (λ (p : LoosePart). p.flushed) ps
       (λ p i. let r = h.byte_of p i in sym r.3
@@ -102,11 +102,11 @@ module _ (ps : List LoosePart) (bs : List LooseByte) (made : ℕ) (h : AreAlike 
           go true q g = g
           go false q g = absurd (let z : ⊥ = cc in z)
 
-pub loose_told : (P : Program) (I : Input) (n o len made : ℕ)
-    → AreToldBy (loose_parts o len (run P I n).lines made) (loose_bytes (run P I n) o len) made
-loose_told P I n o len made =
+pub loose_stated : (P : Program) (I : Input) (n o len made : ℕ)
+    → AreStatedBy (loose_parts o len (run P I n).lines made) (loose_bytes (run P I n) o len) made
+loose_stated P I n o len made =
     let h = are_alike (run P I n).lines (in_lines P I n) o len made in
-    record { alike = h; some = some_told _ _ made h; flushed = flushed_told _ _ made h }
+    record { alike = h; some = some_stated _ _ made h; flushed = flushed_stated _ _ made h }
 
 -- each tag of a loose byte is that of a step that was taken
 pub tag_made : (P : Program) (I : Input) (n o len : ℕ) (b : LooseByte) → In b (loose_bytes (run P I n) o len)

@@ -36,8 +36,8 @@ module _ (P : Program) (I : Input) (n : ℕ) where
       in_lines P I n r.line r.of r.place p.part r.line_at r.loose.last_over.at r.byte r.loose.last_over.over in
       (r.of, ap (slice_get (run P I n).lines) at ∙ r.line_at, (r.place, p.part, r.loose))
 
-  pub loose-told : (b : ℕ) → IsLooseAt (run P I n) b → (x : LooseByte) × In x (loose_bytes (run P I n) b 1)
-  loose-told b h =
+  pub loose-stated : (b : ℕ) → IsLooseAt (run P I n) b → (x : LooseByte) × In x (loose_bytes (run P I n) b 1)
+  loose-stated b h =
       let there = loose_part b 1 h.2.1.step (run P I n).lines
       (record { part = h.2.1; flushed = nat_lt h.2.0 h.0.flushed })
       (part_of_loose b b 1 (omega arith) (omega arith) h) in
@@ -45,8 +45,8 @@ module _ (P : Program) (I : Input) (n : ℕ) where
       let r = alike.byte_of (record { part = h.2.1; flushed = nat_lt h.2.0 h.0.flushed }) there in
       (r.0, r.1)
 
-  pub told-loose : (b : ℕ) (x : LooseByte) → In x (loose_bytes (run P I n) b 1) → IsLooseAt (run P I n) b
-  told-loose b x i =
+  pub stated-loose : (b : ℕ) (x : LooseByte) → In x (loose_bytes (run P I n) b 1) → IsLooseAt (run P I n) b
+  stated-loose b x i =
       let alike = are_alike (run P I n).lines (in_lines P I n) b 1 x.tag in
       let r = alike.part_of x i refl in
       let q = part_loose b 1 x.tag (run P I n).lines r.0 r.1 in

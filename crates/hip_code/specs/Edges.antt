@@ -18,6 +18,7 @@ use Rattle.hip_runs.specs.Actions.{case_label}
 use Rattle.hip_runs.specs.Places.{blocks_of, block_at, block_number, phis_of, label_of}
 use Rattle.hip_code.specs.Entries.{StandsAt}
 use Rattle.hip_code.specs.Frames.{names_at}
+use Rattle.hip_code.specs.Named.{has_pointer}
 use Rattle.hip_code.specs.Numbers.{Tables, entries_of, HasSpan}
 use Rattle.hip_code.specs.Ops.{case_edge}
 use Rattle.hip_code.specs.Resolved.{IsOperand, is_result}
@@ -97,3 +98,4 @@ pub record IsCall (P : Program) (I : Input) (f : ℕ) (tables : Tables) (call : 
   pub arguments : are_arguments P.globals I.base (names_at P f) (names_at P call.function) tables.constants
       (entries_of call.arguments tables.moves) function.params args
   pub result : is_result (names_at P f) call.dest dest
+  pub pointed : call.pointed ≡ has_pointer args

@@ -1,7 +1,11 @@
 -- The operands of its instruction that an op has: the address of a store, and the arguments of a call.
-use Rattle.std.specs.Prelude.{ℕ, ◌≤◌, ◌≡◌, List, length, map, Option, Some, None, slice_get}
+use Rattle.std.specs.List.{list_any}
+use Rattle.std.specs.Prelude.{ℕ, ◌≤◌, ◌≡◌, Bool, true, false, List, length, map, Option, Some, None, slice_get}
+use Rattle.hip_types.specs.declared.number.Scalar.{Scalar}
+use Rattle.hip_types.specs.declared.number.Scalar.TheVariants.{Int, Ptr}
 use Rattle.hip_externs.specs.Externs.{call_of}
 use Rattle.hip_externs.specs.declared.call.ExternCall.{ExternCall}
+use Rattle.hip_tree.specs.declared.instr.Arg.{Arg}
 use Rattle.hip_tree.specs.declared.instr.Instr.{Instr}
 use Rattle.hip_tree.specs.declared.instr.Instr.TheVariants as instrs
 use Rattle.hip_tree.specs.declared.program.Function.{Function}
@@ -56,6 +60,29 @@ names_operands P I n rs o (instrs.Call dest ret callee args) =
     passes_or_effects P n (call_of callee) callee (values_of P.globals I.base rs args) o
 names_operands P I n rs o _ = Unit {0}
 
--- The op has the operands of its instruction: a store's address, and the values of a call's arguments.
+-- ---- pointers
+
+-- whether a scalar type is `ptr`
+abbrev pub is_pointer : Scalar → Bool
+is_pointer Ptr = true
+is_pointer (Int width) = false
+
+-- whether one of the arguments is a pointer
+abbrev pub has_pointer : List Arg → Bool
+has_pointer args = list_any (λ a. is_pointer a.ty) args
+
+-- a call says whether one of its arguments is a pointer; an op of another kind says nothing
+abbrev pub says_pointed : Op → List Arg → Type 0
+says_pointed (ops.Control (controls.Call call)) args = call.pointed ≡ has_pointer args
+says_pointed _ args = Unit {0}
+
+-- the same, where the instruction is a call
+abbrev pub says_of : Op → Instr → Type 0
+says_of o (instrs.Call dest ret callee args) = says_pointed o args
+says_of o _ = Unit {0}
+
+-- The op has the operands of its instruction: a store's address, and the values of a call's arguments. A call says
+-- whether one of these is a pointer.
 pub record NamesOperands (P : Program) (I : Input) (n : Numbers) (rs : Registers) (o : Op) (i : Instr) : Type 0 where
   pub is : names_operands P I n rs o i
+  pub pointed : says_of o i

@@ -238,7 +238,8 @@ pub enum Go {
 }
 
 /// A call of the function of that number, which begins at a place and has that number of registers; `frame` is how many
-/// slots the caller keeps, and the arguments are moves into the slots of the callee.
+/// slots the caller keeps, the arguments are moves into the slots of the callee, and `pointed` says whether one of them
+/// is a pointer.
 #[derive(Clone, Copy)]
 pub struct Call {
     pub target: u32,
@@ -247,6 +248,7 @@ pub struct Call {
     pub frame: u32,
     pub arguments: Span,
     pub dest: Option<u32>,
+    pub pointed: bool,
 }
 
 /// A return with a value or without one, or a place that control never reaches.

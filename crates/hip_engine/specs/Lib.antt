@@ -4,9 +4,9 @@ pub mod Running
 pub mod Quiet
 pub mod Silent
 pub mod QuickSteps
-pub mod LocalSteps
+pub mod PlainSteps
 pub mod Reaches
-pub mod Crossing
+pub mod StandingCalls
 pub mod Acting
 pub mod StoresAhead
 pub mod Laws

@@ -4,7 +4,6 @@
 
 mod acting;
 mod ahead;
-mod crossing;
 mod going;
 mod here;
 mod moves;
@@ -16,8 +15,9 @@ mod quick_steps;
 mod quick_stores;
 mod reach;
 mod runner;
+mod standing;
 mod stepping;
 
 pub use ahead::StoreAhead;
-pub use crossing::Crossing;
 pub use runner::Runner;
+pub use standing::StandingCall;

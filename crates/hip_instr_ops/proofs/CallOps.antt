@@ -23,6 +23,7 @@ use Rattle.hip_code.specs.Edges.{IsCall, are_arguments}
 use Rattle.hip_code.specs.Entries.{StandsAt, entry}
 use Rattle.hip_code.specs.Frames.{names_at, names_in}
 use Rattle.hip_code.specs.Laws.CallLaws.{resolves_call}
+use Rattle.hip_code.specs.Named.{has_pointer}
 use Rattle.hip_code.specs.Numbers.{Tables, entries_of}
 use Rattle.hip_code.specs.Resolved.{is_result}
 use Rattle.hip_code.specs.declared.op.Call.{Call}
@@ -122,8 +123,8 @@ module _ (s : Scope) (t u v : Tables) (dest : Option (List ℕ)) (ret : Option S
       span_is call.arguments.from call.arguments.count g.moves (omega (arith, l, m, k, f, n)) ∙ ap₂ (λ i (ms : List Move). drop i ms) f p.are ∙ drop-append_seam t.moves p.moves
 
   pub does_call : call.target ≡ entry s.program.now c.number 0 → call.size ≡ length (names_at s.program.now c.number) → call.frame ≡ length (names_of s) → is_result (names_of s) call.dest dest →
-      call.arguments.from ≡ length t.moves → call.arguments.count ≡ length args → DoesHere s v (ops.Control (controls.Call call)) (instrs.Call dest ret callee args)
-  does_call target size frame result f n = record { on = λ I e. resolves_call s.program.now I s.number v dest ret callee args call c.free (is_call I e) }
+      call.arguments.from ≡ length t.moves → call.arguments.count ≡ length args → call.pointed ≡ has_pointer args → DoesHere s v (ops.Control (controls.Call call)) (instrs.Call dest ret callee args)
+  does_call target size frame result f n pointed = record { on = λ I e. resolves_call s.program.now I s.number v dest ret callee args call c.free (is_call I e) }
     where
       is_call : (I : Input) → I.base ≡ s.base → IsCall s.program.now I s.number v call callee args dest
       is_call I e = record {
@@ -142,6 +143,7 @@ module _ (s : Scope) (t u v : Tables) (dest : Option (List ℕ)) (ret : Option S
             (subst (λ called. are_arguments s.program.now.globals s.base (names_of s) called v.constants p.moves c.function.params args) (sym (ap (names_at s.program.now) number ∙ called_is))
             (arguments_passed s v (register_names c.function) 0 p.moves c.function.params args (λ j q h. param_number s.program.now d.sound c.number c.function c.here j q h ∙ ap Some (omega arith)) c.as_long (p.makes.lasts v g))));
         result = result;
+        pointed = pointed;
       }
 
 -- the number that the callee's name has

@@ -1,5 +1,6 @@
 ghost use Rattle.std.specs.Prelude.{Option, IfOk};
 ghost use Rattle.hip_types.specs.declared.number.Scalar.{Scalar};
+ghost use Rattle.hip_code.specs.Named.{has_pointer};
 ghost use Rattle.hip_tree.specs.declared.instr.Instr.TheVariants as instrs;
 ghost use Rattle.hip_scope.specs.Grown.{grown};
 ghost use Rattle.hip_scope.specs.Growth.{Makes};
@@ -11,7 +12,7 @@ use crate::externs::result_slot;
 use hip_code::{Call, Control, Move, Op, Span};
 use hip_scope::{Growing, Scope, number_at, operand, place};
 use hip_tree::Arg;
-use hip_types::{Name, NoMemory};
+use hip_types::{Name, NoMemory, Scalar};
 
 /// Moves of arguments into the slots of parameters, which are the first ones of the callee.
 fn arguments(scope: &Scope<'_, '_>, tables: &mut Growing, args: &[Arg]) -> Result<(), NoMemory>
@@ -26,6 +27,13 @@ fn arguments(scope: &Scope<'_, '_>, tables: &mut Growing, args: &[Arg]) -> Resul
         tables.moves.push(Move { dest, value })?;
     }
     Ok(())
+}
+
+// Whether one of the arguments is a pointer.
+fn has_pointer(args: &[Arg]) -> bool
+    ensures { result ≡ has_pointer args.now }
+{
+    args.iter().any(|arg| matches!(arg.ty, Scalar::Ptr))
 }
 
 /// A call of a function of the program.
@@ -62,5 +70,6 @@ pub fn call(
         frame,
         arguments: Span { from, count },
         dest: slot,
+        pointed: has_pointer(args),
     })))
 }

@@ -24,11 +24,11 @@ use Rattle.hip_code.specs.declared.op.Call as op_call
 use Rattle.hip_code.specs.declared.op.Control.TheVariants as controls
 use Rattle.hip_code.specs.declared.op.Op.{Op}
 use Rattle.hip_code.specs.declared.op.Op.TheVariants as ops
-use Rattle.hip_code.specs.Named.{IsCallWith, is_memory, passes, passes_or_effects, stores_at}
+use Rattle.hip_code.specs.Named.{IsCallWith, is_memory, is_pointer, passes, passes_or_effects, stores_at}
 use Rattle.hip_code.specs.Numbers.{Numbers}
 use Rattle.hip_machine.specs.declared.core_parts.Core.{Core}
 use Rattle.hip_machine.specs.Acts.{numbers_of}
-use Rattle.hip_machine.specs.Pointing.{IsPointerArg, TellsPointer, calls_with, is_pointer}
+use Rattle.hip_machine.specs.Pointing.{IsPointerArg, TellsPointer, calls_with}
 
 -- ---- the pointers among arguments
 

@@ -9,10 +9,10 @@ use Rattle.hip_machine.specs.declared.core_parts.Activation.{Activation}
 use Rattle.hip_machine.specs.Blocks.{blocks_of}
 use Rattle.hip_machine.specs.Placed.{placed_at}
 
--- The instruction before a frame's place is the call that made the frame above it.
-pub record IsCallOf (g : Frame) (level : Option Level) : Type 0 where
+-- The instruction before a frame's place is the call that made the frame above it, before which this many steps were
+-- taken.
+pub record IsCallOf (g : Frame) (birth : ℕ) (level : Option Level) : Type 0 where
   pub index : ℕ
-  pub birth : ℕ
   pub past : g.place ≡ suc index
   pub is : level ≡ Some (record {
     call = record { function = g.function; block = g.block; index = index };
@@ -36,7 +36,7 @@ pub record IsSaved (P : Program) (slots : List ℕ) (base : ℕ) (slot : Option 
   pub result : is_result (names_at P g.function) slot name
   pub mark : x.mark ≡ g.mark
   pub blocks : x.blocks ≡ length (blocks_of gs)
-  pub call : IsCallOf g level
+  pub call : IsCallOf g x.left level
 
 -- each of the frames, from the top one down, is kept by the last activation that is left; no activation is left over
 abbrev pub are_saved : Program → List ℕ → ℕ → Option ℕ → Option (List ℕ) → Option Level

@@ -22,11 +22,6 @@ use Rattle.hip_code.specs.Numbers.{Numbers}
 use Rattle.hip_machine.specs.declared.core_parts.Core.{Core}
 use Rattle.hip_machine.specs.Acts.{numbers_of}
 
--- whether a scalar type is `ptr`
-abbrev pub is_pointer : Scalar → Bool
-is_pointer Ptr = true
-is_pointer (Int width) = false
-
 -- the argument at place j is the pointer of that number
 pub record IsPointerArg (args : List Arg) (k j : ℕ) : Type 0 where
   pub arg : Arg

@@ -9,7 +9,8 @@ use hip_tree::Site;
 
 /// A frame of a call: the place of its next op, and that of the first op of its block; the place of its first slot; the
 /// stack's mark at its call, and how many blocks stood on the stack then; the numbers of its function and of its block;
-/// and the slot of its caller that its result goes to.
+/// the slot of its caller that its result goes to; and, while it waits for a call that it made, how many steps were taken
+/// before that call.
 #[derive(Clone, Copy, Drop)]
 pub struct Activation {
     pub place: usize,
@@ -20,6 +21,7 @@ pub struct Activation {
     pub function: u32,
     pub block: u32,
     pub dest: Option<u32>,
+    pub left: u128,
 }
 
 /// The state of a machine: the frame on top, and those below it from the bottom one up; the slots of all frames; the

@@ -1,10 +1,10 @@
 ghost use Rattle.std.specs.Prelude.{◌≡◌, ℕ, List, [], ◌∷◌, ◌++◌, None, Some, IfOk, MatchOption, OnOk, slice_get};
 ghost use Rattle.std.specs.List.{flat_map};
 ghost use Rattle.hip_runs.specs.Found.Marks.{pointer_arg};
-ghost use Rattle.hip_code.specs.Named.{is_memory, stores_at, values_passed};
+ghost use Rattle.hip_code.specs.Named.{is_memory, is_pointer, stores_at, values_passed};
 ghost use Rattle.hip_code.specs.Ops.{CallWithin, OpWithin};
 ghost use Rattle.hip_machine.specs.Acts.{IsReady, numbers_of};
-ghost use Rattle.hip_machine.specs.Pointing.{IsPointerArg, TellsPointer, calls_with, is_pointer, pointer_passed, pointers_among};
+ghost use Rattle.hip_machine.specs.Pointing.{IsPointerArg, TellsPointer, calls_with, pointer_passed, pointers_among};
 
 use crate::core_parts::Core;
 use crate::moves::moves_of;

@@ -21,7 +21,6 @@ use Rattle.hip_runs.specs.StoredParts.Parts.{In}
 use Rattle.hip_runs.specs.declared.event.Event.{Event}
 use Rattle.hip_runs.specs.declared.event.Event.TheVariants as events
 use Rattle.hip_runs.specs.declared.input.Input.{Input}
-use Rattle.hip_notes.specs.CallPaths.{births_of}
 use Rattle.hip_notes.specs.Checking.{group_from, reports_stated}
 use Rattle.hip_notes.specs.declared.checks.Group.{Group}
 use Rattle.hip_notes.specs.MetMarks.{AreMet, WereHit}
@@ -33,8 +32,14 @@ use Rattle.hip_notes.specs.declared.pending.FlushNote.{FlushNote}
 use Rattle.hip_notes.specs.declared.pending.LineNote.{LineNote}
 use Rattle.hip_notes.specs.declared.pending.StoreNote.{StoreNote}
 
--- The notes after n steps of a run: its counts, calls and last fence, what is kept of pending stores, marks and
--- reports. The numbers of entries in them are right if those of the header were counted right.
+-- These calls stood after n steps of a run, or after fewer.
+pub record Stood (P : Program) (I : Input) (n : ℕ) (calls : List Level) : Type 0 where
+  pub steps : ℕ
+  pub few : steps ≤ n
+  pub are : calls ≡ levels_of (run P I steps).frames
+
+-- The notes after n steps of a run: its counts and last fence, the calls that stood when they were looked at last, what
+-- is kept of pending stores, marks and reports. The numbers of entries in them are right if those of the header were counted right.
 pub record AreNoted (P : Program) (I : Input) (n : ℕ) (c : Notes) : Type 0 where
   pub steps : c.steps ≡ n
   pub counted : (run P I n).counts.steps ≡ n
@@ -42,8 +47,7 @@ pub record AreNoted (P : Program) (I : Input) (n : ℕ) (c : Notes) : Type 0 whe
   pub few : c.entries ≤ c.header + n
   pub header : c.header ≤ 2 ^ 64
   pub fence : c.fence ≡ last_fence P I n
-  pub calls : c.calls ≡ levels_of (run P I n).frames
-  pub births : c.births.items ≡ births_of (levels_of (run P I n).frames)
+  pub calls : Stood P I n c.calls
   pub pending : Tells P I n c.header c.pending.stores.items (lines_of c.pending.lines)
   pub marks : c.marks.keys ≡ pointed P I n
   pub recent : AreMet c.marks.keys c.recent.items
@@ -99,20 +103,6 @@ abbrev pub EndsBelow : ℕ → Event → Type 0
 EndsBelow base (events.Store a v m) = (a - base) + m < 2 ^ 64
 EndsBelow base (events.Flush line size) = (line - base) + size < 2 ^ 64
 EndsBelow base _ = Unit {0}
-
--- ---- what an event does to the calls
-
--- the calls after a step at a site, given the number of frames before and after it
-abbrev pub calls_after : ℕ → ℕ → ℕ → Option Site → List Level → List Level
-calls_after before after step None ls = cond (nat_lt after before) (drop 1 ls) ls
-calls_after before after step (Some site) ls =
-    cond (nat_lt before after) (record { call = site; birth = step } ∷ ls) (cond (nat_lt after before) (drop 1 ls) ls)
-
--- the births of these calls, the outermost one first
-abbrev pub births_after : ℕ → ℕ → ℕ → Option Site → List ℕ → List ℕ
-births_after before after step None bs = cond (nat_lt after before) (take (length bs - 1) bs) bs
-births_after before after step (Some site) bs =
-    cond (nat_lt before after) (bs ++ step ∷ []) (cond (nat_lt after before) (take (length bs - 1) bs) bs)
 
 -- ---- what an event checks
 

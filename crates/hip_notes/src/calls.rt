@@ -1,5 +1,5 @@
-ghost use Rattle.std.specs.Prelude.{◌≡◌, ◌+◌, [], ◌∷◌, drop, length, IfOk, OnOk};
-ghost use Rattle.hip_notes.specs.CallPaths.{calls_inside};
+ghost use Rattle.std.specs.Prelude.{◌≡◌, ◌+◌, [], ◌∷◌, None, Some, drop, length, option_map, slice_get, IfOk, OnOk};
+ghost use Rattle.hip_notes.specs.CallPaths.{births_of};
 
 use hip_findings::CallPath;
 use hip_tree::Site;
@@ -8,32 +8,25 @@ use std::alloc::Global;
 use std::marker::Model;
 use std::rc::Rc;
 
-/// A standing call: its site, and how many steps were taken before it.
-#[derive(Clone, Copy)]
-pub struct StandingCall {
-    pub site: Site,
-    pub birth: u128,
-}
-
-/// The standing calls; contracts see the list of them, the innermost one first. A call takes a node only when a store
-/// is noted in it, and the stores share the nodes.
+/// Calls that stood together; contracts see the list of them, the innermost one first. Stores share the nodes of the
+/// calls that they have in common.
 #[derive(Drop)]
 pub struct Calls {
-    // The calls that have nodes.
-    shared: Rc<CallPath>,
-    // The calls inside of these that have no nodes, the outermost one first.
-    inner: Vec<StandingCall>,
+    path: Rc<CallPath>,
+    // How many steps were taken before each of them, the outermost one first.
+    births: Vec<u128>,
 }
 
 impl Model for Calls {
     ghost use Rattle.std.specs.Prelude.{List};
     ghost use Rattle.hip_runs.specs.State.{Level};
+    ghost use Rattle.hip_notes.specs.CallPaths.{HaveBirths};
 
     ghost Value = { List Level };
 
-    ghost use Rattle.hip_notes.specs.CallPaths.{calls_inside};
+    ghost view = { λ c. c.path.value };
 
-    ghost view = { λ c. calls_inside c.inner.items c.shared.value };
+    ghost invariant = { HaveBirths };
 }
 
 impl Calls {
@@ -41,65 +34,65 @@ impl Calls {
     pub fn none(alloc: Global) -> Result<Calls, NoMemory>
         ensures { IfOk result (λ calls. calls ≡ []) }
     {
-        let shared = CallPath::none(alloc)?;
+        let path = CallPath::none(alloc)?;
         Ok(Calls {
-            shared,
-            inner: Vec::new(alloc),
+            path,
+            births: Vec::new(alloc),
         })
     }
 
-    /// One more call, inside of the others.
-    #[tactic(auto, using(crate::proofs::noting::CallsInside::inside_push))]
-    pub fn enter(&mut self, site: Site, birth: u128) -> Result<(), NoMemory>
-        ensures { OnOk result (self.new ≡ record { call = site; birth = birth } ∷ self.old) }
+    /// How many calls these are.
+    #[inline(always)]
+    pub fn count(&self) -> usize
+        ensures { result ≡ length self.now }
     {
-        match self.inner.push(StandingCall { site, birth }) {
-            Ok(()) => Ok(()),
-            Err(_) => Err(NoMemory),
-        }
+        self.births.len()
     }
 
-    /// The calls without the innermost one.
-    #[tactic(auto, using(crate::proofs::noting::CallsInside::inside_front))]
-    pub fn leave(&mut self) -> Result<(), NoMemory>
-        ensures { OnOk result (self.new ≡ drop 1 self.old) }
+    /// How many steps were taken before the innermost one. None exactly if there is no call.
+    #[inline(always)]
+    pub fn last_birth(&self) -> Option<u128>
+        ensures { result ≡ option_map (λ l. l.birth) (slice_get self.now 0) }
     {
-        let count = self.inner.len();
-        if count > 0 {
-            self.inner.truncate(count - 1);
-            return Ok(());
-        }
-        self.shared = CallPath::outside(&self.shared)?;
+        self.births.last().copied()
+    }
+
+    /// How many steps were taken before each of them, the outermost one first.
+    #[inline(always)]
+    pub fn births(&self) -> &[u128]
+        ensures { result.now ≡ births_of self.now }
+    {
+        self.births.as_slice()
+    }
+
+    /// The same calls, in nodes.
+    #[inline(always)]
+    pub fn path(&self) -> Result<Rc<CallPath>, NoMemory>
+        ensures { IfOk result (λ path. path.value ≡ self.now) }
+    {
+        CallPath::shared(&self.path)
+    }
+
+    /// One more call, inside of the others.
+    pub fn enter(&mut self, alloc: Global, site: Site, birth: u128) -> Result<(), NoMemory>
+        ensures { OnOk result (self.new ≡ record { call = site; birth = birth } ∷ self.old) }
+    {
+        let standing = self.births.len() + 1;
+        let outer = CallPath::shared(&self.path)?;
+        let inner = CallPath::inside(alloc, site, birth, standing, outer)?;
+        self.births.push(birth)?;
+        self.path = inner;
         Ok(())
     }
 
-    /// The calls in nodes, when `count` of them stand. From then on each of them has its node.
-    pub fn path(&mut self, alloc: Global, count: usize) -> Result<Rc<CallPath>, NoMemory>
-        requires { count ≡ length self.old }
-        ensures path { IfOk result (λ path. path.value ≡ self.old) }
-        ensures same { OnOk result (self.new ≡ self.old) }
+    /// The calls without the innermost one.
+    pub fn leave(&mut self) -> Result<(), NoMemory>
+        ensures { OnOk result (self.new ≡ drop 1 self.old) }
     {
-        share(alloc, &mut self.shared, self.inner.as_slice(), count)?;
-        self.inner.clear();
-        CallPath::shared(&self.shared)
+        let outer = CallPath::outside(&self.path)?;
+        let count = self.births.len().saturating_sub(1);
+        self.births.truncate(count);
+        self.path = outer;
+        Ok(())
     }
-}
-
-// Gives nodes to the calls inside of those that have them; `count` calls stand in all.
-fn share(
-    alloc: Global,
-    shared: &mut Rc<CallPath>,
-    inner: &[StandingCall],
-    count: usize,
-) -> Result<(), NoMemory>
-    requires { count ≡ length inner.now + length shared.old.value }
-    ensures { OnOk result (shared.new.value ≡ calls_inside inner.now shared.old.value) }
-{
-    let mut standing = count - inner.len();
-    'each: for call in inner {
-        standing += 1;
-        let outer = CallPath::shared(shared)?;
-        *shared = CallPath::inside(alloc, call.site, call.birth, standing, outer)?;
-    }
-    Ok(())
 }

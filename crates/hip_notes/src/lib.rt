@@ -10,6 +10,7 @@ mod notes;
 mod pending;
 mod region;
 
+pub use calls::Calls;
 pub use marks::{globals_of, is_recent, marks_of, meet_global};
 pub use notes::{Moment, Notes};
 pub use region::Region;

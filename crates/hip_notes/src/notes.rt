@@ -7,7 +7,8 @@ ghost use Rattle.hip_runs.specs.Found.Reports.{checked_range};
 ghost use Rattle.hip_runs.specs.StoredParts.Since.{fences};
 ghost use Rattle.hip_runs.specs.Step.{has_entry};
 ghost use Rattle.hip_notes.specs.MetMarks.{AreMet, WereHit};
-ghost use Rattle.hip_notes.specs.Noted.{EndsBelow, FlushedAt, Follows, IsForgotten, Reported, births_after, calls_after};
+ghost use Rattle.hip_notes.specs.CallPaths.{births_of};
+ghost use Rattle.hip_notes.specs.Noted.{EndsBelow, FlushedAt, Follows, IsForgotten, Reported};
 ghost use Rattle.hip_notes.specs.Pending.{AreInOrder, lines_of};
 ghost use Rattle.hip_notes.specs.Regions.{IsWhole};
 
@@ -44,9 +45,8 @@ pub struct Notes {
     pub entries: u128,
     // The step of the last fence.
     pub fence: Option<u128>,
-    // The standing calls, and their births, the outermost one first.
+    // The calls that stood when they were looked at last.
     pub calls: Calls,
-    pub births: Vec<u128>,
     pub pending: Pending,
     // The number of pending stores at which the tracker looks again for notes to drop.
     pub enough: usize,
@@ -66,7 +66,6 @@ impl Notes {
         ensures entries { IfOk result (λ notes. notes.entries ≡ header) }
         ensures fence { IfOk result (λ notes. notes.fence ≡ None) }
         ensures calls { IfOk result (λ notes. notes.calls ≡ []) }
-        ensures births { IfOk result (λ notes. notes.births.items ≡ []) }
         ensures stores { IfOk result (λ notes. notes.pending.stores.items ≡ []) }
         ensures lines { IfOk result (λ notes. (j : ℕ) → lines_of notes.pending.lines j ≡ None) }
         ensures marks { IfOk result (λ notes. notes.marks.keys ≡ []) }
@@ -83,7 +82,6 @@ impl Notes {
             entries: header,
             fence: None,
             calls,
-            births: Vec::new(alloc),
             pending: Pending::new(alloc),
             enough: ENOUGH_STORES,
             marks: IndexSet::new(alloc),
@@ -106,7 +104,7 @@ impl Notes {
         requires region { IsWhole region.now }
         requires order { AreInOrder self.old.pending }
         ensures stated { OnOk result (Reported
-            (checked_range region.now.base region.now.size event) self.old.births.items entry self.old.fence self.old.pending
+            (checked_range region.now.base region.now.size event) (births_of self.old.calls) entry self.old.fence self.old.pending
             region.now.lines.now.lines self.old.reports self.new.reports) }
         ensures rest { OnOk result (self.new ≡ record self.old { reports = self.new.reports }) }
     {
@@ -134,7 +132,7 @@ impl Notes {
         requires region { IsWhole region.now }
         requires order { AreInOrder self.old.pending }
         ensures stated { OnOk result (Reported (Some
-            (record { offset = offset; size = size })) self.old.births.items entry self.old.fence self.old.pending
+            (record { offset = offset; size = size })) (births_of self.old.calls) entry self.old.fence self.old.pending
             region.now.lines.now.lines self.old.reports self.new.reports) }
         ensures rest { OnOk result (self.new ≡ record self.old { reports = self.new.reports }) }
     {
@@ -145,7 +143,7 @@ impl Notes {
             size: count,
         };
         let check = Check {
-            births: self.births.as_slice(),
+            births: self.calls.births(),
             entry,
             fence: self.fence,
         };
@@ -169,7 +167,6 @@ impl Notes {
         region: &Region<'_>,
     ) -> Result<(), NoMemory>
         requires ends { EndsBelow region.now.base event }
-        requires births { length self.old.births.items ≡ length self.old.calls }
         ensures follows { OnOk result
             (Follows event moment.site region.now.base moment.step moment.entry self.old.calls self.old.pending
             self.new.pending) }
@@ -181,7 +178,7 @@ impl Notes {
                     tag: moment.step,
                     entry: moment.entry,
                     site,
-                    calls: self.calls.path(alloc, self.births.len())?,
+                    calls: self.calls.path()?,
                 };
                 self.pending
                     .note_store(alloc, note, addr.saturating_sub(region.base), size as u64)
@@ -195,45 +192,6 @@ impl Notes {
                     .note_flush(flush, line.saturating_sub(region.base), size)
             }
             _ => Ok(()),
-        }
-    }
-
-    /// Notes the calls after a step, by the numbers of frames before it and after it.
-    #[inline(always)]
-    pub fn note_calls(
-        &mut self,
-        moment: Moment,
-        before: usize,
-        after: usize,
-    ) -> Result<(), NoMemory>
-        ensures calls { OnOk result (self.new.calls
-            ≡ calls_after before after moment.step moment.site self.old.calls) }
-        ensures births { OnOk result (self.new.births.items
-            ≡ births_after before after moment.step moment.site self.old.births.items) }
-        ensures rest { OnOk result (self.new ≡ record self.old { calls = self.new.calls; births = self.new.births }) }
-    {
-        if before < after {
-            return match moment.site {
-                Some(site) => self.enter_call(site, moment.step),
-                None => Ok(()),
-            };
-        }
-        if after < before {
-            self.calls.leave()?;
-            forget_birth(&mut self.births);
-        }
-        Ok(())
-    }
-
-    fn enter_call(&mut self, site: Site, step: u128) -> Result<(), NoMemory>
-        ensures calls { OnOk result (self.new.calls ≡ record { call = site; birth = step } ∷ self.old.calls) }
-        ensures births { OnOk result (self.new.births.items ≡ self.old.births.items ++ step ∷ []) }
-        ensures rest { OnOk result (self.new ≡ record self.old { calls = self.new.calls; births = self.new.births }) }
-    {
-        self.calls.enter(site, step)?;
-        match self.births.push(step) {
-            Ok(()) => Ok(()),
-            Err(_) => Err(NoMemory),
         }
     }
 
@@ -296,14 +254,6 @@ impl Notes {
 // The number of stores at which to search again, after this many were kept.
 fn enough_for(kept: usize) -> usize {
     kept.saturating_mul(2).max(ENOUGH_STORES)
-}
-
-// The births of the standing calls, without the innermost one.
-fn forget_birth(births: &mut Vec<u128>)
-    ensures { births.new.items ≡ take (length births.old.items - 1) births.old.items }
-{
-    let count = births.len().saturating_sub(1);
-    births.truncate(count);
 }
 
 // Whether a step with this event is a fence.

@@ -74,7 +74,16 @@ impl Pending {
         }
         let range = lines_between(offset, size);
         'each: for line in range.first..range.end {
-            store_line(alloc, &mut self.lines, line)?;
+            match self.lines.get_mut(&line) {
+                Some(note) => note.stored = true,
+                None => {
+                    let note = LineNote {
+                        stored: true,
+                        flushes: Row::new(alloc),
+                    };
+                    self.lines.insert(line, note)?;
+                }
+            }
         }
         Ok(())
     }
@@ -120,31 +129,6 @@ fn lines_between(offset: u64, size: u64) -> LineRange
     LineRange {
         first: offset / LINE_SIZE,
         end: (offset + size - 1) / LINE_SIZE + 1,
-    }
-}
-
-// Notes a store into a line.
-#[inline(always)]
-fn store_line(alloc: Global, lines: &mut BTreeMap<u64, LineNote>, line: u64) -> Result<(), NoMemory>
-    ensures here { OnOk result (lines_of lines.new line ≡ Some (with_store (lines_of lines.old line))) }
-    ensures others { OnOk result ((j : ℕ) → (j ≡ line → ⊥)
-        → lines_of lines.new j ≡ lines_of lines.old j) }
-{
-    match lines.get_mut(&line) {
-        Some(note) => {
-            note.stored = true;
-            Ok(())
-        }
-        None => {
-            let note = LineNote {
-                stored: true,
-                flushes: Row::new(alloc),
-            };
-            match lines.insert(line, note) {
-                Ok(_) => Ok(()),
-                Err(_) => Err(NoMemory),
-            }
-        }
     }
 }
 

@@ -1,5 +1,5 @@
 -- What is known before a step whose notes are taken after it.
-use Rattle.std.specs.Prelude.{◌≡◌, ℕ, ◌-◌, ◌<◌, ◌^◌, Bool, true, false, length, map, Option, None, Some}
+use Rattle.std.specs.Prelude.{◌≡◌, ℕ, ◌-◌, ◌<◌, ◌^◌, false, Option, None, Some}
 use Rattle.hip_tree.specs.declared.program.Program.{Program}
 use Rattle.hip_runs.specs.Ends.{longest}
 use Rattle.hip_runs.specs.Found.Objects.{global_at}
@@ -10,8 +10,6 @@ use Rattle.hip_runs.specs.declared.event.Event.{Event}
 use Rattle.hip_runs.specs.declared.event.Object.{Object}
 use Rattle.hip_runs.specs.declared.event.Object.TheVariants as objects
 use Rattle.hip_runs.specs.declared.input.Input.{Input}
-use Rattle.hip_engine.specs.Crossing.{Crosses}
-use Rattle.hip_engine.specs.declared.crossing.Crossing.{Crossing}
 use Rattle.hip_notes.specs.Noted.{AreNoted}
 use Rattle.hip_notes.specs.Sights.{AddUnlessEnded, marks_ahead}
 use Rattle.hip_notes.specs.declared.notes.Notes.{Notes}
@@ -44,7 +42,6 @@ TellsGlobal P I (Some t) = global_of t.object ≡ global_at P I.base t.addr
 pub record Sees (P : Program) (I : Input) (s : State) (c : Notes) (sight : Sight) : Type 0 where
   pub ended : sight.ended ≡ has_ended s
   pub site : sight.site ≡ next_site P s
-  pub depth : sight.depth ≡ length s.frames
   pub marks : AddUnlessEnded (event P I s) c.marks.keys sight.pointed.marks (marks_ahead P I s)
   pub last : TellsGlobal P I sight.pointed.last
 
@@ -69,14 +66,3 @@ pub record HasStepped (m : Seen) (e : Event) (c : Notes) (sight : Sight) : Type 
   pub takes : TakesStep before m e
   pub tracks : Tracks before c
   pub sees : Sees before.program before.input (state_of before) c sight
-
--- A machine has taken a call or a return before which this was seen; before it the notes were these.
-pub record HasCrossed (m : Seen) (seen : Crossing) (c : Notes) : Type 0 where
-  pub before : Seen
-  pub crosses : Crosses before seen m
-  pub tracks : Tracks before c
-
--- a machine took a step, or stands where it stood
-abbrev pub HasPassed : Bool → Seen → Seen → Type 0
-HasPassed true old new = old.taken < new.taken
-HasPassed false old new = new ≡ old

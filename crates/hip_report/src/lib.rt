@@ -2,6 +2,7 @@
 #![tactic(auto)]
 
 mod acting;
+mod calls;
 mod passing;
 mod sight;
 mod step;

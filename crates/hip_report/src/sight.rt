@@ -36,7 +36,6 @@ pub struct Pointed {
 pub struct Sight {
     pub ended: bool,
     pub site: Option<Site>,
-    pub depth: usize,
     pub pointed: Pointed,
 }
 
@@ -51,14 +50,26 @@ pub fn look(alloc: Global, notes: &Notes, machine: &Machine<'_>) -> Result<Sight
     Ok(Sight {
         ended: machine.ending().is_some(),
         site,
-        depth: machine.depth(),
         pointed,
     })
 }
 
-/// Looks at a store to an address, which is the next instruction. None if its mark may be new, and if the run has ended.
+/// Looks at a store with a known mark, or at a step without a pointer operand. None for any other step, and if the run
+/// has ended.
 #[inline(always)]
-pub fn look_at_store(
+pub fn look_quickly(alloc: Global, notes: &Notes, machine: &Machine<'_>) -> Option<Sight>
+    requires { AreMet notes.now.marks.keys notes.now.recent.items }
+    ensures { IfSome result (λ s. Sees machine.now.program machine.now.input (state_of machine.now) notes.now s) }
+{
+    match machine.store_ahead() {
+        Some(store) => look_at_store(alloc, notes, machine, store.addr),
+        None => look_at_nothing(alloc, notes, machine),
+    }
+}
+
+// Looks at a store to an address, which is the next instruction. None if its mark may be new, and if the run has ended.
+#[inline(always)]
+fn look_at_store(
     alloc: Global,
     notes: &Notes,
     machine: &Machine<'_>,
@@ -76,14 +87,13 @@ pub fn look_at_store(
     Some(Sight {
         ended: false,
         site: Some(site),
-        depth: machine.depth(),
         pointed,
     })
 }
 
-/// Looks at a step without a pointer operand. None if it may have one, and if the run has ended.
+// Looks at a step without a pointer operand. None if it may have one, and if the run has ended.
 #[inline(always)]
-pub fn look_at_nothing(alloc: Global, notes: &Notes, machine: &Machine<'_>) -> Option<Sight>
+fn look_at_nothing(alloc: Global, notes: &Notes, machine: &Machine<'_>) -> Option<Sight>
     ensures { IfSome result (λ s. Sees machine.now.program machine.now.input (state_of machine.now) notes.now s) }
 {
     if machine.ending().is_some() {
@@ -95,7 +105,6 @@ pub fn look_at_nothing(alloc: Global, notes: &Notes, machine: &Machine<'_>) -> O
     Some(Sight {
         ended: false,
         site: machine.site(),
-        depth: machine.depth(),
         pointed: nothing_pointed(alloc),
     })
 }
@@ -184,9 +193,9 @@ fn pointed_from(
     }
 }
 
-/// What a step without a pointer operand points into.
+// What a step without a pointer operand points into.
 #[inline(always)]
-pub fn nothing_pointed(alloc: Global) -> Pointed
+fn nothing_pointed(alloc: Global) -> Pointed
     ensures marks { result.marks ≡ [] }
     ensures last { result.last ≡ None }
 {

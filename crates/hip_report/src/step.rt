@@ -8,11 +8,11 @@ ghost use Rattle.hip_runs.specs.StoredParts.Shown.{shown};
 ghost use Rattle.hip_notes.specs.MetMarks.{WereHit};
 ghost use Rattle.hip_notes.specs.Noted.{AreNoted};
 ghost use Rattle.hip_notes.specs.Sights.{is_still};
-ghost use Rattle.hip_report.specs.Stepping.{HasCrossed, HasStepped, HasTaken, TellsGlobal, global_of};
+ghost use Rattle.hip_report.specs.Stepping.{HasStepped, TellsGlobal, global_of};
 
-use crate::sight::{Sight, Target, nothing_pointed, target_at};
+use crate::calls::look_at_calls;
+use crate::sight::{Sight, Target, target_at};
 use hip_cache::Machine;
-use hip_engine::Crossing;
 use hip_invariants::{runs_are_bounded, stack_keeps_its_shape};
 use hip_notes::{Moment, Notes, Region, meet_global};
 use hip_runs::{Event, Mark, Object};
@@ -81,9 +81,9 @@ fn region_of<'a>(machine: &'a Machine<'_>) -> Region<'a>
     }
 }
 
-// Whether a step with this event and these new marks changes no notes but the calls.
+// Whether a step with this event and these new marks has nothing to note.
 #[inline(always)]
-fn changes_calls_alone(event: Event, marks: &Row<Mark>) -> bool
+fn has_nothing_to_note(event: Event, marks: &Row<Mark>) -> bool
     ensures { result ≡ true → (is_still event ≡ true) × (marks.now ≡ []) }
 {
     is_still(event) && marks.is_empty()
@@ -100,53 +100,13 @@ fn is_still(event: Event) -> bool
     }
 }
 
-// Notes a step that changes no notes but the calls.
+// Whether the calls that stand are noted with this event: a store, or a check.
 #[inline(always)]
-fn note_calls_alone(
-    notes: &mut Notes,
-    sight: &Sight,
-    seen: Event,
-    machine: &Machine<'_>,
-) -> Result<(), NoMemory>
-    requires before { HasTaken machine.now seen notes.old sight.now }
-    requires still { is_still seen ≡ true }
-    requires none { sight.now.pointed.marks ≡ [] }
-    ensures noted { OnOk result (AreNoted machine.now.program machine.now.input machine.now.taken notes.new) }
-    ensures header { OnOk result (notes.new.header ≡ notes.old.header) }
-{
-    // Lemmas: runs are bounded, frames have calls, the input is valid.
-    runs_are_bounded();
-    stack_keeps_its_shape();
-    let _input = machine.input();
-    let moment = Moment {
-        site: sight.site,
-        step: notes.steps,
-        entry: notes.entries + 1,
-    };
-    notes.note_calls(moment, sight.depth, machine.depth())?;
-    notes.steps += 1;
-    Ok(())
-}
-
-/// Notes the call or return that a machine has taken.
-#[inline(always)]
-pub fn note_crossing(
-    alloc: Global,
-    notes: &mut Notes,
-    seen: Crossing,
-    machine: &Machine<'_>,
-) -> Result<(), NoMemory>
-    requires { HasCrossed machine.now seen notes.old }
-    ensures noted { OnOk result (AreNoted machine.now.program machine.now.input machine.now.taken notes.new) }
-    ensures header { OnOk result (notes.new.header ≡ notes.old.header) }
-{
-    let sight = Sight {
-        ended: false,
-        site: seen.site,
-        depth: seen.depth,
-        pointed: nothing_pointed(alloc),
-    };
-    note_calls_alone(notes, &sight, Event::Quiet, machine)
+fn needs_calls(event: Event) -> bool {
+    match event {
+        Event::Store { .. } | Event::Assert { .. } | Event::End(_) => true,
+        _ => false,
+    }
 }
 
 // Drops the notes that no check will need, after a step that was noted, if there are many.
@@ -184,15 +144,16 @@ pub fn note_step(
     if sight.ended {
         return Ok(());
     }
-    if changes_calls_alone(seen, &sight.pointed.marks) {
-        return note_calls_alone(notes, sight, seen, machine);
-    }
     // Lemmas: runs are bounded, frames have calls, the program is sound, the input is valid.
     runs_are_bounded();
     stack_keeps_its_shape();
     let checked = machine.checked();
     let _program = checked.program();
     let _input = machine.input();
+    if has_nothing_to_note(seen, &sight.pointed.marks) {
+        notes.steps += 1;
+        return Ok(());
+    }
 
     let region = region_of(machine);
     let moment = Moment {
@@ -200,9 +161,11 @@ pub fn note_step(
         step: notes.steps,
         entry: notes.entries + 1,
     };
+    if needs_calls(seen) {
+        look_at_calls(alloc, &mut notes.calls, machine)?;
+    }
     notes.note_check(alloc, seen, moment.entry, &region)?;
     notes.note_memory(alloc, seen, moment, &region)?;
-    notes.note_calls(moment, sight.depth, machine.depth())?;
     notes.note_marks(seen, sight.pointed.marks.as_slice())?;
     note_hit(notes, seen, sight.pointed.last, machine)?;
     notes.count(seen);

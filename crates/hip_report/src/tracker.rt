@@ -10,7 +10,7 @@ ghost use Rattle.hip_report.specs.Stepping.{TakesStep};
 ghost use Rattle.hip_report.specs.Tracking.{HasNoted, HasNotes, IsSource, MayAdvance, MayNote};
 
 use crate::acting::{step_generally, take_step};
-use crate::passing::{is_quiet, pass_along};
+use crate::passing::{is_quiet, pass_plainly};
 use hip_cache::Machine;
 use hip_findings::SharedFindings;
 use hip_notes::{Notes, globals_of, marks_of};
@@ -195,7 +195,7 @@ fn next_event_in<'a>(
 {
     begin(source, notes, machine);
     'steps: loop {
-        pass_along(alloc, notes, machine)?;
+        pass_plainly(notes, machine);
         let event = take_step(alloc, notes, machine)?;
         if !is_quiet(event) {
             return Ok(event);

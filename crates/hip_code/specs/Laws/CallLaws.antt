@@ -19,7 +19,7 @@ use Rattle.hip_runs.specs.Operands.{value_of, values_of}
 use Rattle.hip_runs.specs.State.{Registers}
 use Rattle.hip_code.specs.Edges.{IsCall}
 use Rattle.hip_code.specs.Frames.{names_at}
-use Rattle.hip_code.specs.Named.{IsCallWith, NamesOperands, names_operands, passes_or_effects}
+use Rattle.hip_code.specs.Named.{IsCallWith, NamesOperands, names_operands, passes_or_effects, says_of}
 use Rattle.hip_code.specs.Numbers.{Numbers, Tables, entries_of}
 use Rattle.hip_code.specs.Resolved.{Resolves, numbers_at}
 use Rattle.hip_code.specs.Laws.MoveLaws.{arguments_are, arguments_move, arguments_pass}
@@ -85,6 +85,7 @@ module _ (P : Program) (I : Input) (f : ℕ) (tables : Tables) where
         record {
           is = subst (λ o. passes_or_effects P n o callee vs (ops.Control (controls.Call call)))
               (sym defined) with;
+          pointed = c.pointed;
         };
   }
 
@@ -92,7 +93,7 @@ module _ (P : Program) (I : Input) (f : ℕ) (tables : Tables) where
   names_kept : (call : Call) (frame : ℕ) (n : Numbers) (rs : Registers) (i : Instr)
       → NamesOperands P I n rs (ops.Control (controls.Call call)) i
       → NamesOperands P I n rs (ops.Control (controls.Call (record call { frame = frame }))) i
-  names_kept call frame n rs i h = record { is = at i h.is }
+  names_kept call frame n rs i h = record { is = at i h.is; pointed = says i h.pointed }
     where
       passed : (callee values : List ℕ) (o : Option ExternCall)
           → passes_or_effects P n o callee values (ops.Control (controls.Call call))
@@ -105,6 +106,11 @@ module _ (P : Program) (I : Input) (f : ℕ) (tables : Tables) where
       at (instrs.Store ty value addr align) p = absurd p
       at (instrs.Call dest ret callee args) p = passed callee (values_of P.globals I.base rs args) (call_of callee) p
       at _ p = tt
+
+      says : (j : Instr) → says_of (ops.Control (controls.Call call)) j
+          → says_of (ops.Control (controls.Call (record call { frame = frame }))) j
+      says (instrs.Call dest ret callee args) p = p
+      says _ p = tt
 
   -- and it does the same, as long as the function has these slots
   pub resolves_kept : (call : Call) (frame : ℕ) (i : Instr) → frame ≤ length (names_at P f)

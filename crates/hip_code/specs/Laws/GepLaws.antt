@@ -180,7 +180,7 @@ module _ (P : Program) (I : Input) (f : ℕ) (tables : Tables) where
         ∙ ap (λ u. (value_of P.globals I.base rs x + u) % 2 ^ 64) (sym (add-zero offset))
         ∙ cut_far (value_of P.globals I.base rs x) offset whole 0 e
         ∙ ap (λ u. (value_of P.globals I.base rs x + u) % 2 ^ 64) (sym far.far)));
-    names = λ slots base rs h k. record { is = tt };
+    names = λ slots base rs h k. record { is = tt; pointed = tt };
   }
 
   -- so is one with one index that is no constant
@@ -204,7 +204,7 @@ module _ (P : Program) (I : Input) (f : ℕ) (tables : Tables) where
         ∙ ap (λ u. (value_of P.globals I.base rs x + (offset + u)) % 2 ^ 64) (sym (add-zero (term_value n term)))
         ∙ cut_far (value_of P.globals I.base rs x) offset whole (sum_of n (term ∷ [])) e
         ∙ ap (λ u. (value_of P.globals I.base rs x + u) % 2 ^ 64) (sym far.far)));
-    names = λ slots base rs h k. record { is = tt };
+    names = λ slots base rs h k. record { is = tt; pointed = tt };
   }
 
   -- and one with any indices
@@ -227,5 +227,5 @@ module _ (P : Program) (I : Input) (f : ℕ) (tables : Tables) where
         (ap Ok (ap (λ u. (u + (offset + sum_of n (entries_of span tables.terms))) % 2 ^ 64) start.same
         ∙ cut_far (value_of P.globals I.base rs x) offset whole (sum_of n (entries_of span tables.terms)) e
         ∙ ap (λ u. (value_of P.globals I.base rs x + u) % 2 ^ 64) (sym far.far)));
-    names = λ slots base rs h k. record { is = tt };
+    names = λ slots base rs h k. record { is = tt; pointed = tt };
   }

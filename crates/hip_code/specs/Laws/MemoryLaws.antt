@@ -78,7 +78,7 @@ module _ (P : Program) (I : Input) (f : ℕ) (tables : Tables) where
               ap₂ (λ to at. load to at (widths.bytes_of (width_of ty))) (name_there names name dest d) addr.same
               ∙ ap (load name (value_of P.globals I.base rs x)) (size_is ty);
         };
-    names = λ slots base rs h k. record { is = tt };
+    names = λ slots base rs h k. record { is = tt; pointed = tt };
   }
 
   pub resolves_store : (ty : Scalar) (align : Option ℕ) (v a : Operand) (x y : named.Operand) →
@@ -119,7 +119,7 @@ module _ (P : Program) (I : Input) (f : ℕ) (tables : Tables) where
       turn = refl;
       acts = ap (λ to. allocated w to size align) (name_there names name dest d) ∙ ap₂ (allocated w name) s a;
     };
-    names = λ slots base rs h k. record { is = tt };
+    names = λ slots base rs h k. record { is = tt; pointed = tt };
   }
 
   -- ---- external functions

@@ -143,7 +143,7 @@ module _ (P : Program) (I : Input) (f : ℕ) (tables : Tables) where
         ∙ ap (λ o. operated o width (value_of P.globals I.base rs x) (value_of P.globals I.base rs y)) is))
         ∙ gave_calculated name _)
         (gives P I w below f n rs name dest (values.Integer op width a b) _ d h (left.within, right.within) refl);
-    names = λ slots base rs h k. record { is = tt };
+    names = λ slots base rs h k. record { is = tt; pointed = tt };
   }
 
   pub resolves_division : (name : List ℕ) (dest : ℕ) (op : DivisionOp) (named_op : BinaryOp) (flags : Flags)
@@ -164,7 +164,7 @@ module _ (P : Program) (I : Input) (f : ℕ) (tables : Tables) where
         ∙ gave_calculated name _)
         (gives P I w below f n rs name dest (values.Rest (rests.Other (others.Divide op width a b))) _ d h
         (left.within, right.within) refl);
-    names = λ slots base rs h k. record { is = tt };
+    names = λ slots base rs h k. record { is = tt; pointed = tt };
   }
 
   pub resolves_compare : (name : List ℕ) (dest : ℕ) (pred : Pred) (ty : Scalar) (a b : Operand)
@@ -184,7 +184,7 @@ module _ (P : Program) (I : Input) (f : ℕ) (tables : Tables) where
         (compare_within pred n (width_of ty) a b left.within right.within)
         (compare_gives pred n (width_of ty) a b ∙ ap₂
         (λ u v. Ok (truth (compared pred (width_of ty) u v))) left.same right.same);
-    names = λ slots base rs h k. record { is = tt };
+    names = λ slots base rs h k. record { is = tt; pointed = tt };
   }
 
   pub resolves_select : (name : List ℕ) (dest : ℕ) (ty : Scalar) (t a b : Operand) (z x y : named.Operand) →
@@ -205,7 +205,7 @@ module _ (P : Program) (I : Input) (f : ℕ) (tables : Tables) where
         (test.within, left.within, right.within)
         (ap (λ u. Ok (cond (nat_eq u 1) (operand_value n a) (operand_value n b))) test.same
         ∙ ap₂ (λ u v. Ok (cond (nat_eq (value_of P.globals I.base rs z) 1) u v)) left.same right.same);
-    names = λ slots base rs h k. record { is = tt };
+    names = λ slots base rs h k. record { is = tt; pointed = tt };
   }
 
   pub resolves_cast : (name : List ℕ) (dest : ℕ) (op : CastOp) (from to : Scalar) (a : Operand)
@@ -222,5 +222,5 @@ module _ (P : Program) (I : Input) (f : ℕ) (tables : Tables) where
         (Ok (cast_value op from to (value_of P.globals I.base rs x))) d h
         (cast_within op n (width_of from) (width_of to) a value.within)
         (cast_gives op n from to a ∙ ap (λ v. Ok (cast_value op from to v)) value.same);
-    names = λ slots base rs h k. record { is = tt };
+    names = λ slots base rs h k. record { is = tt; pointed = tt };
   }

@@ -34,5 +34,5 @@ returns c =
       grows = c.in_ok-arguments.ensures.makes.grows;
       lasts = λ v g ret.
           does_call c.args.scope.now _ _ v _ ret _ _ _ c.requires.scope c.requires.calls (c.in_ok-function.ensures ∙ num) c.in_ok-arguments.ensures g target size
-          (c.in_ok-frame.ensures ∙ c.len-2.ensures.length ∙ ap length c.requires.scope.registers) c.in_ok-slot.ensures (c.in_ok-from.ensures ∙ c.len.ensures) c.in_ok-count.ensures;
+          (c.in_ok-frame.ensures ∙ c.len-2.ensures.length ∙ ap length c.requires.scope.registers) c.in_ok-slot.ensures (c.in_ok-from.ensures ∙ c.len.ensures) c.in_ok-count.ensures c.has_pointer.ensures;
     }

@@ -1,0 +1,8 @@
+use hip_tree::Site;
+
+/// A call that stands: its site, and how many steps were taken before it.
+#[derive(Clone, Copy)]
+pub struct StandingCall {
+    pub site: Site,
+    pub birth: u128,
+}

@@ -103,6 +103,7 @@ module _ (P : Program) (I : Input) (f : ℕ) (tables : Tables) where
         λ slots base rs h k. record {
           is = (operand_same P.globals I.base names
               (numbers_at tables slots base) rs a y q h k.all.1.0).same;
+          pointed = tt;
         };
   }
 
@@ -229,5 +230,6 @@ module _ (P : Program) (I : Input) (f : ℕ) (tables : Tables) where
           is = subst
               (λ o. passes_or_effects P (numbers_at tables slots base) o callee (values_of P.globals I.base rs args)
               (ops.Memory (memories.Effect (extern_op c slot a b)))) (sym is) tt;
+          pointed = tt;
         };
   }

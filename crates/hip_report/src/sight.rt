@@ -69,12 +69,7 @@ pub fn look_quickly(alloc: Global, notes: &Notes, machine: &Machine<'_>) -> Opti
 
 // Looks at a store to an address, which is the next instruction. None if its mark may be new, and if the run has ended.
 #[inline(always)]
-fn look_at_store(
-    alloc: Global,
-    notes: &Notes,
-    machine: &Machine<'_>,
-    addr: u64,
-) -> Option<Sight>
+fn look_at_store(alloc: Global, notes: &Notes, machine: &Machine<'_>, addr: u64) -> Option<Sight>
     requires known { AreMet notes.now.marks.keys notes.now.recent.items }
     requires points { PointsTo machine.now addr }
     ensures { IfSome result (λ s. Sees machine.now.program machine.now.input (state_of machine.now) notes.now s) }

@@ -270,7 +270,7 @@ module _ (P : Program) where
           → instr_cases P I w below f.registers (StepKeeps ⊥ f) i
       case_keeps below (Binary dest op flags width x y) e =
           λ v q. assigns_keeps I w f r (Binary dest op flags width x y) e (Some dest) _
-              (own (Binary dest op flags width x y) dest refl)
+          (own (Binary dest op flags width x y) dest refl)
       case_keeps below (Compare dest pred ty x y) e =
           assigns_keeps I w f r (Compare dest pred ty x y) e (Some dest) _ (own (Compare dest pred ty x y) dest refl)
       case_keeps below (Select dest test ty x y) e =
@@ -284,12 +284,12 @@ module _ (P : Program) where
           }
       case_keeps below (Load dest ty addr align) e =
           assigns_keeps I w f r (Load dest ty addr align) e (Some dest) _
-              (own (Load dest ty addr align) dest refl)
+          (own (Load dest ty addr align) dest refl)
       case_keeps below (Store ty value addr align) e =
           still_keeps I w f r (Store ty value addr align) e (assigns_none (Store ty value addr align) refl) _ tt
       case_keeps below (Gep dest inbounds ty base indices) e =
           assigns_keeps I w f r (Gep dest inbounds ty base indices) e (Some dest) _
-              (own (Gep dest inbounds ty base indices) dest refl)
+          (own (Gep dest inbounds ty base indices) dest refl)
       case_keeps below (Call None ret callee args) e =
           call_keeps I w f r (Call None ret callee args) e below None ret callee args
           (assigns_none (Call None ret callee args) refl) (λ t. assigns_none (Call None ret callee args) refl)

@@ -4,13 +4,13 @@ ghost use Rattle.hip_runs.specs.Found.Marks.{same_mark};
 ghost use Rattle.hip_notes.specs.MetMarks.{AreMet, WereHit};
 ghost use Rattle.hip_runs.specs.declared.report.Mark.{Mark as Met};
 
-use hip_runs::Mark;
+use hip_runs::{Mark, Object};
 use hip_types::{NoMemory, Row};
 use indexmap::IndexSet;
 use std::alloc::Global;
 
 /// How many recent marks are kept.
-const RECENT: usize = 256;
+const RECENT: usize = 1024;
 
 /// No recent marks.
 pub fn none_recent(alloc: Global) -> Result<Vec<Option<Mark>>, NoMemory>
@@ -23,10 +23,14 @@ pub fn none_recent(alloc: Global) -> Result<Vec<Option<Mark>>, NoMemory>
     }
 }
 
-// The place of a mark among the recent ones: marks of one operand have the same place, those of nearby operands
-// different ones.
+// The place of a mark among the recent ones: marks of nearby operands have different ones, and so have those of one
+// operand in nearby objects.
 #[inline(always)]
 fn place_of(mark: Mark) -> usize {
+    let object = match mark.object {
+        Object::Global(number) => number,
+        Object::Slot(site) => site.block.wrapping_mul(8).wrapping_add(site.index),
+    };
     let block = mark
         .site
         .block
@@ -37,7 +41,10 @@ fn place_of(mark: Mark) -> usize {
         .function
         .wrapping_mul(64)
         .wrapping_add(mark.operand);
-    block.wrapping_add(function) % RECENT
+    block
+        .wrapping_add(function)
+        .wrapping_add(object.wrapping_mul(16))
+        % RECENT
 }
 
 /// Whether a mark is among the recent ones.

@@ -15,6 +15,9 @@ use hip_tree::Site;
 use hip_types::{NoMemory, Row};
 use std::alloc::Global;
 
+// A call with more pointers reads them all at once, in linear time.
+const FEW_POINTERS: usize = 8;
+
 /// An address that a pointer operand has, and the object that it points into.
 #[derive(Clone, Copy)]
 pub struct Target {
@@ -54,8 +57,8 @@ pub fn look(alloc: Global, notes: &Notes, machine: &Machine<'_>) -> Result<Sight
     })
 }
 
-/// Looks at a store with a known mark, or at a step without a pointer operand. None for any other step, and if the run
-/// has ended.
+/// Looks at a step whose marks are known: a store, a call with few pointers, or a step without a pointer operand. None if
+/// a mark may be new, for a call with many pointers, and if the run has ended.
 #[inline(always)]
 pub fn look_quickly(alloc: Global, notes: &Notes, machine: &Machine<'_>) -> Option<Sight>
     requires { AreMet notes.now.marks.keys notes.now.recent.items }
@@ -63,7 +66,7 @@ pub fn look_quickly(alloc: Global, notes: &Notes, machine: &Machine<'_>) -> Opti
 {
     match machine.store_ahead() {
         Some(store) => look_at_store(alloc, notes, machine, store.addr),
-        None => look_at_nothing(alloc, notes, machine),
+        None => look_at_others(alloc, notes, machine),
     }
 }
 
@@ -86,22 +89,45 @@ fn look_at_store(alloc: Global, notes: &Notes, machine: &Machine<'_>, addr: u64)
     })
 }
 
-// Looks at a step without a pointer operand. None if it may have one, and if the run has ended.
+// Looks at a step that makes no store. None if a mark of a pointer operand may be new, if it may have many of them, and
+// if the run has ended.
 #[inline(always)]
-fn look_at_nothing(alloc: Global, notes: &Notes, machine: &Machine<'_>) -> Option<Sight>
+fn look_at_others(alloc: Global, notes: &Notes, machine: &Machine<'_>) -> Option<Sight>
+    requires { AreMet notes.now.marks.keys notes.now.recent.items }
     ensures { IfSome result (λ s. Sees machine.now.program machine.now.input (state_of machine.now) notes.now s) }
 {
     if machine.ending().is_some() {
         return None;
     }
-    if machine.may_point() {
+    let site = machine.site();
+    if machine.may_point() && !are_known(notes, machine, site?) {
         return None;
     }
     Some(Sight {
         ended: false,
-        site: machine.site(),
+        site,
         pointed: nothing_pointed(alloc),
     })
+}
+
+// Whether the instruction at a site, which is the next one, has few pointer operands, and a known mark for each of them.
+fn are_known(notes: &Notes, machine: &Machine<'_>, site: Site) -> bool
+    requires known { AreMet notes.now.marks.keys notes.now.recent.items }
+    requires site { next_site machine.now.program (state_of machine.now) ≡ Some site }
+    ensures { IsTrue result → AddAlike notes.now.marks.keys []
+        (marks_ahead machine.now.program machine.now.input (state_of machine.now)) }
+{
+    'operands: for operand in 0..FEW_POINTERS {
+        match machine.pointer(operand) {
+            None => return true,
+            Some(addr) => {
+                if !is_known(notes, site, operand, machine.object_at(addr)) {
+                    return false;
+                }
+            }
+        }
+    }
+    false
 }
 
 // What one pointer operand of this value points into, without a mark. None if its mark may be new.
@@ -119,7 +145,7 @@ fn known_at(
     ensures last { IfSome result (λ pointed. TellsGlobal machine.now.program machine.now.input pointed.last) }
 {
     let target = target_at(machine, addr);
-    if !is_known(notes, site, target.object) {
+    if !is_known(notes, site, 0, target.object) {
         return None;
     }
     Some(Pointed {
@@ -128,11 +154,11 @@ fn known_at(
     })
 }
 
-// Whether the first operand of the instruction at a site has no mark in an object, or one of the recent ones.
+// Whether an operand of the instruction at a site points into no object, or has one of the recent marks.
 #[inline(always)]
-fn is_known(notes: &Notes, site: Site, object: Option<Object>) -> bool
+fn is_known(notes: &Notes, site: Site, operand: usize, object: Option<Object>) -> bool
     requires { AreMet notes.now.marks.keys notes.now.recent.items }
-    ensures { IsTrue result → AddAlike notes.now.marks.keys [] (mark_of site 0 object) }
+    ensures { IsTrue result → AddAlike notes.now.marks.keys [] (mark_of site operand object) }
 {
     match object {
         None => true,
@@ -140,7 +166,7 @@ fn is_known(notes: &Notes, site: Site, object: Option<Object>) -> bool
             notes.recent.as_slice(),
             Mark {
                 site,
-                operand: 0,
+                operand,
                 object,
             },
         ),

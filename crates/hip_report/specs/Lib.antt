@@ -2,3 +2,4 @@ pub mod Tracking
 pub mod Noting
 pub mod Stepping
 pub mod Passing
+pub mod StandingCalls

@@ -1,8 +1,6 @@
-ghost use Rattle.std.specs.Prelude.{◌≡◌, option_map, slice_get, OnOk};
-ghost use Rattle.hip_engine.specs.StandingCalls.{standing_call};
-ghost use Rattle.hip_runs.specs.Seen.{state_of};
-ghost use Rattle.hip_runs.specs.State.{levels_of};
+ghost use Rattle.std.specs.Prelude.{◌≡◌, ◌↔◌, ◌<◌, ◌∷◌, false, length, option_map, slice_get, IfNone, IfSome, IsTrue, OnOk};
 ghost use Rattle.hip_notes.specs.Noted.{Stood};
+ghost use Rattle.hip_report.specs.StandingCalls.{AreOutermost, StoodOutermost, standing};
 
 use hip_cache::Machine;
 use hip_engine::StandingCall;
@@ -14,7 +12,7 @@ use std::alloc::Global;
 // How many steps were taken before the call that made the frame at a level.
 #[inline(always)]
 fn birth_at(machine: &Machine<'_>, level: usize) -> Option<u128>
-    ensures { result ≡ option_map (λ l. l.birth) (slice_get (levels_of (state_of machine.now).frames) level) }
+    ensures { result ≡ option_map (λ l. l.birth) (slice_get (standing machine.now) level) }
 {
     match machine.standing_call(level) {
         Some(call) => Some(call.birth),
@@ -22,31 +20,54 @@ fn birth_at(machine: &Machine<'_>, level: usize) -> Option<u128>
     }
 }
 
-// Whether these calls are the outermost ones of the `count` calls that stand. Calls with one birth are the same call, and
-// so are the calls outside of them.
+// Whether both are the same birth, or none.
 #[inline(always)]
-fn are_outermost(calls: &Calls, machine: &Machine<'_>, count: usize) -> bool {
-    let known = calls.count();
-    if known > count {
-        return false;
-    }
-    match (calls.last_birth(), birth_at(machine, count - known)) {
+fn is_same_birth(a: Option<u128>, b: Option<u128>) -> bool
+    ensures { IsTrue result ↔ (a ≡ b) }
+{
+    match (a, b) {
+        (Some(a), Some(b)) => a == b,
         (None, None) => true,
-        (Some(last), Some(birth)) => last == birth,
         _ => false,
     }
 }
 
+// Whether these calls are the outermost ones of the `count` calls that stand. Calls at one place with one birth are the
+// same call, and so are the calls outside of them.
+#[inline(always)]
+fn are_outermost(calls: &Calls, machine: &Machine<'_>, count: usize) -> bool
+    requires stood { StoodOutermost machine.now.program machine.now.input machine.now.taken calls.now }
+    requires count { count ≡ length (standing machine.now) }
+    ensures are { IsTrue result → AreOutermost calls.now (standing machine.now) }
+    ensures some { result ≡ false → 0 < length calls.now }
+{
+    let known = calls.count();
+    if known > count {
+        return false;
+    }
+    is_same_birth(calls.last_birth(), birth_at(machine, count - known))
+}
+
 // Leaves the calls that stand no more.
-fn leave_calls(calls: &mut Calls, machine: &Machine<'_>, count: usize) -> Result<(), NoMemory> {
+fn leave_calls(calls: &mut Calls, machine: &Machine<'_>, count: usize) -> Result<(), NoMemory>
+    requires stood { StoodOutermost machine.now.program machine.now.input machine.now.taken calls.old }
+    requires count { count ≡ length (standing machine.now) }
+    ensures { OnOk result (AreOutermost calls.new (standing machine.now)) }
+{
     'calls: while !are_outermost(calls, machine, count) {
         calls.leave()?;
     }
     Ok(())
 }
 
-// The outermost call of the `count` calls that stand that is inside of these.
-fn next_inside(calls: &Calls, machine: &Machine<'_>, count: usize) -> Option<StandingCall> {
+// The outermost one of the `count` calls that stand, of those that are inside of these.
+fn next_inside(calls: &Calls, machine: &Machine<'_>, count: usize) -> Option<StandingCall>
+    requires outer { AreOutermost calls.now (standing machine.now) }
+    requires count { count ≡ length (standing machine.now) }
+    ensures none { IfNone result (calls.now ≡ standing machine.now) }
+    ensures some { IfSome result (λ call.
+        AreOutermost (record { call = call.site; birth = call.birth } ∷ calls.now) (standing machine.now)) }
+{
     let known = calls.count();
     if known >= count {
         return None;
@@ -60,14 +81,19 @@ fn enter_calls(
     calls: &mut Calls,
     machine: &Machine<'_>,
     count: usize,
-) -> Result<(), NoMemory> {
+) -> Result<(), NoMemory>
+    requires outer { AreOutermost calls.old (standing machine.now) }
+    requires count { count ≡ length (standing machine.now) }
+    ensures { OnOk result (calls.new ≡ standing machine.now) }
+{
     'calls: while let Some(call) = next_inside(calls, machine, count) {
         calls.enter(alloc, call.site, call.birth)?;
     }
     Ok(())
 }
 
-/// Looks at the calls that stand in a machine. The time is linear in the calls and returns since they were looked at last.
+/// Looks at the calls that stand in a machine. The time is linear in the calls and returns since they were looked at
+/// last.
 #[inline(always)]
 pub fn look_at_calls(
     alloc: Global,
@@ -75,9 +101,9 @@ pub fn look_at_calls(
     machine: &Machine<'_>,
 ) -> Result<(), NoMemory>
     requires { Stood machine.now.program machine.now.input machine.now.taken calls.old }
-    ensures { OnOk result (calls.new ≡ levels_of (state_of machine.now).frames) }
+    ensures { OnOk result (calls.new ≡ standing machine.now) }
 {
-    // Lemma: frames have calls.
+    // Lemma: each frame but the bottom one has a call.
     stack_keeps_its_shape();
     let count = machine.depth() - 1;
     if calls.count() == count && are_outermost(calls, machine, count) {

@@ -100,7 +100,7 @@ fn look_at_others(alloc: Global, notes: &Notes, machine: &Machine<'_>) -> Option
         return None;
     }
     let site = machine.site();
-    if machine.may_point() && !are_known(notes, machine, site?) {
+    if !has_known_marks(notes, machine, site) {
         return None;
     }
     Some(Sight {
@@ -108,6 +108,23 @@ fn look_at_others(alloc: Global, notes: &Notes, machine: &Machine<'_>) -> Option
         site,
         pointed: nothing_pointed(alloc),
     })
+}
+
+// Whether the next step, which is at this site, has no new mark, as far as is known.
+#[inline(always)]
+fn has_known_marks(notes: &Notes, machine: &Machine<'_>, site: Option<Site>) -> bool
+    requires known { AreMet notes.now.marks.keys notes.now.recent.items }
+    requires site { site ≡ next_site machine.now.program (state_of machine.now) }
+    ensures { IsTrue result → AddAlike notes.now.marks.keys []
+        (marks_ahead machine.now.program machine.now.input (state_of machine.now)) }
+{
+    if !machine.may_point() {
+        return true;
+    }
+    match site {
+        Some(site) => are_known(notes, machine, site),
+        None => true,
+    }
 }
 
 // Whether the instruction at a site, which is the next one, has few pointer operands, and a known mark for each of them.

@@ -7,8 +7,7 @@ use Rattle.hip_notes.specs.Sights.{marks_ahead}
 use Rattle.hip_notes.proofs.MarksAtHand.{unless_alike}
 use Rattle.hip_report.specs.Stepping.{TellsGlobal}
 use Rattle.hip_report.specs.declared.sight.Target.{Target}
-use Rattle.hip_report.proofs.Crossed.{none_pointed}
-use Rattle.hip_report.proofs.sight.look_at_nothing.Goals as goal
+use Rattle.hip_report.proofs.sight.look_at_others.Goals as goal
 
 pub returns : goal.returns
 returns c =
@@ -17,8 +16,7 @@ returns c =
     record {
       ended = sym c.if-is_some.false ∙ c.is_some.ensures ∙ ap is_some c.ending.ensures;
       site = c.site.ensures;
-      depth = c.depth.ensures;
       marks = unless_alike (next_event m) before c.nothing_pointed.result.marks (marks_ahead m.program m.input (state_of m))
-          (ap (met same_mark before) (c.nothing_pointed.ensures.marks ∙ sym (none_pointed m.program m.input (state_of m) (c.may_point.ensures c.if-may_point.false 0))));
+          (ap (met same_mark before) c.nothing_pointed.ensures.marks ∙ c.has_known_marks.ensures c.if-not-has_known_marks.false);
       last = subst (λ (o : Option Target). TellsGlobal m.program m.input o) (sym c.nothing_pointed.ensures.last) tt;
     }

@@ -1,0 +1,22 @@
+-- The calls that the notes have, beside those that stand.
+use Rattle.std.specs.Prelude.{◌≡◌, ℕ, ◌-◌, ◌≤◌, List, drop, length}
+use Rattle.hip_tree.specs.declared.program.Program.{Program}
+use Rattle.hip_runs.specs.State.{Level, levels_of}
+use Rattle.hip_runs.specs.Seen.{Seen, state_of}
+use Rattle.hip_runs.specs.Step.{run}
+use Rattle.hip_runs.specs.declared.input.Input.{Input}
+
+-- the calls that stand in a machine, the innermost one first
+abbrev pub standing : Seen → List Level
+standing m = levels_of (state_of m).frames
+
+-- These calls are the outermost ones of others.
+pub record AreOutermost (calls all : List Level) : Type 0 where
+  pub few : length calls ≤ length all
+  pub are : calls ≡ drop (length all - length calls) all
+
+-- These calls are the outermost ones of those that stood after n steps of a run, or after fewer.
+pub record StoodOutermost (P : Program) (I : Input) (n : ℕ) (calls : List Level) : Type 0 where
+  pub steps : ℕ
+  pub few : steps ≤ n
+  pub outer : AreOutermost calls (levels_of (run P I steps).frames)

@@ -36,18 +36,17 @@ tells_none P I header notes lines e h = record {
   kept = λ b k x l. absurd (none_loose P I b k x l);
 }
 
-pub blank : (c : Notes) → c.header ≤ 2 ^ 64 → c.steps ≡ 0 → c.entries ≡ c.header → c.fence ≡ None → c.calls ≡ [] → c.births.items ≡ [] → c.pending.stores.items ≡ []
+pub blank : (c : Notes) → c.header ≤ 2 ^ 64 → c.steps ≡ 0 → c.entries ≡ c.header → c.fence ≡ None → c.calls ≡ [] → c.pending.stores.items ≡ []
     → ((j : ℕ) → lines_of c.pending.lines j ≡ None) → c.marks.keys ≡ [] → AreMet [] c.recent.items → c.hit.keys ≡ [] → WereHit [] c.flags.items → c.reports ≡ [] → (P : Program) (I : Input) → AreNoted P I 0 c
 unfolding run last_fence pointed hit reports
-blank c h steps entries fence calls births stores lines marks recent hits flags rs P I = record {
+blank c h steps entries fence calls stores lines marks recent hits flags rs P I = record {
   steps = steps;
   counted = refl;
   entries = λ e. entries ∙ e;
   few = omega (arith, entries);
   header = h;
   fence = fence;
-  calls = calls;
-  births = births;
+  calls = record { steps = 0; few = omega arith; are = calls };
   pending = tells_none P I c.header c.pending.stores.items (lines_of c.pending.lines) stores lines;
   marks = marks;
   recent = subst (λ ms. AreMet ms c.recent.items) (sym marks) recent;

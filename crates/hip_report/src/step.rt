@@ -6,8 +6,9 @@ ghost use Rattle.hip_runs.specs.Found.Objects.{global_at};
 ghost use Rattle.hip_runs.specs.Seen.{state_of};
 ghost use Rattle.hip_runs.specs.StoredParts.Shown.{shown};
 ghost use Rattle.hip_notes.specs.MetMarks.{WereHit};
-ghost use Rattle.hip_notes.specs.Noted.{AreNoted};
-ghost use Rattle.hip_notes.specs.Sights.{is_still};
+ghost use Rattle.hip_notes.specs.Noted.{AreNoted, Stood};
+ghost use Rattle.hip_notes.specs.Sights.{is_still, needs_calls};
+ghost use Rattle.hip_report.specs.StandingCalls.{LooksAt};
 ghost use Rattle.hip_report.specs.Stepping.{HasStepped, TellsGlobal, global_of};
 
 use crate::calls::look_at_calls;
@@ -100,12 +101,33 @@ fn is_still(event: Event) -> bool
     }
 }
 
-// Whether the calls that stand are noted with this event: a store, or a check.
 #[inline(always)]
-fn needs_calls(event: Event) -> bool {
+fn needs_calls(event: Event) -> bool
+    ensures { result ≡ needs_calls event }
+{
     match event {
-        Event::Store { .. } | Event::Assert { .. } | Event::End(_) => true,
+        Event::Store { .. } => true,
+        Event::Assert { .. } => true,
+        Event::End(_) => true,
         _ => false,
+    }
+}
+
+// Notes the calls that stand, if a step with this event needs them.
+#[inline(always)]
+fn note_calls(
+    alloc: Global,
+    notes: &mut Notes,
+    event: Event,
+    machine: &Machine<'_>,
+) -> Result<(), NoMemory>
+    requires { Stood machine.now.program machine.now.input machine.now.taken notes.old.calls }
+    ensures { OnOk result (LooksAt event machine.now notes.old notes.new) }
+{
+    if needs_calls(event) {
+        look_at_calls(alloc, &mut notes.calls, machine)
+    } else {
+        Ok(())
     }
 }
 
@@ -155,15 +177,13 @@ pub fn note_step(
         return Ok(());
     }
 
+    note_calls(alloc, notes, seen, machine)?;
     let region = region_of(machine);
     let moment = Moment {
         site: sight.site,
         step: notes.steps,
         entry: notes.entries + 1,
     };
-    if needs_calls(seen) {
-        look_at_calls(alloc, &mut notes.calls, machine)?;
-    }
     notes.note_check(alloc, seen, moment.entry, &region)?;
     notes.note_memory(alloc, seen, moment, &region)?;
     notes.note_marks(seen, sight.pointed.marks.as_slice())?;

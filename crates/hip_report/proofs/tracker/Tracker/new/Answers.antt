@@ -5,4 +5,4 @@ use Rattle.hip_report.proofs.tracker.Tracker.new.Goals as goal
 pub invariant_of-result : goal.invariant_of-result
 invariant_of-result c =
     let e = c.in_ok-new.ensures in
-    record { notes = λ w P I. blank c.in_ok-new.field-0 (subst (λ k. k ≤ 2 ^ 64) (sym e.header) c.requires) e.steps (e.entries ∙ sym e.header) e.fence e.calls e.births e.stores e.lines e.marks e.recent e.hit e.flags e.reports P I }
+    record { notes = λ w P I. blank c.in_ok-new.field-0 (subst (λ k. k ≤ 2 ^ 64) (sym e.header) c.requires) e.steps (e.entries ∙ sym e.header) e.fence e.calls e.stores e.lines e.marks e.recent e.hit e.flags e.reports P I }

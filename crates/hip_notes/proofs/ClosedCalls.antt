@@ -11,10 +11,7 @@ use Rattle.hip_runs.specs.StoredParts.History.{IsParted}
 use Rattle.hip_runs.specs.StoredParts.Parts.{In}
 use Rattle.hip_findings.specs.CallPaths.{closed_by, is_birth}
 use Rattle.hip_notes.specs.CallPaths.{births_of}
-
-pub length_births : (ls : List Level) → length (births_of ls) ≡ length ls
-length_births [] = refl
-length_births (l ∷ ls) = let r = length_births ls in let q = length-append (births_of ls) (l.birth ∷ []) in omega (arith, r, q)
+use Rattle.hip_notes.proofs.CallBirths.{length_births}
 
 -- the birth of the call above some others
 at_depth : (above : List Level) (l : Level) (rest : List Level) → slice_get (births_of (above ++ l ∷ rest)) (length rest) ≡ Some l.birth

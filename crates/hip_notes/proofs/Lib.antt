@@ -1,3 +1,4 @@
+pub mod CallBirths
 pub mod Clamped
 pub mod ClosedCalls
 pub mod Forgetting

@@ -151,3 +151,11 @@ module _ (P : Program) (I : Input) (s : State) (site : Site) (n : IsNext P s sit
       few j [] e = omega arith
       few zero (o ∷ os) e = absurd (no_value o e)
       few (suc j) (o ∷ os) e = let le = few j os e in omega (arith, le)
+
+-- an instruction whose first operand is no pointer operand has no marks
+pub none_pointed : (P : Program) (I : Input) (s : State) → pointer_of P I s 0 ≡ None → marks_ahead P I s ≡ []
+none_pointed P I s none = by (next_site P s) refl
+  where
+    by : (o : Option Site) → next_site P s ≡ o → marks_ahead P I s ≡ []
+    by None e = none_ahead P I s e
+    by (Some site) e = sym (all_before P I s site (next_is P s site e) 0 none)

@@ -1,6 +1,5 @@
 pub mod Assembled
-pub mod CallSteps
-pub mod CallsInside
+pub mod CallsStay
 pub mod LooseSteps
 pub mod Steps
 pub mod Still

@@ -1,5 +1,5 @@
 -- What a tracker notes of a run.
-use Rattle.std.specs.Prelude.{◌≡◌, ◌⊎◌, ℕ, ◌+◌, ◌-◌, ◌≤◌, ◌<◌, ◌^◌, ◌*◌, ◌/◌, Bool, true, cond, filter, List, [], ◌∷◌, ◌++◌, nat_lt, length, take, drop, Option, Some, None, option_map, IsSome}
+use Rattle.std.specs.Prelude.{◌≡◌, ◌⊎◌, ℕ, ◌+◌, ◌-◌, ◌≤◌, ◌<◌, ◌^◌, ◌*◌, ◌/◌, Bool, true, cond, filter, List, [], ◌∷◌, ◌++◌, length, Option, Some, None, option_map, IsSome}
 use Rattle.hip_tree.specs.declared.program.Program.{Program}
 use Rattle.hip_tree.specs.declared.site.Site.{Site}
 use Rattle.std.specs.BTreeMap as tree
@@ -38,8 +38,9 @@ pub record Stood (P : Program) (I : Input) (n : ℕ) (calls : List Level) : Type
   pub few : steps ≤ n
   pub are : calls ≡ levels_of (run P I steps).frames
 
--- The notes after n steps of a run: its counts and last fence, the calls that stood when they were looked at last, what
--- is kept of pending stores, marks and reports. The numbers of entries in them are right if those of the header were counted right.
+-- The notes after n steps of a run: its counts and last fence, the calls that stood when they were looked at last, and
+-- what is kept of pending stores, marks and reports. The numbers of entries in them are right if those of the header
+-- were counted right.
 pub record AreNoted (P : Program) (I : Input) (n : ℕ) (c : Notes) : Type 0 where
   pub steps : c.steps ≡ n
   pub counted : (run P I n).counts.steps ≡ n

@@ -7,7 +7,6 @@ use Rattle.hip_runs.specs.Found.Marks.{frame_marks, mark_of, same_mark, unless_e
 use Rattle.hip_runs.specs.Found.Objects.{object_at}
 use Rattle.hip_runs.specs.State.{State}
 use Rattle.hip_runs.specs.Step.{has_ended}
-use Rattle.hip_runs.specs.declared.event.Ending.TheVariants.{Cut, Trap}
 use Rattle.hip_runs.specs.declared.event.Event.{Event}
 use Rattle.hip_runs.specs.declared.event.Event.TheVariants as events
 use Rattle.hip_runs.specs.declared.input.Input.{Input}
@@ -47,11 +46,9 @@ is_still events.Quiet = true
 is_still (events.Print z) = true
 is_still _ = false
 
--- whether a step with this event takes no fence, checks nothing, and changes neither the notes of stores and of lines
--- nor which globals were hit
-abbrev pub leaves : Event → Bool
-leaves events.Quiet = true
-leaves (events.Print z) = true
-leaves (events.End (Trap kind)) = true
-leaves (events.End Cut) = true
-leaves _ = false
+-- whether the calls that stand are noted at a step with this event: it stores, checks a range or ends the run
+abbrev pub needs_calls : Event → Bool
+needs_calls (events.Store a v m) = true
+needs_calls (events.Assert a n) = true
+needs_calls (events.End x) = true
+needs_calls _ = false

@@ -43,6 +43,7 @@ impl Calls {
 
     /// How many calls these are.
     #[inline(always)]
+    #[tactic(auto, using(crate::proofs::CallBirths::length_births))]
     pub fn count(&self) -> usize
         ensures { result ≡ length self.now }
     {
@@ -51,6 +52,7 @@ impl Calls {
 
     /// How many steps were taken before the innermost one. None exactly if there is no call.
     #[inline(always)]
+    #[tactic(auto, using(crate::proofs::CallBirths::last_birth))]
     pub fn last_birth(&self) -> Option<u128>
         ensures { result ≡ option_map (λ l. l.birth) (slice_get self.now 0) }
     {
@@ -74,6 +76,7 @@ impl Calls {
     }
 
     /// One more call, inside of the others.
+    #[tactic(auto, using(crate::proofs::CallBirths::length_births))]
     pub fn enter(&mut self, alloc: Global, site: Site, birth: u128) -> Result<(), NoMemory>
         ensures { OnOk result (self.new ≡ record { call = site; birth = birth } ∷ self.old) }
     {
@@ -86,6 +89,7 @@ impl Calls {
     }
 
     /// The calls without the innermost one.
+    #[tactic(auto, using(crate::proofs::CallBirths::births_drop))]
     pub fn leave(&mut self) -> Result<(), NoMemory>
         ensures { OnOk result (self.new ≡ drop 1 self.old) }
     {

@@ -1,4 +1,4 @@
-ghost use Rattle.std.specs.Prelude.{◌≡◌, ◌⊎◌, ℕ, ◌+◌, ◌-◌, ◌*◌, ◌/◌, ◌≤◌, ◌<◌, ◌^◌, [], ◌∷◌, ◌++◌, Some, None, cond, true, length, map, nat_le, take, drop, option_map, IfOk, OnOk};
+ghost use Rattle.std.specs.Prelude.{◌≡◌, ◌⊎◌, ℕ, ◌+◌, ◌-◌, ◌*◌, ◌/◌, ◌≤◌, ◌<◌, ◌^◌, [], ◌∷◌, ◌++◌, Some, None, cond, true, length, map, nat_le, option_map, IfOk, OnOk};
 ghost use Rattle.hip_lines.specs.Line.{has_bytes};
 ghost use Rattle.hip_lines.specs.Parts.{loose_from};
 ghost use Rattle.hip_types.specs.Distinct.{met};
@@ -104,8 +104,8 @@ impl Notes {
         requires region { IsWhole region.now }
         requires order { AreInOrder self.old.pending }
         ensures stated { OnOk result (Reported
-            (checked_range region.now.base region.now.size event) (births_of self.old.calls) entry self.old.fence self.old.pending
-            region.now.lines.now.lines self.old.reports self.new.reports) }
+            (checked_range region.now.base region.now.size event) (births_of self.old.calls) entry self.old.fence
+            self.old.pending region.now.lines.now.lines self.old.reports self.new.reports) }
         ensures rest { OnOk result (self.new ≡ record self.old { reports = self.new.reports }) }
     {
         match event {

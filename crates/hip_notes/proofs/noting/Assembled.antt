@@ -9,7 +9,7 @@ use Rattle.hip_lines.specs.declared.part.Part.{Part}
 use Rattle.hip_runs.specs.Found.Marks.{event_hits, same_mark, unless_ended}
 use Rattle.hip_runs.specs.Found.Reports.{checked_range}
 use Rattle.hip_runs.specs.Laws.NextLaws.{next_lines}
-use Rattle.hip_runs.specs.State.{Frame, levels_of}
+use Rattle.hip_runs.specs.State.{Frame, Level, levels_of}
 use Rattle.hip_runs.specs.Step.{event, has_ended, has_entry, run}
 use Rattle.hip_runs.specs.StoredParts.After.{lines_after}
 use Rattle.hip_runs.specs.StoredParts.Shown.{shown}
@@ -20,23 +20,22 @@ use Rattle.hip_runs.specs.declared.event.Ending.TheVariants as endings
 use Rattle.hip_runs.specs.declared.event.Event.TheVariants as events
 use Rattle.hip_runs.specs.declared.input.Input.{Input}
 use Rattle.hip_runs.specs.declared.report.Mark.{Mark}
-use Rattle.hip_invariants.specs.StackShape.{have_calls}
 use Rattle.hip_invariants.specs.Bounds.{IsBounded}
 use Rattle.hip_runs.specs.Ends.{longest}
-use Rattle.hip_runs.specs.Laws.StepLaws.{has_frame}
+use Rattle.hip_runs.specs.Laws.StepLaws.{has_frame, standing-frame}
 use Rattle.hip_runs.specs.Seen.{next_site}
 use Rattle.hip_notes.specs.CallPaths.{births_of}
 use Rattle.hip_notes.specs.MetMarks.{AreMet, WereHit}
-use Rattle.hip_notes.specs.Noted.{AreNoted, EndsBelow, Follows, Reported, births_after, calls_after}
+use Rattle.hip_notes.specs.Noted.{AreNoted, EndsBelow, Follows, Reported, Stood}
 use Rattle.hip_notes.specs.Pending.{lines_of}
 use Rattle.hip_notes.specs.Noted.{IsForgotten}
-use Rattle.hip_notes.specs.Sights.{marks_ahead}
+use Rattle.hip_notes.specs.Sights.{marks_ahead, needs_calls}
 use Rattle.hip_notes.specs.Standing.{Tells}
 use Rattle.hip_notes.specs.declared.notes.Notes.{Notes}
 use Rattle.hip_notes.specs.declared.pending.Pending.{Pending}
 use Rattle.hip_notes.proofs.Forgetting.{let_go}
 use Rattle.hip_notes.proofs.Rooms.{Lies}
-use Rattle.hip_notes.proofs.noting.Steps.{CallsNext, calls_are, calls_next, entries_next, fence_next, hit_next, marks_next, pending_next, reports_next, steps_next}
+use Rattle.hip_notes.proofs.noting.Steps.{entries_next, fence_next, hit_next, marks_next, pending_next, reports_next, steps_next}
 
 -- ---- bounds
 
@@ -57,25 +56,32 @@ ends_below I lines (events.End x) h w s = tt
 
 -- ---- what the parts of a step did
 
-pub record Did (P : Program) (I : Input) (c0 c1 c2 c3 c4 c5 c6 : Notes) (lines : List (Waiting Part)) (base region : ℕ) (e : Event) (site : Option Site) (before after : ℕ) (ahead : List Mark) : Type 0 where
-  pub stated : Reported (checked_range base region e) c0.births.items (c0.entries + 1) c0.fence c0.pending lines c0.reports c1.reports
+first_frame : (fs : List Frame) → has_frame fs ≡ true → (f : Frame) × (gs : List Frame) × (fs ≡ f ∷ gs)
+first_frame [] e = absurd (let z : ⊥ = cc in z)
+first_frame (f ∷ fs) e = (f, fs, refl)
+
+-- note_check, note_memory, note_marks, note_hit and count, one after the other
+pub record Did (P : Program) (I : Input) (c0 c1 c2 c3 c4 c5 : Notes) (lines : List (Waiting Part)) (base region : ℕ) (e : Event) (site : Option Site) (ahead : List Mark) : Type 0 where
+  pub stated : Reported (checked_range base region e) (births_of c0.calls) (c0.entries + 1) c0.fence c0.pending lines c0.reports c1.reports
   pub r1 : c1 ≡ record c0 { reports = c1.reports }
   pub follows : Follows e site base c0.steps (c0.entries + 1) c1.calls c1.pending c2.pending
   pub r2 : c2 ≡ record c1 { pending = c2.pending }
-  pub calls : c3.calls ≡ calls_after before after c0.steps site c2.calls
-  pub births : c3.births.items ≡ births_after before after c0.steps site c2.births.items
-  pub r3 : c3 ≡ record c2 { calls = c3.calls; births = c3.births }
-  pub marks : c4.marks.keys ≡ met same_mark c3.marks.keys (unless_ended e ahead)
-  pub known : AreMet c4.marks.keys c4.recent.items
-  pub r4 : c4 ≡ record c3 { marks = c4.marks; recent = c4.recent }
-  pub hits : c5.hit.keys ≡ met nat_eq c4.hit.keys (event_hits P I e)
-  pub flags : WereHit c5.hit.keys c5.flags.items
-  pub r5 : c5 ≡ record c4 { hit = c5.hit; flags = c5.flags }
-  pub r6 : c6 ≡ record c5 { steps = c5.steps + 1; entries = cond (has_entry e) (c5.entries + 1) c5.entries; fence = cond (fences e) (Some c5.steps) c5.fence }
+  pub marks : c3.marks.keys ≡ met same_mark c2.marks.keys (unless_ended e ahead)
+  pub known : AreMet c3.marks.keys c3.recent.items
+  pub r3 : c3 ≡ record c2 { marks = c3.marks; recent = c3.recent }
+  pub hits : c4.hit.keys ≡ met nat_eq c3.hit.keys (event_hits P I e)
+  pub flags : WereHit c4.hit.keys c4.flags.items
+  pub r4 : c4 ≡ record c3 { hit = c4.hit; flags = c4.flags }
+  pub r5 : c5 ≡ record c4 { steps = c4.steps + 1; entries = cond (has_entry e) (c4.entries + 1) c4.entries; fence = cond (fences e) (Some c4.steps) c4.fence }
 
-module _ (P : Program) (I : Input) (n : ℕ) (going : has_ended (run P I n) ≡ false) (c0 c1 c2 c3 c4 c5 c6 : Notes) (h : AreNoted P I n c0) (base region : ℕ) (is_base : base ≡ I.base) (is_region : region ≡ length I.image)
-    (shaped : have_calls (run P I n).frames) (f : Frame) (fs : List Frame) (q : (run P I n).frames ≡ f ∷ fs)
-    (d : Did P I c0 c1 c2 c3 c4 c5 c6 (shown (run P I (suc n)).lines) base region (event P I (run P I n)) (next_site P (run P I n)) (length (run P I n).frames) (length (run P I (suc n)).frames) (marks_ahead P I (run P I n))) where
+-- the calls stood after fewer steps than these
+pub stood_next : (P : Program) (I : Input) (n : ℕ) (calls : List Level) → Stood P I n calls → Stood P I (suc n) calls
+stood_next P I n calls s = record { steps = s.steps; few = (let le = s.few in omega (arith, le)); are = s.are }
+
+module _ (P : Program) (I : Input) (n : ℕ) (going : has_ended (run P I n) ≡ false) (c0 c1 c2 c3 c4 c5 : Notes) (h : AreNoted P I n c0)
+    (looked : needs_calls (event P I (run P I n)) ≡ true → c0.calls ≡ levels_of (run P I n).frames)
+    (base region : ℕ) (is_base : base ≡ I.base) (is_region : region ≡ length I.image)
+    (d : Did P I c0 c1 c2 c3 c4 c5 (shown (run P I (suc n)).lines) base region (event P I (run P I n)) (next_site P (run P I n)) (marks_ahead P I (run P I n))) where
   abbrev E : Event
   E = event P I (run P I n)
 
@@ -84,7 +90,7 @@ module _ (P : Program) (I : Input) (n : ℕ) (going : has_ended (run P I n) ≡ 
   same_lines e p l = next_lines P I n ∙ ap (λ (x : Event). lines_after I x (run P I n).counts (since.top_site (run P I n).frames) (levels_of (run P I n).frames) (run P I n).lines) p ∙ l
 
   abbrev Tell : List (Waiting Part) → Event → Type 0
-  Tell ls e = Reported (checked_range base region e) c0.births.items (c0.entries + 1) c0.fence c0.pending ls c0.reports c1.reports
+  Tell ls e = Reported (checked_range base region e) (births_of c0.calls) (c0.entries + 1) c0.fence c0.pending ls c0.reports c1.reports
 
   before : (e : Event) → event P I (run P I n) ≡ e → Tell (shown (run P I (suc n)).lines) e → Tell (shown (run P I n).lines) e
   before events.Quiet p k = k
@@ -98,24 +104,24 @@ module _ (P : Program) (I : Input) (n : ℕ) (going : has_ended (run P I n) ≡ 
   before (events.End (endings.Trap kind)) p k = k
   before (events.End endings.Cut) p k = k
 
-  steps5 : c5.steps ≡ c0.steps
-  steps5 = ap (λ (x : Notes). x.steps) d.r5 ∙ ap (λ (x : Notes). x.steps) d.r4 ∙ ap (λ (x : Notes). x.steps) d.r3 ∙ ap (λ (x : Notes). x.steps) d.r2 ∙ ap (λ (x : Notes). x.steps) d.r1
+  steps4 : c4.steps ≡ c0.steps
+  steps4 = ap (λ (x : Notes). x.steps) d.r4 ∙ ap (λ (x : Notes). x.steps) d.r3 ∙ ap (λ (x : Notes). x.steps) d.r2 ∙ ap (λ (x : Notes). x.steps) d.r1
 
-  entries5 : c5.entries ≡ c0.entries
-  entries5 = ap (λ (x : Notes). x.entries) d.r5 ∙ ap (λ (x : Notes). x.entries) d.r4 ∙ ap (λ (x : Notes). x.entries) d.r3 ∙ ap (λ (x : Notes). x.entries) d.r2 ∙ ap (λ (x : Notes). x.entries) d.r1
+  entries4 : c4.entries ≡ c0.entries
+  entries4 = ap (λ (x : Notes). x.entries) d.r4 ∙ ap (λ (x : Notes). x.entries) d.r3 ∙ ap (λ (x : Notes). x.entries) d.r2 ∙ ap (λ (x : Notes). x.entries) d.r1
 
-  fence5 : c5.fence ≡ c0.fence
-  fence5 = ap (λ (x : Notes). x.fence) d.r5 ∙ ap (λ (x : Notes). x.fence) d.r4 ∙ ap (λ (x : Notes). x.fence) d.r3 ∙ ap (λ (x : Notes). x.fence) d.r2 ∙ ap (λ (x : Notes). x.fence) d.r1
+  fence4 : c4.fence ≡ c0.fence
+  fence4 = ap (λ (x : Notes). x.fence) d.r4 ∙ ap (λ (x : Notes). x.fence) d.r3 ∙ ap (λ (x : Notes). x.fence) d.r2 ∙ ap (λ (x : Notes). x.fence) d.r1
 
-  pub header6 : c6.header ≡ c0.header
-  header6 = ap (λ (x : Notes). x.header) d.r6 ∙ ap (λ (x : Notes). x.header) d.r5 ∙ ap (λ (x : Notes). x.header) d.r4 ∙ ap (λ (x : Notes). x.header) d.r3 ∙ ap (λ (x : Notes). x.header) d.r2 ∙ ap (λ (x : Notes). x.header) d.r1
+  pub header5 : c5.header ≡ c0.header
+  header5 = ap (λ (x : Notes). x.header) d.r5 ∙ ap (λ (x : Notes). x.header) d.r4 ∙ ap (λ (x : Notes). x.header) d.r3 ∙ ap (λ (x : Notes). x.header) d.r2 ∙ ap (λ (x : Notes). x.header) d.r1
 
-  entries6 : c6.entries ≡ cond (has_entry E) (c0.entries + 1) c0.entries
-  entries6 = ap (λ (x : Notes). x.entries) d.r6 ∙ ap (λ i. cond (has_entry E) (i + 1) i) entries5
+  entries5 : c5.entries ≡ cond (has_entry E) (c0.entries + 1) c0.entries
+  entries5 = ap (λ (x : Notes). x.entries) d.r5 ∙ ap (λ i. cond (has_entry E) (i + 1) i) entries4
 
-  few6 : (t : Bool) → c6.entries ≡ cond t (c0.entries + 1) c0.entries → c6.entries ≤ c6.header + suc n
-  few6 true e = let k = h.few in let w = header6 in omega (arith, e, k, w)
-  few6 false e = let k = h.few in let w = header6 in omega (arith, e, k, w)
+  few5 : (t : Bool) → c5.entries ≡ cond t (c0.entries + 1) c0.entries → c5.entries ≤ c5.header + suc n
+  few5 true e = let k = h.few in let w = header5 in omega (arith, e, k, w)
+  few5 false e = let k = h.few in let w = header5 in omega (arith, e, k, w)
 
   follows_here : Follows E (next_site P (run P I n)) I.base n (c0.entries + 1) c1.calls c1.pending c2.pending
   follows_here = subst (λ b. Follows E (next_site P (run P I n)) b n (c0.entries + 1) c1.calls c1.pending c2.pending) is_base (subst (λ s. Follows E (next_site P (run P I n)) base s (c0.entries + 1) c1.calls c1.pending c2.pending) h.steps d.follows)
@@ -123,73 +129,58 @@ module _ (P : Program) (I : Input) (n : ℕ) (going : has_ended (run P I n) ≡ 
   pending1 : c1.pending ≡ c0.pending
   pending1 = ap (λ (x : Notes). x.pending) d.r1
 
-  calls1 : c1.calls ≡ levels_of (run P I n).frames
-  calls1 = ap (λ (x : Notes). x.calls) d.r1 ∙ h.calls
+  calls1 : needs_calls E ≡ true → c1.calls ≡ levels_of (run P I n).frames
+  calls1 e = ap (λ (x : Notes). x.calls) d.r1 ∙ looked e
 
-  calls2 : c2.calls ≡ levels_of (run P I n).frames
-  calls2 = ap (λ (x : Notes). x.calls) d.r2 ∙ calls1
+  pending5 : c5.pending ≡ c2.pending
+  pending5 = ap (λ (x : Notes). x.pending) d.r5 ∙ ap (λ (x : Notes). x.pending) d.r4 ∙ ap (λ (x : Notes). x.pending) d.r3
 
-  births2 : c2.births.items ≡ births_of (levels_of (run P I n).frames)
-  births2 = ap (λ (x : Notes). x.births.items) d.r2 ∙ ap (λ (x : Notes). x.births.items) d.r1 ∙ h.births
+  calls5 : c5.calls ≡ c0.calls
+  calls5 = ap (λ (x : Notes). x.calls) d.r5 ∙ ap (λ (x : Notes). x.calls) d.r4 ∙ ap (λ (x : Notes). x.calls) d.r3 ∙ ap (λ (x : Notes). x.calls) d.r2 ∙ ap (λ (x : Notes). x.calls) d.r1
 
-  pending6 : c6.pending ≡ c2.pending
-  pending6 = ap (λ (x : Notes). x.pending) d.r6 ∙ ap (λ (x : Notes). x.pending) d.r5 ∙ ap (λ (x : Notes). x.pending) d.r4 ∙ ap (λ (x : Notes). x.pending) d.r3
+  marks2 : c2.marks ≡ c0.marks
+  marks2 = ap (λ (x : Notes). x.marks) d.r2 ∙ ap (λ (x : Notes). x.marks) d.r1
 
-  calls6 : c6.calls ≡ c3.calls
-  calls6 = ap (λ (x : Notes). x.calls) d.r6 ∙ ap (λ (x : Notes). x.calls) d.r5 ∙ ap (λ (x : Notes). x.calls) d.r4
+  marks5 : c5.marks ≡ c3.marks
+  marks5 = ap (λ (x : Notes). x.marks) d.r5 ∙ ap (λ (x : Notes). x.marks) d.r4
 
-  births6 : c6.births ≡ c3.births
-  births6 = ap (λ (x : Notes). x.births) d.r6 ∙ ap (λ (x : Notes). x.births) d.r5 ∙ ap (λ (x : Notes). x.births) d.r4
+  hit3 : c3.hit ≡ c0.hit
+  hit3 = ap (λ (x : Notes). x.hit) d.r3 ∙ ap (λ (x : Notes). x.hit) d.r2 ∙ ap (λ (x : Notes). x.hit) d.r1
 
-  marks3 : c3.marks ≡ c0.marks
-  marks3 = ap (λ (x : Notes). x.marks) d.r3 ∙ ap (λ (x : Notes). x.marks) d.r2 ∙ ap (λ (x : Notes). x.marks) d.r1
+  recent5 : c5.recent ≡ c3.recent
+  recent5 = ap (λ (x : Notes). x.recent) d.r5 ∙ ap (λ (x : Notes). x.recent) d.r4
 
-  marks6 : c6.marks ≡ c4.marks
-  marks6 = ap (λ (x : Notes). x.marks) d.r6 ∙ ap (λ (x : Notes). x.marks) d.r5
+  flags5 : c5.flags ≡ c4.flags
+  flags5 = ap (λ (x : Notes). x.flags) d.r5
 
-  hit4 : c4.hit ≡ c0.hit
-  hit4 = ap (λ (x : Notes). x.hit) d.r4 ∙ ap (λ (x : Notes). x.hit) d.r3 ∙ ap (λ (x : Notes). x.hit) d.r2 ∙ ap (λ (x : Notes). x.hit) d.r1
+  hit5 : c5.hit ≡ c4.hit
+  hit5 = ap (λ (x : Notes). x.hit) d.r5
 
-  recent6 : c6.recent ≡ c4.recent
-  recent6 = ap (λ (x : Notes). x.recent) d.r6 ∙ ap (λ (x : Notes). x.recent) d.r5
+  reports5 : c5.reports ≡ c1.reports
+  reports5 = ap (λ (x : Notes). x.reports) d.r5 ∙ ap (λ (x : Notes). x.reports) d.r4 ∙ ap (λ (x : Notes). x.reports) d.r3 ∙ ap (λ (x : Notes). x.reports) d.r2
 
-  flags6 : c6.flags ≡ c5.flags
-  flags6 = ap (λ (x : Notes). x.flags) d.r6
+  top : (f : Frame) × (fs : List Frame) × ((run P I n).frames ≡ f ∷ fs)
+  top = first_frame (run P I n).frames (standing-frame P I n)
 
-  hit6 : c6.hit ≡ c5.hit
-  hit6 = ap (λ (x : Notes). x.hit) d.r6
-
-  reports6 : c6.reports ≡ c1.reports
-  reports6 = ap (λ (x : Notes). x.reports) d.r6 ∙ ap (λ (x : Notes). x.reports) d.r5 ∙ ap (λ (x : Notes). x.reports) d.r4 ∙ ap (λ (x : Notes). x.reports) d.r3 ∙ ap (λ (x : Notes). x.reports) d.r2
-
-  calls_both : CallsNext P I n going (length (run P I n).frames) (length (run P I (suc n)).frames) (next_site P (run P I n)) (levels_of (run P I n).frames) (levels_of (run P I (suc n)).frames)
-      → (c6.calls ≡ levels_of (run P I (suc n)).frames) × (c6.births.items ≡ births_of (levels_of (run P I (suc n)).frames))
-  calls_both (calls_are a b) = (
-    calls6 ∙ d.calls ∙ ap₂ (λ s ls. calls_after (length (run P I n).frames) (length (run P I (suc n)).frames) s (next_site P (run P I n)) ls) h.steps calls2 ∙ a,
-    ap (λ x. x.items) births6 ∙ d.births ∙ ap₂ (λ s ls. births_after (length (run P I n).frames) (length (run P I (suc n)).frames) s (next_site P (run P I n)) ls) h.steps births2 ∙ b,
-  )
-
-  pub assembled : AreNoted P I (suc n) c6
+  pub assembled : AreNoted P I (suc n) c5
   assembled =
-      let both = calls_both (calls_next P I n going shaped h.counted) in
       let old = subst (λ (p : Pending). Tells P I n c0.header p.stores.items (lines_of p.lines)) (sym pending1) h.pending in
       record {
-        steps = ap (λ (x : Notes). x.steps) d.r6 ∙ (let e = steps5 in let k = h.steps in let w : c5.steps + 1 ≡ suc n = omega (arith, e, k) in w);
+        steps = ap (λ (x : Notes). x.steps) d.r5 ∙ (let e = steps4 in let k = h.steps in let w : c4.steps + 1 ≡ suc n = omega (arith, e, k) in w);
         counted = steps_next P I n going h.counted;
-        entries = λ x. entries6 ∙ entries_next P I n going c0.entries (h.entries (sym header6 ∙ x));
-        few = few6 (has_entry E) entries6;
-        header = let k = h.header in let w = header6 in omega (arith, k, w);
-        fence = ap (λ (x : Notes). x.fence) d.r6 ∙ ap₂ (λ s o. cond (fences E) (Some s) o) (steps5 ∙ h.steps) fence5 ∙ fence_next P I n going c0.fence h.fence;
-        calls = both.0;
-        births = both.1;
-        pending = subst (λ i. Tells P I (suc n) i c6.pending.stores.items (lines_of c6.pending.lines)) (sym header6)
-            (subst (λ (p : Pending). Tells P I (suc n) c0.header p.stores.items (lines_of p.lines)) (sym pending6)
-            (pending_next P I n going c0.header c1.pending c2.pending old h.counted (c0.entries + 1) c1.calls (λ x. ap (λ i. i + 1) (h.entries x)) calls1 f fs q follows_here));
-        marks = ap (λ x. x.keys) marks6 ∙ d.marks ∙ marks_next P I n going c3.marks.keys (ap (λ x. x.keys) marks3 ∙ h.marks);
-        recent = subst (λ x. AreMet x.keys c6.recent.items) (sym marks6) (subst (λ x. AreMet c4.marks.keys x.items) (sym recent6) d.known);
-        flags = subst (λ x. WereHit x.keys c6.flags.items) (sym hit6) (subst (λ x. WereHit c5.hit.keys x.items) (sym flags6) d.flags);
-        hit = ap (λ x. x.keys) hit6 ∙ d.hits ∙ hit_next P I n going c4.hit.keys (ap (λ x. x.keys) hit4 ∙ h.hit);
-        reports = λ x. reports6 ∙ reports_next P I n going c0 h (sym header6 ∙ x) base region is_base is_region c1.reports (before E refl d.stated);
+        entries = λ x. entries5 ∙ entries_next P I n going c0.entries (h.entries (sym header5 ∙ x));
+        few = few5 (has_entry E) entries5;
+        header = let k = h.header in let w = header5 in omega (arith, k, w);
+        fence = ap (λ (x : Notes). x.fence) d.r5 ∙ ap₂ (λ s o. cond (fences E) (Some s) o) (steps4 ∙ h.steps) fence4 ∙ fence_next P I n going c0.fence h.fence;
+        calls = subst (λ (ls : List Level). Stood P I (suc n) ls) (sym calls5) (stood_next P I n c0.calls h.calls);
+        pending = subst (λ i. Tells P I (suc n) i c5.pending.stores.items (lines_of c5.pending.lines)) (sym header5)
+            (subst (λ (p : Pending). Tells P I (suc n) c0.header p.stores.items (lines_of p.lines)) (sym pending5)
+            (pending_next P I n going c0.header c1.pending c2.pending old h.counted (c0.entries + 1) c1.calls (λ x. ap (λ i. i + 1) (h.entries x)) calls1 top.0 top.1 top.2 follows_here));
+        marks = ap (λ x. x.keys) marks5 ∙ d.marks ∙ marks_next P I n going c2.marks.keys (ap (λ x. x.keys) marks2 ∙ h.marks);
+        recent = subst (λ x. AreMet x.keys c5.recent.items) (sym marks5) (subst (λ x. AreMet c3.marks.keys x.items) (sym recent5) d.known);
+        flags = subst (λ x. WereHit x.keys c5.flags.items) (sym hit5) (subst (λ x. WereHit c4.hit.keys x.items) (sym flags5) d.flags);
+        hit = ap (λ x. x.keys) hit5 ∙ d.hits ∙ hit_next P I n going c3.hit.keys (ap (λ x. x.keys) hit3 ∙ h.hit);
+        reports = λ x. reports5 ∙ reports_next P I n going c0 h (sym header5 ∙ x) looked base region is_base is_region c1.reports (before E refl d.stated);
       }
 
 -- ---- the same at equal values
@@ -197,20 +188,12 @@ module _ (P : Program) (I : Input) (n : ℕ) (going : has_ended (run P I n) ≡ 
 pub few_at : (P : Program) (I : Input) (n : ℕ) (c : Notes) → AreNoted P I n c → IsBounded P I n → I.limit ≤ 2 ^ 40 → longest P < 2 ^ 64 → n < 2 ^ 127
 few_at P I n c h b limit short = few_steps I.limit (longest P) n limit short (let s = b.steps in let k = h.counted in subst (λ i. i ≤ suc I.limit * suc (longest P)) k s)
 
-pub did_at : (P : Program) (I : Input) (c0 c1 c2 c3 c4 c5 c6 : Notes) (base region : ℕ) (lines lines' : List (Waiting Part)) → lines ≡ lines' → (e e' : Event) → e ≡ e' → (site site' : Option Site) → site ≡ site'
-    → (before before' : ℕ) → before ≡ before' → (after after' : ℕ) → after ≡ after' → (ahead ahead' : List Mark) → ahead ≡ ahead'
-    → Did P I c0 c1 c2 c3 c4 c5 c6 lines base region e site before after ahead → Did P I c0 c1 c2 c3 c4 c5 c6 lines' base region e' site' before' after' ahead'
-did_at P I c0 c1 c2 c3 c4 c5 c6 base region lines lines' l e e' q site site' s before before' b after after' a ahead ahead' m d =
-    subst (λ (x : List Mark). Did P I c0 c1 c2 c3 c4 c5 c6 lines' base region e' site' before' after' x) m
-    (subst (λ x. Did P I c0 c1 c2 c3 c4 c5 c6 lines' base region e' site' before' x ahead) a
-    (subst (λ x. Did P I c0 c1 c2 c3 c4 c5 c6 lines' base region e' site' x after ahead) b
-    (subst (λ (x : Option Site). Did P I c0 c1 c2 c3 c4 c5 c6 lines' base region e' x before after ahead) s
-    (subst (λ (x : Event). Did P I c0 c1 c2 c3 c4 c5 c6 lines' base region x site before after ahead) q
-    (subst (λ (x : List (Waiting Part)). Did P I c0 c1 c2 c3 c4 c5 c6 x base region e site before after ahead) l d)))))
-
-pub first_frame : (fs : List Frame) → has_frame fs ≡ true → (f : Frame) × (gs : List Frame) × (fs ≡ f ∷ gs)
-first_frame [] e = absurd (let z : ⊥ = cc in z)
-first_frame (f ∷ fs) e = (f, fs, refl)
+pub did_at : (P : Program) (I : Input) (c0 c1 c2 c3 c4 c5 : Notes) (base region : ℕ) (lines lines' : List (Waiting Part)) → lines ≡ lines' → (e e' : Event) → e ≡ e' → (site site' : Option Site) → site ≡ site'
+    → (ahead : List Mark) → Did P I c0 c1 c2 c3 c4 c5 lines base region e site ahead → Did P I c0 c1 c2 c3 c4 c5 lines' base region e' site' ahead
+did_at P I c0 c1 c2 c3 c4 c5 base region lines lines' l e e' q site site' s ahead d =
+    subst (λ (x : Option Site). Did P I c0 c1 c2 c3 c4 c5 lines' base region e' x ahead) s
+    (subst (λ (x : Event). Did P I c0 c1 c2 c3 c4 c5 lines' base region x site ahead) q
+    (subst (λ (x : List (Waiting Part)). Did P I c0 c1 c2 c3 c4 c5 x base region e site ahead) l d))
 
 -- ---- what is let go
 
@@ -225,7 +208,6 @@ forgotten P I n region c c' h e k r = subst (λ (x : Notes). AreNoted P I n x) (
   header = h.header;
   fence = h.fence;
   calls = h.calls;
-  births = h.births;
   pending = by k;
   marks = h.marks;
   recent = h.recent;
@@ -237,3 +219,27 @@ forgotten P I n region c c' h e k r = subst (λ (x : Notes). AreNoted P I n x) (
     by : IsForgotten (shown (run P I n).lines) region c.pending c'.pending → Tells P I n c.header c'.pending.stores.items (lines_of c'.pending.lines)
     by (inl q) = subst (λ (p : Pending). Tells P I n c.header p.stores.items (lines_of p.lines)) (sym q) h.pending
     by (inr q) = let_go P I n c.header region e c.pending c'.pending h.pending q
+
+-- ---- the calls are looked at
+
+-- the calls that stand now
+pub stood_now : (P : Program) (I : Input) (n : ℕ) (calls : List Level) → calls ≡ levels_of (run P I n).frames → Stood P I n calls
+stood_now P I n calls e = record { steps = n; few = omega arith; are = e }
+
+-- the notes after a look at the calls
+pub looked_at : (P : Program) (I : Input) (n : ℕ) (c c' : Notes) → AreNoted P I n c → Stood P I n c'.calls → c' ≡ record c { calls = c'.calls } → AreNoted P I n c'
+looked_at P I n c c' h s r = subst (λ (x : Notes). AreNoted P I n x) (sym r) (record {
+  steps = h.steps;
+  counted = h.counted;
+  entries = h.entries;
+  few = h.few;
+  header = h.header;
+  fence = h.fence;
+  calls = s;
+  pending = h.pending;
+  marks = h.marks;
+  recent = h.recent;
+  hit = h.hit;
+  flags = h.flags;
+  reports = h.reports;
+})

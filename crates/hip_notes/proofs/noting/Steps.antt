@@ -1,7 +1,6 @@
 -- The notes after a step are those of the run.
-use Rattle.std.proofs.Common.{◌≡◌, ◌⊎◌, inl, inr, ℕ, suc, ◌+◌, ◌-◌, Bool, true, false, cond, nat_lt, List, [], ◌∷◌, ◌++◌, append-nil, length, length-append, take, drop, Option, Some, None, slice_get, refl, sym, ap, ap₂, ◌∙◌, subst, arith, nat_eq}
+use Rattle.std.proofs.Common.{◌≡◌, ◌⊎◌, inl, inr, ℕ, suc, ◌+◌, true, false, cond, List, [], ◌∷◌, ◌++◌, append-nil, length, drop, Option, Some, None, slice_get, refl, sym, ap, ap₂, ◌∙◌, subst, arith, nat_eq}
 use Rattle.std.proofs.Math.Path.{fun_ext}
-use Rattle.std.proofs.lemmas.Bool.Decides.{nat_tests}
 use Rattle.hip_types.specs.Distinct.{met}
 use Rattle.hip_tree.specs.Sites.{instr_of}
 use Rattle.hip_tree.specs.declared.instr.Instr.{Instr}
@@ -10,7 +9,6 @@ use Rattle.hip_tree.specs.declared.site.Site.{Site}
 use Rattle.hip_mem.specs.Laws.BytesLaws.{length-bytes_of}
 use Rattle.hip_runs.specs.Found.Marks.{event_hits, frame_marks, hit, pointed, same_mark, unless_ended}
 use Rattle.hip_runs.specs.Found.Reports.{Range, check_reports, checked_by, checked_range, next_check, reports}
-use Rattle.hip_runs.specs.Laws.CallLaws.{run_moves}
 use Rattle.hip_runs.specs.Laws.Fits.{Stated, site_stated}
 use Rattle.hip_runs.specs.Laws.HistoryLaws.{instr_at_place}
 use Rattle.hip_runs.specs.Laws.NextLaws.{counts-next, next_lines}
@@ -28,19 +26,17 @@ use Rattle.hip_runs.specs.declared.event.Event.TheVariants as events
 use Rattle.hip_runs.specs.declared.input.Input.{Input}
 use Rattle.hip_runs.specs.declared.report.Mark.{Mark}
 use Rattle.hip_runs.specs.declared.report.Report.{Report}
-use Rattle.hip_invariants.specs.StackShape.{have_calls}
 use Rattle.hip_runs.specs.Seen.{next_site, site_in, top_site}
 use Rattle.hip_notes.specs.CallPaths.{births_of}
 use Rattle.hip_notes.specs.Checking.{reports_stated}
-use Rattle.hip_notes.specs.Noted.{AreNoted, Follows, Reported, StaySame, births_after, calls_after}
+use Rattle.hip_notes.specs.Noted.{AreNoted, Follows, Reported, StaySame}
 use Rattle.hip_notes.specs.Pending.{lines_of}
-use Rattle.hip_notes.specs.Sights.{marks_ahead}
+use Rattle.hip_notes.specs.Sights.{marks_ahead, needs_calls}
 use Rattle.hip_notes.specs.Standing.{Tells}
 use Rattle.hip_notes.specs.declared.notes.Notes.{Notes}
 use Rattle.hip_notes.specs.declared.pending.LineNote.{LineNote}
 use Rattle.hip_notes.specs.declared.pending.Pending.{Pending}
 use Rattle.hip_notes.specs.declared.pending.StoreNote.{StoreNote}
-use Rattle.hip_notes.proofs.noting.CallSteps.{CallsMove, calls_move, fewer, more, same}
 use Rattle.hip_notes.proofs.MarksAhead.{drop_at}
 use Rattle.hip_notes.proofs.Reporting.{reports_of_check}
 use Rattle.hip_notes.proofs.Telling.{tell_fence, tell_flush, tell_persist, tell_same, tell_store}
@@ -95,7 +91,7 @@ module _ (P : Program) (I : Input) (n : ℕ) (going : has_ended (run P I n) ≡ 
   -- ---- pending stores
 
   module _ (header : ℕ) (old new : Pending) (t : Tells P I n header old.stores.items (lines_of old.lines)) (counts : Now.counts.steps ≡ n) (entry : ℕ) (calls : List Level)
-      (is_entry : header ≡ header_entries I → entry ≡ Now.counts.entries + 1) (are_calls : calls ≡ levels_of Now.frames) (f : Frame) (fs : List Frame) (q : Now.frames ≡ f ∷ fs) where
+      (is_entry : header ≡ header_entries I → entry ≡ Now.counts.entries + 1) (are_calls : needs_calls E ≡ true → calls ≡ levels_of Now.frames) (f : Frame) (fs : List Frame) (q : Now.frames ≡ f ∷ fs) where
     abbrev Next : Type 0
     Next = Tells P I (suc n) header new.stores.items (lines_of new.lines)
 
@@ -120,7 +116,7 @@ module _ (P : Program) (I : Input) (n : ℕ) (going : has_ended (run P I n) ≡ 
         let note = k.0.0 in
         let is = k.0.1 in
         subst (λ (ns : List StoreNote). Tells P I (suc n) header ns (lines_of new.lines)) (sym k.0.2)
-        (tell_store P I n header old.stores.items (lines_of old.lines) t (site_of f) (ap since.top_site q) counts a v m h (length-bytes_of m v) note is.tag (is.site_is ∙ same) (is.calls_are ∙ are_calls) (λ x. is.entry_is ∙ is_entry x) (lines_of new.lines) k.1)
+        (tell_store P I n header old.stores.items (lines_of old.lines) t (site_of f) (ap since.top_site q) counts a v m h (length-bytes_of m v) note is.tag (is.site_is ∙ same) (is.calls_are ∙ are_calls (ap needs_calls h)) (λ x. is.entry_is ∙ is_entry x) (lines_of new.lines) k.1)
       where
         one : (x y : Site) → Some x ≡ Some y → x ≡ y
         one x y e = cc
@@ -135,71 +131,6 @@ module _ (P : Program) (I : Input) (n : ℕ) (going : has_ended (run P I n) ≡ 
 
     pub pending_next : Follows E (next_site P Now) I.base n entry calls old new → Next
     pending_next k = by E refl (next_site P Now) refl k
-
-  -- ---- calls
-
-  take_last : (bs : List ℕ) (b : ℕ) → take (length (bs ++ b ∷ []) - 1) (bs ++ b ∷ []) ≡ bs
-  take_last bs b = ap (λ k. take k (bs ++ b ∷ [])) (let h = length-append bs (b ∷ []) in let e : length (bs ++ b ∷ []) - 1 ≡ length bs = omega (arith, h) in e) ∙ front bs
-    where
-      front : (xs : List ℕ) → take (length xs) (xs ++ b ∷ []) ≡ xs
-      front [] = refl
-      front (x ∷ xs) = ap (λ (ys : List ℕ). x ∷ ys) (front xs)
-
-  births_drop : (ls : List Level) → take (length (births_of ls) - 1) (births_of ls) ≡ births_of (drop 1 ls)
-  births_drop [] = refl
-  births_drop (l ∷ ls) = take_last (births_of ls) l.birth
-
-  pub data CallsNext (before after : ℕ) (site : Option Site) (ls ls' : List Level) : Type 0 where
-    calls_are : calls_after before after n site ls ≡ ls' → births_after before after n site (births_of ls) ≡ births_of ls' → CallsNext before after site ls ls'
-
-  tests : (a b : ℕ) (t : Bool) → nat_lt a b ≡ t → nat_lt a b ≡ t
-  tests a b t e = e
-
-  pub calls_next : have_calls Now.frames → Now.counts.steps ≡ n
-      → CallsNext (length Now.frames) (length (run P I (suc n)).frames) (next_site P Now) (levels_of Now.frames) (levels_of (run P I (suc n)).frames)
-  calls_next h counts = go (calls_move P Now (run P I (suc n)) h (run_moves P I n))
-    where
-      L : ℕ
-      L = length Now.frames
-
-      M : ℕ
-      M = length (run P I (suc n)).frames
-
-      go : CallsMove P Now (run P I (suc n)) → CallsNext (length Now.frames) (length (run P I (suc n)).frames) (next_site P Now) (levels_of Now.frames) (levels_of (run P I (suc n)).frames)
-      go (same e l) = stay (next_site P Now)
-        where
-          no : nat_lt (length Now.frames) (length (run P I (suc n)).frames) ≡ false
-          no = grind (arith, nat_tests)
-
-          none : nat_lt (length (run P I (suc n)).frames) (length Now.frames) ≡ false
-          none = grind (arith, nat_tests)
-
-          stay : (o : Option Site) → CallsNext (length Now.frames) (length (run P I (suc n)).frames) o (levels_of Now.frames) (levels_of (run P I (suc n)).frames)
-          stay None = calls_are (ap (λ t. cond t (drop 1 (levels_of Now.frames)) (levels_of Now.frames)) none ∙ sym l) (ap (λ t. cond t (take (length (births_of (levels_of Now.frames)) - 1) (births_of (levels_of Now.frames))) (births_of (levels_of Now.frames))) none ∙ ap births_of (sym l))
-          stay (Some site) = calls_are
-              (ap₂ (λ s t. cond s (record { call = site; birth = n } ∷ levels_of Now.frames) (cond t (drop 1 (levels_of Now.frames)) (levels_of Now.frames))) no none ∙ sym l)
-              (ap₂ (λ s t. cond s (births_of (levels_of Now.frames) ++ n ∷ []) (cond t (take (length (births_of (levels_of Now.frames)) - 1) (births_of (levels_of Now.frames))) (births_of (levels_of Now.frames)))) no none ∙ ap births_of (sym l))
-      go (more f fs i q at e l) = subst (λ (o : Option Site). CallsNext (length Now.frames) (length (run P I (suc n)).frames) o (levels_of Now.frames) (levels_of (run P I (suc n)).frames)) (sym (site_seen P Now f fs i going q at)) (calls_are
-          (ap (λ s. cond s (record { call = site_of f; birth = n } ∷ levels_of Now.frames) (cond (nat_lt (length (run P I (suc n)).frames) (length Now.frames)) (drop 1 (levels_of Now.frames)) (levels_of Now.frames))) yes_more
-          ∙ ap (λ b. record { call = site_of f; birth = b } ∷ levels_of Now.frames) (sym counts) ∙ sym l)
-          (ap (λ s. cond s (births_of (levels_of Now.frames) ++ n ∷ []) (cond (nat_lt (length (run P I (suc n)).frames) (length Now.frames)) (take (length (births_of (levels_of Now.frames)) - 1) (births_of (levels_of Now.frames))) (births_of (levels_of Now.frames)))) yes_more
-          ∙ ap (λ b. births_of (levels_of Now.frames) ++ b ∷ []) (sym counts) ∙ ap births_of (sym l)))
-        where
-          yes_more : nat_lt (length Now.frames) (length (run P I (suc n)).frames) ≡ true
-          yes_more = grind (arith, nat_tests)
-      go (fewer e l) = less (next_site P Now)
-        where
-          no : nat_lt (length Now.frames) (length (run P I (suc n)).frames) ≡ false
-          no = grind (arith, nat_tests)
-
-          some : nat_lt (length (run P I (suc n)).frames) (length Now.frames) ≡ true
-          some = grind (arith, nat_tests)
-
-          less : (o : Option Site) → CallsNext (length Now.frames) (length (run P I (suc n)).frames) o (levels_of Now.frames) (levels_of (run P I (suc n)).frames)
-          less None = calls_are (ap (λ t. cond t (drop 1 (levels_of Now.frames)) (levels_of Now.frames)) some ∙ sym l) (ap (λ t. cond t (take (length (births_of (levels_of Now.frames)) - 1) (births_of (levels_of Now.frames))) (births_of (levels_of Now.frames))) some ∙ births_drop (levels_of Now.frames) ∙ ap births_of (sym l))
-          less (Some site) = calls_are
-              (ap₂ (λ s t. cond s (record { call = site; birth = n } ∷ levels_of Now.frames) (cond t (drop 1 (levels_of Now.frames)) (levels_of Now.frames))) no some ∙ sym l)
-              (ap₂ (λ s t. cond s (births_of (levels_of Now.frames) ++ n ∷ []) (cond t (take (length (births_of (levels_of Now.frames)) - 1) (births_of (levels_of Now.frames))) (births_of (levels_of Now.frames)))) no some ∙ births_drop (levels_of Now.frames) ∙ ap births_of (sym l))
 
   -- ---- marks, hits, fences, counts
 
@@ -228,13 +159,25 @@ module _ (P : Program) (I : Input) (n : ℕ) (going : has_ended (run P I n) ≡ 
 
   -- ---- reports
 
+  -- an event that checks a range needs the calls
+  checks_calls : (e : Event) (r : Range) → checked_by I e ≡ Some r → needs_calls e ≡ true
+  checks_calls events.Quiet r e = absurd (let z : ⊥ = cc in z)
+  checks_calls (events.Print z) r e = absurd (let z : ⊥ = cc in z)
+  checks_calls (events.Store a v m) r e = refl
+  checks_calls (events.Flush l s) r e = absurd (let z : ⊥ = cc in z)
+  checks_calls (events.Persist l s) r e = absurd (let z : ⊥ = cc in z)
+  checks_calls events.Fence r e = absurd (let z : ⊥ = cc in z)
+  checks_calls (events.Assert a m) r e = refl
+  checks_calls (events.End x) r e = refl
+
   range_is : (base region : ℕ) → base ≡ I.base → region ≡ length I.image → (e : Event) → checked_range base region e ≡ checked_by I e
   range_is base region b r e = ap₂ (λ (x : ℕ) (y : ℕ). checked_range x y e) b r
 
-  pub reports_next : (c : Notes) → AreNoted P I n c → c.header ≡ header_entries I → (base region : ℕ) → base ≡ I.base → region ≡ length I.image → (new : List Report)
-      → Reported (checked_range base region E) c.births.items (c.entries + 1) c.fence c.pending (shown Now.lines) c.reports new → new ≡ reports P I (suc n)
+  pub reports_next : (c : Notes) → AreNoted P I n c → c.header ≡ header_entries I → (needs_calls E ≡ true → c.calls ≡ levels_of Now.frames)
+      → (base region : ℕ) → base ≡ I.base → region ≡ length I.image → (new : List Report)
+      → Reported (checked_range base region E) (births_of c.calls) (c.entries + 1) c.fence c.pending (shown Now.lines) c.reports new → new ≡ reports P I (suc n)
   unfolding reports
-  reports_next c h header base region b r new k = go (checked_range base region E) (range_is base region b r E) k
+  reports_next c h header looked base region b r new k = go (checked_range base region E) (range_is base region b r E) k
     where
       check : next_check P I Now ≡ checked_by I E
       check = ap (λ t. cond t None (checked_by I E)) going
@@ -242,12 +185,13 @@ module _ (P : Program) (I : Input) (n : ℕ) (going : has_ended (run P I n) ≡ 
       count : c.entries + 1 ≡ suc Now.counts.entries
       count = let e = h.entries header in omega (arith, e)
 
-      go : (o : Option Range) → o ≡ checked_by I E → Reported o c.births.items (c.entries + 1) c.fence c.pending (shown Now.lines) c.reports new
+      go : (o : Option Range) → o ≡ checked_by I E → Reported o (births_of c.calls) (c.entries + 1) c.fence c.pending (shown Now.lines) c.reports new
           → new ≡ reports P I n ++ check_reports Now (next_check P I Now)
       go None e k = k ∙ h.reports header ∙ sym (append-nil (reports P I n)) ∙ ap (λ x. reports P I n ++ check_reports Now x) (e ∙ sym check)
       go (Some range) e k =
+          let calls = looked (checks_calls E range (sym e)) in
           k.3
           ∙ ap₂ (λ (x : List Report) (y : List Report). x ++ y) (h.reports header)
-          (ap (λ i. reports_stated c.births.items i c.fence c.pending.stores.items k.0.entries) count
-          ∙ reports_of_check P I n c.header c.pending.stores.items (lines_of c.pending.lines) h.pending range.offset range.size c.births.items c.fence (h.births) h.fence header k.0 k.1 k.2)
+          (ap (λ i. reports_stated (births_of c.calls) i c.fence c.pending.stores.items k.0.entries) count
+          ∙ reports_of_check P I n c.header c.pending.stores.items (lines_of c.pending.lines) h.pending range.offset range.size (births_of c.calls) c.fence (ap births_of calls) h.fence header k.0 k.1 k.2)
           ∙ ap (λ x. reports P I n ++ check_reports Now x) (e ∙ sym check)

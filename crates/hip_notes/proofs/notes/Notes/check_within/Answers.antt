@@ -14,4 +14,4 @@ returns-clause-stated c =
     let whole = c.args.region.now.size in
     let same : loose_from ws c.min-from.result c.min-count.result ≡ loose_from ws c.args.offset c.args.size =
     ap₂ (loose_from ws) c.min-from.ensures (c.min-count.ensures ∙ ap (λ f. min c.args.size (whole - f)) c.min-from.ensures) ∙ clamped ws c.args.offset c.args.size whole c.requires.region in
-    on_ok _ _ c.check_range.result c.check_range.ensures (λ g. (g.0, g.1, (λ tag. g.2 tag ∙ ap (λ (bs : List LooseByte). group_from (lines_of c.args.self.now.pending.lines) tag None bs) same), g.3 ∙ ap (λ (births : List ℕ). c.args.self.now.reports ++ reports_stated births c.args.entry c.args.self.now.fence c.args.self.now.pending.stores.items g.0.entries) c.as_slice.ensures.value))
+    on_ok _ _ c.check_range.result c.check_range.ensures (λ g. (g.0, g.1, (λ tag. g.2 tag ∙ ap (λ (bs : List LooseByte). group_from (lines_of c.args.self.now.pending.lines) tag None bs) same), g.3 ∙ ap (λ (births : List ℕ). c.args.self.now.reports ++ reports_stated births c.args.entry c.args.self.now.fence c.args.self.now.pending.stores.items g.0.entries) c.births.ensures))

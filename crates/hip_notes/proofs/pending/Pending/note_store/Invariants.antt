@@ -5,6 +5,6 @@ use Rattle.hip_notes.proofs.pending.Pending.note_store.Given as goal
 abbrev pub invariant-each : goal.invariant-each
 invariant-each l = record {
   stores : l.self.stores.items ≡ l.fn.self.stores.items ++ l.fn.note ∷ [];
-  low : l.initial.line ≤ l.line;
-  stated : (j : ℕ) → lines_of l.self.lines j ≡ cond (is_between l.initial.line l.line j) (Some (with_store (lines_of l.fn.self.lines j))) (lines_of l.fn.self.lines j);
+  low : l.initial.line-counter ≤ l.line-counter;
+  stated : (j : ℕ) → lines_of l.self.lines j ≡ cond (is_between l.initial.line-counter l.line-counter j) (Some (with_store (lines_of l.fn.self.lines j))) (lines_of l.fn.self.lines j);
 }

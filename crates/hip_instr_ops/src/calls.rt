@@ -1,4 +1,4 @@
-ghost use Rattle.std.specs.Prelude.{Option, IfOk};
+ghost use Rattle.std.specs.Prelude.{◌≡◌, Option, IfOk};
 ghost use Rattle.hip_types.specs.declared.number.Scalar.{Scalar};
 ghost use Rattle.hip_code.specs.Named.{has_pointer};
 ghost use Rattle.hip_tree.specs.declared.instr.Instr.TheVariants as instrs;

@@ -4,9 +4,8 @@ pub mod Quietly
 pub mod Silently
 pub mod Reached
 pub mod Quickly
-pub mod Locally
+pub mod Plainly
 pub mod Within
-pub mod Crossed
 pub mod Acted
 pub mod StoresStated
 pub mod MainPlace

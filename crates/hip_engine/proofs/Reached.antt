@@ -13,13 +13,13 @@ use Rattle.hip_engine.specs.declared.reach.Reach.TheVariants as reaches
 
 -- no event is out of reach
 pub quiet_allowed : (reach : Reach) → allows reach events.Quiet
-quiet_allowed reaches.Local = refl
+quiet_allowed reaches.Plain = refl
 quiet_allowed reaches.Quiet = refl
 quiet_allowed reaches.Silent = refl
 
 -- none that is within reach prints or ends the run
 pub allowed_silent : (reach : Reach) (e : Event) → allows reach e → is_silent e ≡ true
-allowed_silent reaches.Local e a = ap is_silent a
+allowed_silent reaches.Plain e a = ap is_silent a
 allowed_silent reaches.Quiet e a = ap is_silent a
 allowed_silent reaches.Silent e a = a
 
@@ -28,9 +28,9 @@ pub silent_either : (b : Bool) (x y : Event) → is_silent x ≡ true → is_sil
 silent_either true x y p q = p
 silent_either false x y p q = q
 
--- a local step is within any reach
-pub local_within : {code : Code} {old new : Core} {from to : Here} (reach : Reach) → StepsWithin reaches.Local code old from new to → StepsWithin reach code old from new to
-local_within {code} {old} {new} {from} {to} reach s = record {
+-- a plain step is within any reach
+pub plain_within : {code : Code} {old new : Core} {from to : Here} (reach : Reach) → StepsWithin reaches.Plain code old from new to → StepsWithin reach code old from new to
+plain_within {code} {old} {new} {from} {to} reach s = record {
   op = s.op;
   here = s.here;
   acts = record {
@@ -38,5 +38,5 @@ local_within {code} {old} {new} {from} {to} reach s = record {
     allowed = quiet_allowed reach;
     acts = subst (λ (e : Event). ActsQuickly code e s.op old from new to) s.acts.allowed s.acts.acts;
   };
-  local = λ is. s.local refl;
+  plain = λ is. s.plain refl;
 }

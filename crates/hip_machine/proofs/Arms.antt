@@ -173,11 +173,12 @@ mark_is_low {mark} {f} {fs} h = low_mark f.mark fs h.in_order.1
 pub mark_is_high : {mark : ℕ} {f : Frame} {fs : List Frame} → HasShape mark (f ∷ fs) → f.mark ≤ mark
 mark_is_high {mark} {f} {fs} h = lower f.mark mark f.slots h.in_order.0
 
-pub finishes_call : {old new : Core} (mid : Core) (v : ℕ) (caller : Activation) → old.saved.items ≡ mid.saved.items ++ caller ∷ [] →
-    new ≡ record old { saved = mid.saved; top = caller; slots = new.slots; blocks = new.blocks; storage = new.storage; taken = old.taken + 1; turns = old.turns + 1 } →
+-- the frame of the caller is on top again, whatever it says of the call
+pub finishes_call : {old new : Core} (mid : Core) (v : ℕ) (caller : Activation) (unused : ℕ) → old.saved.items ≡ mid.saved.items ++ caller ∷ [] →
+    new ≡ record old { saved = mid.saved; top = record caller { left = unused }; slots = new.slots; blocks = new.blocks; storage = new.storage; taken = old.taken + 1; turns = old.turns + 1 } →
     new.slots.items ≡ with_result caller.base old.top.dest v old.slots.items → new.blocks ≡ take old.top.blocks old.blocks → new.storage ≡ after_pop old.top.mark old.storage → Does old new events.Quiet true (λ m. Returns v)
 unfolding perform leave
-finishes_call {old} {new} mid v caller popped is put cleared pop = record { does = λ m b. go m b m.rest refl }
+finishes_call {old} {new} mid v caller unused popped is put cleared pop = record { does = λ m b. go m b m.rest refl }
   where
     go : (m : Moment) → Before old m → (fs : List Frame) → m.rest ≡ fs → Stepped m.program m.input new events.Quiet (acted m true (Returns v)) (seen_of m (Returns v))
     go m b [] below =
@@ -191,7 +192,7 @@ finishes_call {old} {new} mid v caller popped is put cleared pop = record { does
         let x = a.1 in
         let kept = a.3 in
         let same = same_from_push a.0 mid.saved.items x caller (sym a.2 ∙ popped) in
-        let is_it = is ∙ ap (λ (y : Activation). record old { saved = mid.saved; top = y; slots = new.slots; blocks = new.blocks; storage = new.storage; taken = old.taken + 1; turns = old.turns + 1 }) (sym same.1) in
+        let is_it = is ∙ ap (λ (y : Activation). record old { saved = mid.saved; top = record y { left = unused }; slots = new.slots; blocks = new.blocks; storage = new.storage; taken = old.taken + 1; turns = old.turns + 1 }) (sym same.1) in
         let put_it : new.slots.items ≡ with_result x.base old.top.dest v old.slots.items = put ∙ ap (λ (y : Activation). with_result y.base old.top.dest v old.slots.items) (sym same.1) in
         let blocks = subst (λ hs. HoldsBlocks old.blocks old.top.blocks f.slots hs) below s.blocks in
         let mark : old.top.mark ≡ f.mark = s.mark in

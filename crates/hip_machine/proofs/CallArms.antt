@@ -70,15 +70,15 @@ acts_too_deep {code} {old} {new} {e} {call} many d = record {
       subst (λ t. Stepped m.program m.input new e (acted m true (cond t calls (Traps trap_kinds.Depth))) (seen_of m (cond t calls (Traps trap_kinds.Depth)))) (sym deep) (d.does m b);
 }
 
--- the frame of a call, in slots after those of its caller
-pub acts_call : {code : Code} {old new : Core} {call : Call} (longer : List ℕ) (mid : Core) → length old.saved.items < MOST_FRAMES - 1 →
+-- the frame of a call, in slots after those of its caller, whatever it says of a call of its own
+pub acts_call : {code : Code} {old new : Core} {call : Call} (unused : ℕ) (longer : List ℕ) (mid : Core) → length old.saved.items < MOST_FRAMES - 1 →
     IsLonger old.slots.items longer → old.top.base + call.frame + call.size ≤ length longer →
-    mid.saved.items ≡ old.saved.items ++ record old.top { place = old.top.place + 1 } ∷ [] →
+    mid.saved.items ≡ old.saved.items ++ record old.top { place = old.top.place + 1; left = old.taken } ∷ [] →
     mid.slots.items ≡ put (numbers_of code old) (old.top.base + call.frame) (entries_of call.arguments code.moves.items) longer →
-    new ≡ record old { values = mid.values; slots = mid.slots; saved = mid.saved; top = record { place = call.target; entry = call.target; base = old.top.base + call.frame; mark = mark_of old.storage.areas; blocks = length old.blocks; function = call.function; block = 0; dest = call.dest }; taken = old.taken + 1; turns = old.turns + 1 } →
+    new ≡ record old { values = mid.values; slots = mid.slots; saved = mid.saved; top = record { place = call.target; entry = call.target; base = old.top.base + call.frame; mark = mark_of old.storage.areas; blocks = length old.blocks; function = call.function; block = 0; dest = call.dest; left = unused }; taken = old.taken + 1; turns = old.turns + 1 } →
     Acts code old new events.Quiet (ops.Control (controls.Call call))
 unfolding perform
-acts_call {code} {old} {new} {call} longer mid few l room pushed made is = record {
+acts_call {code} {old} {new} {call} unused longer mid few l room pushed made is = record {
   acts = λ m b placed past.
       let s = b.stands in
       let n = numbers_of code old in
@@ -91,7 +91,8 @@ acts_call {code} {old} {new} {call} longer mid few l room pushed made is = recor
       let shallow : nat_lt (length m.rest) (MOST_FRAMES - 1) ≡ true = lt-ltb _ _ (omega (arith, few, count)) in
       let size = placed.0.size in
       let begins = placed.0.begins in
-      let level : Option Level = Some (record { call = site_of m.top; birth = m.before.steps }) in
+      let born : ℕ → Option Level = λ birth. Some (record { call = site_of m.top; birth = birth }) in
+      let level = born m.before.steps in
       let registers = moved called n ms [] in
       let name = result_name names call.dest in
       let callee : Frame = record { function = call.function; block = 0; place = 0; registers = registers; mark = m.world.mark; slots = []; dest = name; level = level } in
@@ -114,7 +115,7 @@ acts_call {code} {old} {new} {call} longer mid few l room pushed made is = recor
           saved = record {
             are = (
               old.saved.items,
-              record old.top { place = old.top.place + 1 },
+              record old.top { place = old.top.place + 1; left = old.taken },
               pushed,
               record {
                 placed = placed_next s.placed (past refl);
@@ -124,7 +125,7 @@ acts_call {code} {old} {new} {call} longer mid few l room pushed made is = recor
                 result = result_goes names call.dest placed.0.result;
                 mark = s.mark;
                 blocks = s.blocks.below;
-                call = record { index = m.top.place; birth = m.before.steps; past = refl; is = refl };
+                call = record { index = m.top.place; past = refl; is = ap born (sym s.taken) };
               },
               (subst (λ xs. AreSaved P xs old.top.base old.top.dest m.top.dest m.top.level old.saved.items m.rest) (sym made) (saved_kept (let z : old.top.base ≤ old.top.base = omega arith in z) changed_low s.saved)).are,
             );
@@ -140,17 +141,17 @@ acts_call {code} {old} {new} {call} longer mid few l room pushed made is = recor
 pub acts_call_from : {code : Code} {old new : Core} {call : Call} (read : Core) (longer : List ℕ) (kept mid : Core) (ms : List Move) → length old.saved.items < MOST_FRAMES - 1 →
     read ≡ record old { values = read.values } → ms ≡ entries_of call.arguments code.moves.items → read.values.items ≡ map (λ m. operand_value (numbers_of code old) m.value) ms →
     IsLonger read.slots.items longer → read.top.base + call.frame + call.size ≤ length longer →
-    kept.saved.items ≡ read.saved.items ++ record read.top { place = read.top.place + 1 } ∷ [] →
+    kept.saved.items ≡ read.saved.items ++ record read.top { place = read.top.place + 1; left = read.taken } ∷ [] →
     mid.slots.items ≡ put_values (read.top.base + call.frame) ms read.values.items longer → mid ≡ record read { slots = mid.slots; saved = kept.saved } →
-    new ≡ record mid { top = record { place = call.target; entry = call.target; base = mid.top.base + call.frame; mark = mark_of mid.storage.areas; blocks = length mid.blocks; function = call.function; block = 0; dest = call.dest }; taken = mid.taken + 1; turns = mid.turns + 1 } →
+    new ≡ record mid { top = record { place = call.target; entry = call.target; base = mid.top.base + call.frame; mark = mark_of mid.storage.areas; blocks = length mid.blocks; function = call.function; block = 0; dest = call.dest; left = 0 }; taken = mid.taken + 1; turns = mid.turns + 1 } →
     Acts code old new events.Quiet (ops.Control (controls.Call call))
 acts_call_from {code} {old} {new} {call} read longer kept mid ms few same are values l room pushed put_in stays is =
     let n = numbers_of code old in
-    let entered = λ (k : Core). record k { top = record { place = call.target; entry = call.target; base = k.top.base + call.frame; mark = mark_of k.storage.areas; blocks = length k.blocks; function = call.function; block = 0; dest = call.dest }; taken = k.taken + 1; turns = k.turns + 1 } in
-    acts_call longer (record old { values = read.values; slots = mid.slots; saved = kept.saved }) few
+    let entered = λ (k : Core). record k { top = record { place = call.target; entry = call.target; base = k.top.base + call.frame; mark = mark_of k.storage.areas; blocks = length k.blocks; function = call.function; block = 0; dest = call.dest; left = 0 }; taken = k.taken + 1; turns = k.turns + 1 } in
+    acts_call 0 longer (record old { values = read.values; slots = mid.slots; saved = kept.saved }) few
     (subst (λ (k : Core). IsLonger k.slots.items longer) same l)
     (subst (λ (k : Core). k.top.base + call.frame + call.size ≤ length longer) same room)
-    (pushed ∙ ap (λ (k : Core). k.saved.items ++ record k.top { place = k.top.place + 1 } ∷ []) same)
+    (pushed ∙ ap (λ (k : Core). k.saved.items ++ record k.top { place = k.top.place + 1; left = k.taken } ∷ []) same)
     (put_in ∙ ap₂ (λ (k : Core) vs. put_values (k.top.base + call.frame) ms vs longer) same values ∙ put_is n (old.top.base + call.frame) ms longer ∙ ap (λ xs. put n (old.top.base + call.frame) xs longer) are)
     (is ∙ ap entered stays ∙ ap (λ (k : Core). entered (record k { slots = mid.slots; saved = kept.saved })) same)
 

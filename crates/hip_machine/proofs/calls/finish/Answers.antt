@@ -6,7 +6,7 @@ use Rattle.hip_machine.proofs.calls.finish.Goals as goal
 pub returns-in-Some-clause-does : goal.returns-in-Some-clause-does
 returns-in-Some-clause-does c =
     let mid : Core = record c.args.core.now { saved = c.pop.new.self } in
-    finishes_call mid c.args.value c.in-Some.caller c.in-Some.ensures.items c.leave.ensures.others c.leave.ensures.slots c.leave.ensures.blocks c.leave.ensures.storage
+    finishes_call mid c.args.value c.in-Some.caller c.in-Some.caller.left c.in-Some.ensures.items c.leave.ensures.others c.leave.ensures.slots c.leave.ensures.blocks c.leave.ensures.storage
 
 pub returns-in-None-clause-does : goal.returns-in-None-clause-does
 returns-in-None-clause-does c =

@@ -1,95 +1,15 @@
--- Which calls stand after some steps of a run, beside those that stood after fewer. A step with an entry leaves the calls
--- as they were. Calls of one birth at the same distance from the bottom are the same, with the same calls outside of them.
-use Rattle.std.proofs.Common.{◌≡◌, ℕ, zero, suc, ◌+◌, ◌-◌, ◌≤◌, ◌<◌, Bool, true, false, cond, List, [], ◌∷◌, length, drop, Option, Some, None, slice_get, refl, sym, ap, ◌∙◌, subst, arith}
+-- Which calls stand after some steps of a run, beside those that stood after fewer: calls of one birth at the same distance
+-- from the bottom are the same, with the same calls outside of them.
+use Rattle.std.proofs.Common.{◌≡◌, ℕ, zero, suc, ◌+◌, ◌-◌, ◌≤◌, ◌<◌, List, [], ◌∷◌, length, drop, Option, Some, None, slice_get, refl, sym, ap, ◌∙◌, subst, arith}
 use Rattle.std.proofs.lemmas.Option.{same_Some}
 use Rattle.hip_tree.specs.declared.program.Program.{Program}
-use Rattle.hip_lines.specs.Line.{Line}
-use Rattle.hip_runs.specs.declared.event.Ending.{Ending}
-use Rattle.hip_runs.specs.declared.event.Ending.TheVariants.{Cut}
-use Rattle.hip_runs.specs.declared.event.Event.TheVariants as events
 use Rattle.hip_runs.specs.declared.input.Input.{Input}
-use Rattle.hip_runs.specs.Actions.{Action, Traps, Assigns, Allocates, Stores, Flushes, Persists, Fences, Asserts, Prints, Reads, Calls, Jumps, Returns, Deed}
 use Rattle.hip_runs.specs.Frames.{IsSameCall, Moves, rests, stays, calls, returns}
 use Rattle.hip_runs.specs.Laws.CallLaws.{run_moves}
 use Rattle.hip_runs.specs.Laws.HistoryLaws.{calls_descend}
-use Rattle.hip_runs.specs.State.{Counts, Frame, Level, State, StorePart, World, level_list, levels_of, site_of}
-use Rattle.hip_runs.specs.Step.{carry_out, deed_at, event, event_at, event_of, event_on_ending, event_on_frames, has_entry, is_cut, leave, on_ending, on_frames, perform, run, step, stop, with_turn}
+use Rattle.hip_runs.specs.State.{Frame, Level, State, level_list, levels_of, site_of}
+use Rattle.hip_runs.specs.Step.{run}
 use Rattle.hip_runs.specs.StoredParts.History.{AreDescending}
-
--- ---- steps with an entry
-
-leave_keeps : (I : Input) (v : ℕ) (w : World) (f : Frame) (fs : List Frame) (ls : List (Line StorePart)) (after : Counts)
-    → has_entry (event_of I fs (Returns v)) ≡ true → levels_of (leave v w f fs ls after).frames ≡ levels_of (f ∷ fs)
-unfolding leave
-leave_keeps I v w f [] ls after e = refl
-leave_keeps I v w f (g ∷ fs) ls after e = absurd (let z : ⊥ = cc in z)
-
-perform_keeps : (I : Input) (w : World) (f : Frame) (fs : List Frame) (ls : List (Line StorePart)) (before after : Counts)
-    (x : Action) → has_entry (event_of I fs x) ≡ true
-    → levels_of (perform I w f fs ls before after x).frames ≡ levels_of (f ∷ fs)
-unfolding perform
-perform_keeps I w f fs ls before after (Traps kind) e = refl
-perform_keeps I w f fs ls before after (Assigns to v) e = refl
-perform_keeps I w f fs ls before after (Allocates to a n) e = refl
-perform_keeps I w f fs ls before after (Stores a bytes) e = refl
-perform_keeps I w f fs ls before after (Flushes a n) e = refl
-perform_keeps I w f fs ls before after (Persists a n) e = refl
-perform_keeps I w f fs ls before after Fences e = refl
-perform_keeps I w f fs ls before after (Asserts a n) e = refl
-perform_keeps I w f fs ls before after (Prints z) e = refl
-perform_keeps I w f fs ls before after (Reads to z rest) e = refl
-perform_keeps I w f fs ls before after (Calls g rs to) e = absurd (let z : ⊥ = cc in z)
-perform_keeps I w f fs ls before after (Jumps b rs) e = refl
-perform_keeps I w f fs ls before after (Returns v) e = leave_keeps I v w f fs ls after e
-
-carry_keeps : (I : Input) (w : World) (f : Frame) (fs : List Frame) (ls : List (Line StorePart)) (before after : Counts)
-    (d : Deed) → has_entry (event_at I w fs d) ≡ true
-    → levels_of (carry_out I w f fs ls before after d).frames ≡ levels_of (f ∷ fs)
-unfolding carry_out
-carry_keeps I w f fs ls before after d = go (is_cut I w d)
-  where
-    go : (b : Bool) → has_entry (cond b (events.End Cut) (event_of I fs d.action)) ≡ true
-        → levels_of (cond b (stop Cut w (f ∷ fs) ls after)
-        (perform I (cond d.turn (with_turn w) w) f fs ls before after d.action)).frames ≡ levels_of (f ∷ fs)
-    go true e = refl
-    go false e = perform_keeps I _ f fs ls before after d.action e
-
-step_keeps : (P : Program) (I : Input) (s : State) → has_entry (event P I s) ≡ true
-    → levels_of (step P I s).frames ≡ levels_of s.frames
-unfolding step event on_ending on_frames
-step_keeps P I s = go s.world.ending
-  where
-    on_them : (fs : List Frame) → s.frames ≡ fs → has_entry (event_on_frames P I s.world fs) ≡ true
-        → levels_of (on_frames P I s.world s.lines s.counts fs).frames ≡ levels_of s.frames
-    on_them [] q e = ap levels_of (sym q)
-    on_them (f ∷ fs) q e =
-        carry_keeps I s.world f fs s.lines s.counts _ (deed_at P I s.world f fs) e ∙ ap levels_of (sym q)
-
-    go : (o : Option Ending) → has_entry (event_on_ending P I s o) ≡ true
-        → levels_of (on_ending P I s o).frames ≡ levels_of s.frames
-    go (Some x) e = refl
-    go None e = on_them s.frames refl e
-
--- a step with an entry in the trace leaves the calls as they were
-pub entry_keeps : (P : Program) (I : Input) (n : ℕ) → has_entry (event P I (run P I n)) ≡ true
-    → levels_of (run P I (suc n)).frames ≡ levels_of (run P I n).frames
-unfolding run
-entry_keeps P I n e = step_keeps P I (run P I n) e
-
--- so does one with a store,
-pub store_keeps : (P : Program) (I : Input) (n a v m : ℕ) → event P I (run P I n) ≡ events.Store a v m
-    → levels_of (run P I (suc n)).frames ≡ levels_of (run P I n).frames
-store_keeps P I n a v m e = entry_keeps P I n (ap has_entry e)
-
--- one with an assert,
-pub assert_keeps : (P : Program) (I : Input) (n a m : ℕ) → event P I (run P I n) ≡ events.Assert a m
-    → levels_of (run P I (suc n)).frames ≡ levels_of (run P I n).frames
-assert_keeps P I n a m e = entry_keeps P I n (ap has_entry e)
-
--- and one that ends the run
-pub end_keeps : (P : Program) (I : Input) (n : ℕ) (x : Ending) → event P I (run P I n) ≡ events.End x
-    → levels_of (run P I (suc n)).frames ≡ levels_of (run P I n).frames
-end_keeps P I n x e = entry_keeps P I n (ap has_entry e)
 
 -- ---- what a step does to the calls
 

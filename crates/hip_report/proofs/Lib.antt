@@ -1,6 +1,7 @@
 pub mod Blank
 pub mod Noted
 pub mod Stepping
-pub mod Locally
+pub mod Outermost
+pub mod Plainly
 pub mod Sighted
-pub mod Crossed
+pub mod Looked

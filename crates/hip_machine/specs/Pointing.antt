@@ -1,5 +1,5 @@
 -- The pointer operands of the instruction at a machine's place, by its op.
-use Rattle.std.specs.Prelude.{ℕ, ◌⊎◌, ◌≡◌, Bool, true, false, List, [], ◌∷◌, ◌++◌, Option, Some, option_map, option_to_list, slice_get}
+use Rattle.std.specs.Prelude.{ℕ, ◌⊎◌, ◌≡◌, List, [], ◌∷◌, ◌++◌, Option, Some, option_map, option_to_list, slice_get}
 use Rattle.std.specs.List.{flat_map}
 use Rattle.hip_types.specs.declared.number.Scalar.{Scalar}
 use Rattle.hip_types.specs.declared.number.Scalar.TheVariants.{Int, Ptr}

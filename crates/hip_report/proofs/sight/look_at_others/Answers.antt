@@ -15,7 +15,7 @@ returns c =
     let before = c.args.notes.now.marks.keys in
     record {
       ended = sym c.if-is_some.false ∙ c.is_some.ensures ∙ ap is_some c.ending.ensures;
-      site = c.site.ensures;
+      site = c.site-site.ensures;
       marks = unless_alike (next_event m) before c.nothing_pointed.result.marks (marks_ahead m.program m.input (state_of m))
           (ap (met same_mark before) c.nothing_pointed.ensures.marks ∙ c.has_known_marks.ensures c.if-not-has_known_marks.false);
       last = subst (λ (o : Option Target). TellsGlobal m.program m.input o) (sym c.nothing_pointed.ensures.last) tt;

@@ -10,7 +10,7 @@ returns-clause-are c true =
     let all = standing m in
     let counted = c.count-known.ensures in
     let count = c.requires.count in
-    let not = c.if-known.false in
+    let not = c.if-known-count.false in
     let level : c.args.count - c.count-known.result ≡ length all - length calls = omega (arith, counted, count) in
     outermost_now m.program m.input m.taken calls c.requires.stood (omega (arith, counted, count, not))
     (sym c.last_birth.ensures ∙ c.is_same_birth.ensures.0 true ∙ c.birth_at.ensures ∙ ap (first_birth all) level)

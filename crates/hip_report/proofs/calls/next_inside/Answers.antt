@@ -1,4 +1,4 @@
-use Rattle.std.proofs.Common.{◌≡◌, ◌-◌, ◌<◌, ◌∙◌, ap, arith, length, slice_get, sym, subst, Option, Some, None}
+use Rattle.std.proofs.Common.{◌≡◌, ◌-◌, ◌<◌, ◌∙◌, ap, arith, length, refl, slice_get, sym, subst, Option, Some, None}
 use Rattle.std.specs.Prelude.{IfSome, option_map, ◌∷◌}
 use Rattle.hip_runs.specs.State.{Level}
 use Rattle.hip_engine.specs.StandingCalls.{call_of_level}
@@ -13,7 +13,7 @@ returns-clause-some c =
     let calls = c.args.calls.now in
     let counted = c.count-known.ensures in
     let count = c.requires.count in
-    let less = c.if-known.false in
+    let less = c.if-known-count.false in
     let level : c.args.count - c.count-known.result - 1 ≡ length all - length calls - 1 = omega (arith, counted, count) in
     subst (λ (o : Option StandingCall). IfSome o (λ call. AreOutermost (record { call = call.site; birth = call.birth } ∷ calls) all))
     (sym (c.standing_call.ensures ∙ ap (λ k. option_map call_of_level (slice_get all k)) level))

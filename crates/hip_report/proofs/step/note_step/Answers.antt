@@ -1,4 +1,4 @@
-use Rattle.std.proofs.Common.{◌≡◌, suc, ◌-◌, ◌*◌, ◌<◌, ◌^◌, List, length, refl, sym, ap, ◌∙◌, subst, arith}
+use Rattle.std.proofs.Common.{◌≡◌, suc, ◌+◌, ◌-◌, ◌*◌, ◌<◌, ◌^◌, List, length, refl, sym, ap, ◌∙◌, subst, arith}
 use Rattle.std.proofs.lemmas.List.{length-map}
 use Rattle.hip_globals.specs.Addresses.{region_size}
 use Rattle.hip_runs.specs.Laws.CrashLaws.{same_size}
@@ -55,8 +55,8 @@ note_check-requires-clause-order c =
     let few : n < 2 ^ 127 = few_at m.program m.input n c.note_calls.new.notes l.noted (c.runs_are_bounded.ensures.bounded m.program m.input n) c.input-input.ensures.valid.limit t.1.short in
     in_order m.program m.input n c.note_calls.new.notes.header c.note_calls.new.notes.pending (omega (arith, few)) l.noted.pending
 
-pub note_memory-requires-clause-ends : goal.note_memory-requires-clause-ends
-note_memory-requires-clause-ends c =
+pub note_memory-requires : goal.note_memory-requires
+note_memory-requires c =
     let t = taken_by c.args.machine.now c.args.seen c.args.notes.now c.args.sight.now c.requires c.if-sight.false in
     let m = c.args.machine.now in
     let n = m.taken - 1 in

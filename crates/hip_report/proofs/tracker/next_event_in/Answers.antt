@@ -66,4 +66,4 @@ returns-in_err-event-clause-err c =
       quiet = steps_then c.args.machine.now c.steps.machine c.pass_plainly.new.machine c.steps.invariant.quiet c.pass_plainly.ensures.passes;
       is = c.in_err-event.ensures.err;
     } in
-    on_err c.from_residual-in_err-event.result stops
+    on_err c.from_residual.result stops

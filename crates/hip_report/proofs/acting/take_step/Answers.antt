@@ -10,7 +10,7 @@ pub note_step-requires : goal.note_step-requires
 note_step-requires c =
     let old = c.args.machine.now in
     let new = c.act_quickly.new.self in
-    let a : ActsInRun old new c.in-Some-2.event = subst (λ (o : Option Event). MayAct o old new) c.in-Some-2.is c.in_ok-act_quickly.ensures.ok in
+    let a : ActsInRun old new c.in-Some-2.event = subst (λ (o : Option Event). MayAct o old new) c.in-Some-2.is c.in_ok-event.ensures.ok in
     record {
       before = old;
       takes = record { step = a.step; event = a.event };

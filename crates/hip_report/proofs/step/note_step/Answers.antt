@@ -63,7 +63,7 @@ note_memory-requires c =
     let size = same_size m.program m.input n c.input-input.ensures.valid in
     let small : length m.input.image < 2 ^ 64 = (let a = c.input-input.ensures.valid.image in let b = c.program-program.ensures.sound.sizes.region in let k = ap region_size c.checked-checked.ensures in omega (arith, a, b, k)) in
     let lies : Lies m.input c.args.seen = subst (λ (e : Event). Lies m.input e) (sym t.1.seen) (event_lies m.program m.input (run m.program m.input n)) in
-    subst (λ b. EndsBelow b c.args.seen) (sym c.region_of-region.ensures.base) (ends_below m.input _ c.args.seen lies size small)
+    record { ends = subst (λ b. EndsBelow b c.args.seen) (sym c.region_of-region.ensures.base) (ends_below m.input _ c.args.seen lies size small) }
 
 pub forget-requires-clause-noted : goal.forget-requires-clause-noted
 forget-requires-clause-noted c =

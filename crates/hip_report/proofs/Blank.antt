@@ -1,5 +1,5 @@
 -- Notes of no steps, and notes of a machine's run.
-use Rattle.std.proofs.Common.{◌≡◌, ℕ, ◌/◌, ◌<◌, ◌≤◌, ◌^◌, List, [], map, Option, Some, None, refl, sym, ap, ◌∙◌, subst, arith}
+use Rattle.std.proofs.Common.{◌≡◌, ℕ, ◌/◌, ◌<◌, ◌≤◌, ◌^◌, List, [], Option, Some, None, refl, sym, ap, ◌∙◌, subst, arith}
 use Rattle.std.specs.Prelude.{IfOk, OnOk, Result, Ok, Err}
 use Rattle.hip_tree.specs.declared.program.Program.{Program}
 use Rattle.hip_lines.specs.Line.{Line}

@@ -11,7 +11,7 @@ use Rattle.hip_notes.specs.Sights.{needs_calls}
 use Rattle.hip_notes.specs.declared.notes.Notes.{Notes}
 use Rattle.hip_notes.proofs.noting.Assembled.{looked_at, stood_now}
 use Rattle.hip_notes.proofs.noting.CallsStay.{calls_stay}
-use Rattle.hip_report.specs.StandingCalls.{LooksAt, standing}
+use Rattle.hip_report.specs.StandingCalls.{LooksAt}
 use Rattle.std.specs.Prelude.{List}
 
 -- The notes are those of n steps, and have the calls that stand then, if the next step needs them.

@@ -1,4 +1,4 @@
-use Rattle.std.proofs.Common.{[], Option, ◌∙◌, ap, map, refl, subst, sym}
+use Rattle.std.proofs.Common.{[], Option, ◌∙◌, refl, subst, sym}
 use Rattle.hip_runs.specs.Found.Marks.{mark_of}
 use Rattle.hip_runs.specs.Seen.{state_of}
 use Rattle.hip_runs.specs.declared.event.Object.{Object}

@@ -1,4 +1,4 @@
-use Rattle.std.proofs.Common.{[], map}
+use Rattle.std.proofs.Common.{[]}
 use Rattle.hip_runs.specs.Seen.{state_of}
 use Rattle.hip_notes.specs.Sights.{AddAlike, marks_to}
 use Rattle.hip_report.proofs.sight.are_known.Given as goal

@@ -1,4 +1,4 @@
-use Rattle.std.proofs.Common.{◌++◌, ◌∙◌, List, Some, ap, map}
+use Rattle.std.proofs.Common.{◌++◌, ◌∙◌, List, Some, ap}
 use Rattle.hip_types.specs.Distinct.{met}
 use Rattle.hip_runs.specs.Found.Marks.{same_mark}
 use Rattle.hip_runs.specs.Seen.{state_of}

@@ -1,4 +1,3 @@
-use Rattle.std.proofs.Common.{map}
 use Rattle.hip_runs.specs.Seen.{state_of}
 use Rattle.hip_engine.specs.Quiet.{next_event}
 use Rattle.hip_notes.specs.Sights.{marks_ahead}

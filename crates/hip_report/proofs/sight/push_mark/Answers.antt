@@ -1,4 +1,4 @@
-use Rattle.std.proofs.Common.{map, subst, sym}
+use Rattle.std.proofs.Common.{subst, sym}
 use Rattle.hip_notes.specs.MetMarks.{AreMet}
 use Rattle.hip_notes.proofs.MarksAtHand.{at_hand_adds}
 use Rattle.hip_report.proofs.sight.push_mark.Goals as goal

@@ -1,4 +1,4 @@
-use Rattle.std.proofs.Common.{◌≡◌, suc, ◌+◌, ◌-◌, ◌*◌, ◌<◌, ◌^◌, List, length, refl, sym, ap, ◌∙◌, subst, arith}
+use Rattle.std.proofs.Common.{◌≡◌, suc, ◌+◌, ◌-◌, ◌*◌, ◌<◌, ◌^◌, List, length, sym, ap, ◌∙◌, subst, arith}
 use Rattle.std.proofs.lemmas.List.{length-map}
 use Rattle.hip_globals.specs.Addresses.{region_size}
 use Rattle.hip_runs.specs.Laws.CrashLaws.{same_size}
@@ -6,7 +6,6 @@ use Rattle.hip_runs.specs.Step.{event, run}
 use Rattle.hip_runs.specs.StoredParts.Shown.{shown}
 use Rattle.hip_runs.specs.declared.event.Event.{Event}
 use Rattle.hip_runs.specs.declared.report.Mark.{Mark}
-use Rattle.std.specs.Prelude.{map}
 use Rattle.hip_types.specs.Distinct.{met}
 use Rattle.hip_runs.specs.Found.Marks.{same_mark, unless_ended}
 use Rattle.hip_notes.specs.MetMarks.{AreMet, WereHit}
@@ -15,7 +14,7 @@ use Rattle.hip_runs.specs.Seen.{next_site}
 use Rattle.hip_notes.specs.Noted.{AreNoted, EndsBelow, Stood}
 use Rattle.hip_notes.specs.declared.notes.Notes.{Notes}
 use Rattle.hip_notes.proofs.noting.Assembled.{Did, assembled, did_at, ends_below, few_at, stood_next}
-use Rattle.hip_report.proofs.Looked.{Looked, looked_before}
+use Rattle.hip_report.proofs.Looked.{looked_before}
 use Rattle.hip_report.proofs.Stepping.{stays_noted, taken_by}
 use Rattle.hip_notes.proofs.NoteLists.{in_order}
 use Rattle.hip_notes.proofs.noting.Still.{still_noted}

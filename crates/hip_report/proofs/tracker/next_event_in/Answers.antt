@@ -1,4 +1,4 @@
-use Rattle.std.proofs.Common.{inl, ◌-◌, ◌^◌, ◌<◌, arith, refl, ap, ◌∙◌, sym}
+use Rattle.std.proofs.Common.{◌-◌, ◌^◌, ◌<◌, arith, refl, ap, ◌∙◌, sym}
 use Rattle.hip_engine.specs.Quiet.{ComesTo}
 use Rattle.hip_engine.proofs.Quietly.{no_steps, steps_then}
 use Rattle.hip_runs.specs.Seen.{Seen}

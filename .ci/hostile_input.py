@@ -24,9 +24,12 @@ def case(name, faults):
         print(f"hard: {name}: {fault}")
 
 
-def answer(*words, memory=None, seconds=None, stdin=subprocess.DEVNULL, stdout=subprocess.PIPE):
-    """The exit code and both texts of a run, with these limits of memory in MiB and of processor time in seconds."""
+def answer(*words, memory=None, seconds=None, stack=None, stdin=subprocess.DEVNULL, stdout=subprocess.PIPE):
+    """The exit code and both texts of a run, with these limits of memory in MiB and of processor time in seconds, or with
+    this limit of the stack in KiB."""
     words = [HIPPO, *words]
+    if stack:
+        words = ["sh", "-c", f'ulimit -s {stack}; exec "$0" "$@"', *words]
     if memory:
         words = ["sh", "-c", f'ulimit -v {memory * 1024}; ulimit -t {seconds}; exec "$0" "$@"', *words]
     ran = subprocess.run(words, stdin=stdin, stdout=stdout, stderr=subprocess.PIPE, timeout=600)
@@ -258,6 +261,18 @@ def deep_run(folder):
     case("a deep run is checked", [] if got == (0, b"", "reports 0\n") else [str(got)])
 
 
+def small_stack(folder):
+    """Calls 16,000 deep need a stack of 32 KiB at most."""
+    deep = f"{TOP}/bench/deep.ll"
+    got = answer("run", deep, "1", stack=32)
+    case("a deep run in a small stack", [] if got == (0, b"", "stop 0\n") else [str(got)])
+    with open(f"{folder}/small.trace", "wb") as file:
+        code, _, notes = answer("record", deep, "1", stack=32, stdout=file)
+    case("a deep run is recorded in a small stack", [] if (code, notes) == (0, "stop 0\n") else [f"{code}: {notes}"])
+    got = answer("check", deep, f"{folder}/small.trace", stack=32)
+    case("a deep run is checked in a small stack", [] if got == (0, b"", "reports 0\n") else [str(got)])
+
+
 def main():
     subprocess.run([f"{TOP}/hippo", "demo", "1", "1"], stdout=subprocess.DEVNULL, stderr=subprocess.DEVNULL)
     place = f"{TOP}/examples/hoisted_copy/copy"
@@ -278,6 +293,7 @@ def main():
         header = b"".join(trace.splitlines(True)[:2])
         large_traces(folder, files[0], header)
         deep_run(folder)
+        small_stack(folder)
     print(f"hard input: {tally[True]} cases passed, {tally[False]} failed")
     return 1 if tally[False] else 0
 

@@ -34,7 +34,7 @@ pub struct Moment {
 }
 
 // The tracker looks for notes to drop when it has at least this many stores.
-const ENOUGH_STORES: usize = 1024;
+const ENOUGH_STORES: usize = 4096;
 
 /// What a tracker notes of a run.
 #[derive(Drop)]

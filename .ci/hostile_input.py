@@ -25,8 +25,7 @@ def case(name, faults):
 
 
 def answer(*words, memory=None, seconds=None, stack=None, stdin=subprocess.DEVNULL, stdout=subprocess.PIPE):
-    """The exit code and both texts of a run, with these limits of memory in MiB and of processor time in seconds, or with
-    this limit of the stack in KiB."""
+    """The exit code and both texts of a run, with limits of memory in MiB and seconds of processor time, or of the stack in KiB."""
     words = [HIPPO, *words]
     if stack:
         words = ["sh", "-c", f'ulimit -s {stack}; exec "$0" "$@"', *words]

@@ -50,7 +50,8 @@ cut_out s answer row carried out line = record {
 
 -- memory ran out while the text for out was made: a front of it is written
 pub ran_out_later : {table : Answer → Type 0} {old new : CabinetState} (s : Sinks) (answer : Answer)
-    → HasMet false false old new → table answer → WritesFront s answer → PutsLine statuses.NoMemory s.notes s.notes_new
+    → HasMet false false old new → table answer → WritesFront s answer
+    → PutsLine statuses.NoMemory s.notes s.notes_new
     → HasAnswered table true old new s statuses.NoMemory
 ran_out_later s answer met row front line =
     record { how = record { met = met; out = inr (answer, row, front); line = line } }

@@ -1,4 +1,4 @@
-ghost use Rattle.std.specs.Prelude.{◌≡◌, IfOk, OnOk};
+ghost use Rattle.std.specs.Prelude.{◌≡◌, IfOk};
 ghost use Rattle.hip_names.specs.Numbered.{Numbers};
 ghost use Rattle.hip_sound.specs.Numbering.{function_names, function_number};
 

@@ -1,4 +1,4 @@
-ghost use Rattle.std.specs.Prelude.{◌≡◌, ◌↔◌, IsTrue, map};
+ghost use Rattle.std.specs.Prelude.{◌≡◌, map};
 ghost use Rattle.std.specs.List.{list_all};
 ghost use Rattle.hip_globals.specs.Constants.{joined, types_in, gep_types, item_types};
 ghost use Rattle.hip_sound.specs.Constants.{names_in, item_names};

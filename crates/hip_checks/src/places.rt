@@ -1,8 +1,6 @@
-ghost use Rattle.std.specs.Prelude.{◌≡◌, [], IfOk};
 ghost use Rattle.hip_checks.specs.Seen.Answers.{Answers};
 ghost use Rattle.hip_sound.specs.Check.{each};
 ghost use Rattle.hip_checks.specs.Seen.InstrSeen.{instr_found};
-ghost use Rattle.hip_names.specs.Names.{Knows};
 ghost use Rattle.hip_checks.specs.Seen.PhiSeen.{phi_found};
 ghost use Rattle.hip_sound.specs.Places as spec;
 ghost use Rattle.hip_sound.specs.Rules.{phi_at, instr_at, block_check, function_check, places_check};

@@ -1,6 +1,6 @@
 //! What stores, flushes and fences do to the kept lines.
 
-ghost use Rattle.std.specs.Prelude.{◌≡◌, ℕ, ◌+◌, ◌*◌, ◌/◌, ◌%◌, ◌^◌, ◌<◌, ◌≤◌, ◌==◌, ◌&&◌, [], cond, nat_le, nat_lt, nat_eq, true, length, option_map, IsSome, OnErr, OnOk};
+ghost use Rattle.std.specs.Prelude.{◌≡◌, ℕ, ◌+◌, ◌*◌, ◌/◌, ◌^◌, ◌<◌, ◌≤◌, ◌==◌, ◌&&◌, cond, nat_le, nat_lt, nat_eq, true, length, option_map, IsSome, OnErr, OnOk};
 ghost use Rattle.std.specs.List.{list_any};
 ghost use Rattle.hip_lines.specs.Line.{has_bytes};
 ghost use Rattle.hip_types.specs.declared.areas.TheConstants.{LINE_SIZE};

@@ -1,6 +1,6 @@
 //! What is kept of the cache lines into which something was stored, by their numbers.
 
-ghost use Rattle.std.specs.Prelude.{◌≡◌, ◌≢◌, ℕ, ◌+◌, ◌-◌, ◌<◌, ◌≤◌, ◌^◌, [], ◌∷◌, ◌++◌, length, Option, Some, None, IsSome, slice_get, IfOk, OnOk, OnErr};
+ghost use Rattle.std.specs.Prelude.{◌≡◌, ℕ, ◌+◌, ◌-◌, ◌<◌, ◌^◌, [], ◌∷◌, ◌++◌, length, Option, Some, None, IsSome, slice_get, IfOk, OnOk, OnErr};
 ghost use Rattle.std.specs.Option.{option_copied};
 ghost use Rattle.hip_crash.specs.Kept.{with_store, with_flush, with_fence};
 ghost use Rattle.hip_crash.specs.Places.{ArePlaced, ChangesPlace};

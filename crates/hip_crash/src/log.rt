@@ -1,10 +1,10 @@
 //! A log of what a crash may leave in the region.
 
-ghost use Rattle.std.specs.Prelude.{◌≡◌, ◌-◌, ◌*◌, ◌<◌, ◌≤◌, ℕ, [], List, None, drop, length, take, true, IfErr, IfOk, IsOk, MatchOption, OnErr, OnOk};
+ghost use Rattle.std.specs.Prelude.{◌≡◌, ◌-◌, ◌*◌, ◌<◌, ◌≤◌, ℕ, List, None, drop, length, take, true, IfErr, IfOk, IsOk, MatchOption, OnErr, OnOk};
 ghost use Rattle.hip_runs.specs.Step.{event, has_ended};
 ghost use Rattle.hip_runs.specs.Validity.{IsValid};
 ghost use Rattle.hip_crash.specs.Numbers.{AreNumbers, IsBetween, IsNumberOf, number_in};
-ghost use Rattle.hip_crash.specs.Picks.{ArePicksOf, IsRefusal, bounds_of, failure, first_failure, number_for, number_or, picked, range_failure};
+ghost use Rattle.hip_crash.specs.Picks.{ArePicksOf, IsRefusal, bounds_of, failure, first_failure, number_or, picked, range_failure};
 ghost use Rattle.hip_picks.specs.declared.pick.Pick.{Pick};
 ghost use Rattle.hip_types.specs.declared.areas.TheConstants.{LINE_SIZE};
 ghost use Rattle.hip_runs.specs.Crash.{IsCrashImage, crash_image};

@@ -1,6 +1,6 @@
 //! What a log keeps of the region.
 
-ghost use Rattle.std.specs.Prelude.{◌≡◌, ℕ, ◌+◌, ◌-◌, ◌%◌, ◌*◌, ◌^◌, ◌<◌, ◌≤◌, List, cond, length, is_ok, IfOk, OnOk};
+ghost use Rattle.std.specs.Prelude.{◌≡◌, ℕ, ◌+◌, ◌-◌, ◌*◌, ◌^◌, ◌<◌, ◌≤◌, List, cond, length, is_ok, IfOk, OnOk};
 ghost use Rattle.hip_lines.specs.Line.{has_bytes};
 ghost use Rattle.hip_types.specs.declared.areas.TheConstants.{LINE_SIZE};
 ghost use Rattle.hip_crash.specs.Kept.{with_fence, with_flush, with_store};

@@ -1,6 +1,6 @@
 //! What a demonstration counts.
 
-ghost use Rattle.std.specs.Prelude.{◌≡◌, ◌<◌, ◌≤◌, IfOk};
+ghost use Rattle.std.specs.Prelude.{◌<◌, ◌≤◌, IfOk};
 ghost use Rattle.hip_demo.specs.Demo.{HasShown, demo_input};
 ghost use Rattle.hip_demo.specs.Replays.{HasFound};
 ghost use Rattle.hip_gen.specs.Generated.{generated_program};

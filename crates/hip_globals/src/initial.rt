@@ -1,4 +1,4 @@
-ghost use Rattle.std.specs.Prelude.{◌≡◌, ◌<◌, ◌≤◌, ◌++◌, ◌+◌, [], length, replicate, take, drop, map, IfOk, OnOk, unwrap_or};
+ghost use Rattle.std.specs.Prelude.{◌≡◌, ◌<◌, ◌≤◌, ◌++◌, ◌+◌, [], length, take, drop, map, IfOk, OnOk, unwrap_or};
 ghost use Rattle.hip_types.specs.Layout.{Fits, gep_of};
 ghost use Rattle.hip_types.specs.Bytes.{bytes_of};
 ghost use Rattle.hip_globals.specs.AddressesSeen.{address_beside};

@@ -1,7 +1,7 @@
 //! The words of types, operations, predicates, casts and flags.
 
 ghost use Rattle.std.specs.Prelude.{◌≡◌, ℕ, List};
-ghost use Rattle.hip_grammar.specs.Words.{written_as, width_text, width_word, scalar_text, scalar_word, ret_text, ret_word, type_of, type_word, binary_text, binary_word, pred_text, pred_word, cast_text, int_cast_word, flag_text, may_wrap, may_be_exact, flags_after, flag_word};
+ghost use Rattle.hip_grammar.specs.Words.{written_as, width_text, width_word, scalar_text, scalar_word, ret_text, ret_word, type_of, type_word, binary_text, binary_word, pred_text, pred_word, cast_text, int_cast_word, flag_text, may_wrap, may_be_exact, flag_word};
 
 use hip_tree::Flag;
 use hip_types::{BinaryOp, CastOp, Pred, Scalar, Ty, Width};

@@ -1,6 +1,6 @@
-ghost use Rattle.std.specs.Prelude.{◌≡◌, ◌++◌, ◌∷◌, [], ◌&&◌, cond, map, not, None, IfOk, OnOk};
+ghost use Rattle.std.specs.Prelude.{◌≡◌, ◌++◌, [], ◌&&◌, map, None, IfOk, OnOk};
 ghost use Rattle.hip_names.specs.Names.{is_among};
-ghost use Rattle.hip_repairs.specs.Repaired.{clwb_name, declared_if, pmem_flush_name, sfence_name};
+ghost use Rattle.hip_repairs.specs.Repaired.{declared_if};
 ghost use Rattle.hip_insertions.specs.Walk.{added};
 
 use crate::body::Needed;

@@ -7,7 +7,7 @@ ghost use Rattle.std.specs.List.{list_all};
 ghost use Rattle.hip_sound.specs.Places.{entered_by, gep_agrees};
 ghost use Rattle.hip_globals.specs.Values.{const_value};
 ghost use Rattle.hip_runs.specs.Actions.{index_value};
-ghost use Rattle.hip_instr_ops.specs.Far.{Enters, Leads, Reaches, Steps};
+ghost use Rattle.hip_instr_ops.specs.Far.{Enters, Leads, Steps};
 ghost use Rattle.hip_instr_ops.specs.Fields.{IsField, IsLiteral};
 ghost use Rattle.hip_scope.specs.Known.{ArgsKnown, OperandKnown};
 ghost use Rattle.hip_scope.specs.Scopes.{Describes, names_of};

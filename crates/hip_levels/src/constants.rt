@@ -3,7 +3,7 @@ ghost use Rattle.hip_types.specs.Layout.{Fits, gep_of};
 ghost use Rattle.hip_globals.specs.Constants.{gep_types, index_of, types_in};
 ghost use Rattle.hip_globals.specs.InitialSeen.{AllFit};
 ghost use Rattle.hip_invariants.specs.PointerLevels.{global_level, known_index, known_path};
-ghost use Rattle.hip_levels.specs.Gathered.{element_with, level_beside, level_with, persistence_level};
+ghost use Rattle.hip_levels.specs.Gathered.{element_with, level_beside, level_with};
 ghost use Rattle.hip_levels.specs.Tables.{level_of};
 
 use crate::numbered::{FREE, at_offset};

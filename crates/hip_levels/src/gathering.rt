@@ -1,8 +1,7 @@
-ghost use Rattle.std.specs.Prelude.{◌≡◌, ◌∷◌, [], ◌++◌, All, map, Some, IfOk, OnOk};
+ghost use Rattle.std.specs.Prelude.{◌≡◌, ◌∷◌, [], ◌++◌, All, Some, IfOk, OnOk};
 ghost use Rattle.std.specs.List.{flat_map};
 ghost use Rattle.hip_types.specs.Layout.{Fits};
 ghost use Rattle.hip_externs.specs.Externs.{call_of};
-ghost use Rattle.hip_sound.specs.Numbering.{function_number};
 ghost use Rattle.hip_invariants.specs.PointerLevels as levels;
 ghost use Rattle.hip_levels.specs.Bounds.{Register};
 ghost use Rattle.hip_levels.specs.Describing.{Describes};

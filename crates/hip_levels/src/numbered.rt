@@ -1,4 +1,4 @@
-ghost use Rattle.std.specs.Prelude.{◌≡◌, ◌≤◌, length};
+ghost use Rattle.std.specs.Prelude.{◌≡◌, length};
 ghost use Rattle.hip_levels.specs.Numbered.{IsWithin, LeastIsWithin, offset_rank, reached, rises, risen};
 
 /// The number of the level Free; the others are 0 to 32.

@@ -23,7 +23,8 @@ kept_at tags flushed (suc k) = Some (slice_index tags k, nat_lt k flushed)
 -- shows. Each byte shows the same as by all pending parts of the line. Some part is flushed exactly if some tag is, and
 -- all parts are exactly if all tags are.
 pub record Shows (tags : List ℕ) (flushed : ℕ) (numbers : List ℕ) (line : ℕ) (w : Pending Part) : Type 0 where
-  pub bytes : (b : ℕ) → b / LINE_SIZE ≡ line → kept_at tags flushed (slice_index numbers (b % LINE_SIZE)) ≡ shown w b
+  pub bytes : (b : ℕ) → b / LINE_SIZE ≡ line
+      → kept_at tags flushed (slice_index numbers (b % LINE_SIZE)) ≡ shown w b
   pub some : flushed ≡ 0 → w.flushed ≡ 0
   pub none : w.flushed ≡ 0 → flushed ≡ 0
   pub all : flushed ≡ length tags → w.flushed ≡ length w.parts

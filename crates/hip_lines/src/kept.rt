@@ -1,6 +1,6 @@
 //! The queues of the lines that hold something.
 
-ghost use Rattle.std.specs.Prelude.{◌≡◌, ℕ, ◌+◌, ◌-◌, ◌*◌, ◌/◌, ◌%◌, ◌<◌, ◌≤◌, [], ◌∷◌, ◌≢◌, ◌^◌, cond, true, false, Some, length, vec_len, vec_capacity, OnOk, OnErr, IsOk, None, MatchBool};
+ghost use Rattle.std.specs.Prelude.{◌≡◌, ℕ, ◌+◌, ◌-◌, ◌*◌, ◌/◌, ◌<◌, ◌≤◌, ◌≢◌, ◌^◌, cond, true, false, Some, length, vec_capacity, OnOk, OnErr, IsOk, None, MatchBool};
 ghost use Rattle.hip_lines.specs.Line.{has_bytes};
 ghost use Rattle.hip_lines.specs.Pending.{pending_with, pending_flushed, pending_fenced};
 ghost use Rattle.hip_lines.specs.Parts.{part_in};

@@ -1,4 +1,4 @@
-ghost use Rattle.std.specs.Prelude.{◌^◌, ◌≡◌, ◌≢◌, ℕ, ◌+◌, ◌-◌, ◌*◌, ◌/◌, ◌%◌, ◌<◌, ◌≤◌, [], ◌∷◌, true, false, drop, length, slice_index, vec_len, vec_capacity, OnOk, MatchOption, None};
+ghost use Rattle.std.specs.Prelude.{◌^◌, ◌≡◌, ◌≢◌, ◌+◌, ◌-◌, ◌*◌, ◌/◌, ◌%◌, ◌<◌, ◌≤◌, true, false, length, vec_len, vec_capacity, OnOk, None};
 ghost use Rattle.hip_lines.specs.Shown.{Shows, AreNumbers};
 ghost use Rattle.hip_types.specs.declared.areas.TheConstants.{LINE_SIZE};
 

@@ -1,14 +1,14 @@
 //! The queues of the lines that hold something. A queue that a line gave back is used by the next line that needs one,
 //! with the room that it has.
 
-ghost use Rattle.std.specs.Prelude.{◌≡◌, ◌≢◌, ℕ, zero, suc, ◌+◌, ◌-◌, ◌*◌, ◌/◌, ◌<◌, ◌≤◌, ◌^◌, List, length, Option, Some, None, IsSome, true, slice_get, IfOk, OnOk, OnErr};
+ghost use Rattle.std.specs.Prelude.{◌≡◌, ◌≢◌, ℕ, ◌+◌, ◌-◌, ◌*◌, ◌/◌, ◌<◌, ◌≤◌, ◌^◌, length, Option, Some, None, IsSome, true, slice_get, IfOk, OnOk, OnErr};
 ghost use Rattle.std.specs.Option.{option_copied};
 ghost use Rattle.hip_directory.specs.Directories.{number_at};
 ghost use Rattle.hip_lines.specs.declared.queue.Queue.{Queue};
 ghost use Rattle.hip_types.specs.declared.areas.TheConstants.{LINE_SIZE};
 ghost use Rattle.hip_lines.specs.Pending.{none_pending, pending_with, pending_flushed, pending_fenced};
 ghost use Rattle.hip_lines.specs.Queues.{pending_in, HasRoom};
-ghost use Rattle.hip_lines.specs.Places.{at_place, queue_in, ArePlaced, KeepsOthers, ChangesPlace, IsFreshAt, IsFresh};
+ghost use Rattle.hip_lines.specs.Places.{queue_in, ArePlaced, KeepsOthers, ChangesPlace, IsFreshAt, IsFresh};
 
 use crate::part::Part;
 use crate::queue::Queue;

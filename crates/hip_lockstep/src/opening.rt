@@ -6,7 +6,7 @@ ghost use Rattle.hip_io.specs.Cabinets.{CabinetState};
 ghost use Rattle.hip_tree.specs.declared.program.Program.{Program};
 ghost use Rattle.hip_run_traces.specs.Headers.{valid_base, valid_limit};
 ghost use Rattle.hip_lockstep.specs.Giving.{IsEmpty, input_of};
-ghost use Rattle.hip_lockstep.specs.Opening.{HasBase, HasGiven, HasLimit, ReadsBase, ReadsHeader, ReadsLimit, ReadsValues};
+ghost use Rattle.hip_lockstep.specs.Opening.{HasGiven, HasLimit, ReadsBase, ReadsHeader, ReadsLimit, ReadsValues};
 ghost use Rattle.hip_trace.specs.declared.refusal.Progress.TheVariants.{Reading};
 
 use crate::given::Given;

@@ -12,7 +12,8 @@ use Rattle.hip_machine.specs.Placed.{placed_at}
 use Rattle.hip_machine.specs.declared.core_parts.Core.{Core}
 
 -- The parts represent a state with a frame on top, after n steps.
-pub record Stands (P : Program) (I : Input) (c : Core) (w : World) (f : Frame) (fs : List Frame) (n : ℕ) : Type 0 where
+pub record Stands (P : Program) (I : Input) (c : Core) (w : World) (f : Frame) (fs : List Frame) (n : ℕ)
+    : Type 0 where
   pub limit : c.limit ≡ I.limit
   pub turns : c.turns ≡ w.turns
   pub taken : c.taken ≡ n

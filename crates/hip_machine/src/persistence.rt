@@ -1,5 +1,5 @@
 ghost use Rattle.std.specs.Prelude.{◌≡◌, ◌+◌, ◌<◌, ◌^◌, cond, false, Some};
-ghost use Rattle.hip_runs.specs.Actions.{Fences, Flushes, Persists, Traps, flushing};
+ghost use Rattle.hip_runs.specs.Actions.{Fences, Flushes, Persists, flushing};
 ghost use Rattle.hip_code.specs.Ops.{PersistenceWithin};
 ghost use Rattle.hip_code.specs.declared.op.Effect.TheVariants as effects;
 ghost use Rattle.hip_code.specs.declared.op.Memory.TheVariants as memories;

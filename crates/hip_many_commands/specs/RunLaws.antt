@@ -19,7 +19,8 @@ pub tails : {A : Type 0} (x y : A) (xs ys : List A) → x ∷ xs ≡ y ∷ ys �
 tails x y xs ys e = cc
 
 module _ (files : List NamedFile) (P : Program) where
-  one_run : (r q : TracedRun) → r.name ≡ q.name → IsRunOf (Some files) P r → IsRunOf (Some files) P q → r ≡ q
+  one_run : (r q : TracedRun) → r.name ≡ q.name → IsRunOf (Some files) P r → IsRunOf (Some files) P q
+      → r ≡ q
   one_run r q named x y =
       let input = same_trace files q.name P r.input q.input
       (subst (λ (n : List ℕ). IsTraceFile files n P r.input) named x.traced) y.traced in

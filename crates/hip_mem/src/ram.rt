@@ -1,7 +1,7 @@
-ghost use Rattle.std.specs.Prelude.{◌≡◌, ◌==◌, ℕ, ◌+◌, ◌-◌, ◌*◌, ◌/◌, ◌%◌, ◌^◌, ◌<◌, ◌≤◌, ◌↔◌, [], length, slice_index, IfOk, IfErr, OnOk, OnErr, Some, None, Err, IsTrue};
+ghost use Rattle.std.specs.Prelude.{◌≡◌, ◌==◌, ℕ, ◌+◌, ◌-◌, ◌/◌, ◌%◌, ◌^◌, ◌<◌, ◌≤◌, ◌↔◌, [], length, IfOk, IfErr, OnOk, OnErr, Some, None, Err, IsTrue};
 ghost use Rattle.hip_mem.specs.Memory.{byte_written};
-ghost use Rattle.hip_types.specs.Bytes.{bytes_of, little_endian};
-ghost use Rattle.hip_mem.specs.Pages.{IsMade, page_byte, page_bytes};
+ghost use Rattle.hip_types.specs.Bytes.{bytes_of};
+ghost use Rattle.hip_mem.specs.Pages.{IsMade, page_byte};
 ghost use Rattle.hip_mem.specs.declared.TheConstants.{PAGE_SIZE};
 
 use crate::pages::Pages;

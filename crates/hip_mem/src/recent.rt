@@ -1,6 +1,6 @@
 //! The starts of pages that were written recently.
 
-ghost use Rattle.std.specs.Prelude.{◌≡◌, ◌≢◌, ℕ, ◌<◌, slice_index};
+ghost use Rattle.std.specs.Prelude.{◌≡◌, ◌≢◌, ℕ, ◌<◌};
 ghost use Rattle.hip_mem.specs.Recents.{AreStarts};
 
 // The number of noted pages, as a power of 2.

@@ -1,4 +1,4 @@
-ghost use Rattle.std.specs.Prelude.{◌≡◌, ◌+◌, [], ◌∷◌, None, Some, drop, length, option_map, slice_get, IfOk, OnOk};
+ghost use Rattle.std.specs.Prelude.{◌≡◌, ◌+◌, [], ◌∷◌, drop, length, option_map, slice_get, IfOk, OnOk};
 ghost use Rattle.hip_notes.specs.CallPaths.{births_of};
 
 use hip_findings::CallPath;

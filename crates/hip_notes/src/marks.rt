@@ -1,4 +1,4 @@
-ghost use Rattle.std.specs.Prelude.{◌≡◌, ◌⊎◌, ℕ, ◌∷◌, ◌++◌, [], nat_eq, slice_get, Some, true, IfOk, OnOk};
+ghost use Rattle.std.specs.Prelude.{◌≡◌, ◌⊎◌, ℕ, ◌∷◌, [], nat_eq, slice_get, Some, true, IfOk, OnOk};
 ghost use Rattle.hip_types.specs.Distinct.{met};
 ghost use Rattle.hip_runs.specs.Found.Marks.{same_mark};
 ghost use Rattle.hip_notes.specs.MetMarks.{AreMet, WereHit};

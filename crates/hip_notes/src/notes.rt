@@ -1,6 +1,4 @@
-ghost use Rattle.std.specs.Prelude.{◌≡◌, ◌⊎◌, ℕ, ◌+◌, ◌-◌, ◌*◌, ◌/◌, ◌≤◌, ◌<◌, ◌^◌, [], ◌∷◌, ◌++◌, Some, None, cond, true, length, map, nat_le, option_map, IfOk, OnOk};
-ghost use Rattle.hip_lines.specs.Line.{has_bytes};
-ghost use Rattle.hip_lines.specs.Parts.{loose_from};
+ghost use Rattle.std.specs.Prelude.{◌≡◌, ℕ, ◌+◌, ◌-◌, ◌<◌, ◌^◌, [], Some, None, cond, true, length, nat_le, IfOk, OnOk};
 ghost use Rattle.hip_types.specs.Distinct.{met};
 ghost use Rattle.hip_runs.specs.Found.Marks.{same_mark, unless_ended};
 ghost use Rattle.hip_runs.specs.Found.Reports.{checked_range};
@@ -8,7 +6,7 @@ ghost use Rattle.hip_runs.specs.StoredParts.Since.{fences};
 ghost use Rattle.hip_runs.specs.Step.{has_entry};
 ghost use Rattle.hip_notes.specs.MetMarks.{AreMet, WereHit};
 ghost use Rattle.hip_notes.specs.CallPaths.{births_of};
-ghost use Rattle.hip_notes.specs.Noted.{EndsBelow, FlushedAt, Follows, IsForgotten, Reported};
+ghost use Rattle.hip_notes.specs.Noted.{EndsBelow, Follows, IsForgotten, Reported};
 ghost use Rattle.hip_notes.specs.Pending.{AreInOrder, lines_of};
 ghost use Rattle.hip_notes.specs.Regions.{IsWhole};
 

@@ -1,7 +1,6 @@
-ghost use Rattle.std.specs.Prelude.{◌≡◌, ◌⊎◌, ℕ, ◌+◌, ◌-◌, ◌/◌, ◌<◌, ◌≤◌, ◌^◌, List, ◌++◌, ◌∷◌, [], Some, None, cond, true, option_map, IfOk, OnOk, IfSome, IsSome};
+ghost use Rattle.std.specs.Prelude.{◌≡◌, ℕ, ◌+◌, ◌-◌, ◌/◌, ◌<◌, ◌≤◌, ◌^◌, ◌++◌, ◌∷◌, [], Some, None, cond, true, option_map, OnOk, IfSome, IsSome};
 ghost use Rattle.hip_lines.specs.Line.{has_bytes};
-ghost use Rattle.hip_notes.specs.declared.pending.StoreNote.{StoreNote as Note};
-ghost use Rattle.hip_notes.specs.Pending.{first_after, flushes_in, FlushesAscend, is_between, lines_of, note_of, StoresAscend, with_flush, with_store};
+ghost use Rattle.hip_notes.specs.Pending.{first_after, FlushesAscend, is_between, lines_of, note_of, StoresAscend, with_flush, with_store};
 
 use hip_findings::CallPath;
 use hip_tree::Site;

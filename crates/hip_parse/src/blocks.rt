@@ -1,8 +1,8 @@
 //! Blocks.
 
-ghost use Rattle.std.specs.Prelude.{◌≡◌, ℕ, List, [], ◌∷◌, ◌++◌, codes};
+ghost use Rattle.std.specs.Prelude.{codes};
 ghost use Rattle.hip_rules.specs.Part.{one_more_by, separated};
-ghost use Rattle.hip_rules.specs.Reader.{many_at, next, with_front, leaders_at};
+ghost use Rattle.hip_rules.specs.Reader.{leaders_at};
 ghost use Rattle.hip_grammar.specs.Words.{comma, is_local, is_word};
 ghost use Rattle.hip_grammar.specs.Grammar.{is_width};
 ghost use Rattle.hip_grammar.specs.Bodies.{assigned, edge_label, edge, phi, instr, begins_instr, target, jump, branch, br, case, cases, switch, ret_void, ret_arg, ret_end, unreachable, end, closing, after_first, after_name, from_effect, after_phis, block};

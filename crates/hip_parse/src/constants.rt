@@ -1,12 +1,10 @@
 //! Constants and operands.
 
-ghost use Rattle.std.specs.Prelude.{◌≡◌, ℕ, List, [], ◌∷◌, ◌++◌, codes};
 ghost use Rattle.hip_types.specs.declared.number.Scalar.TheVariants.{Ptr};
 ghost use Rattle.hip_tokens.specs.Bytes.{byte};
 ghost use Rattle.hip_rules.specs.Part.{token, either, one_more_by, separated, listed};
 ghost use Rattle.hip_rules.specs.Reader.{many_at, with_front};
 ghost use Rattle.hip_grammar.specs.Words.{is_mark, comma, too_deep};
-ghost use Rattle.hip_grammar.specs.Numbers.{an_int_const};
 ghost use Rattle.hip_grammar.specs.Grammar.{a_pointer, zero_const, literal_index, gep_inside, gep_const, pointer_within, typed_const, const_list, array_const, struct_const, const_within, scalar_const, register, fixed_operand, operand, arg, index};
 ghost use Rattle.hip_parse.specs.Lengths.{literal_index_within, arg_within, index_within};
 ghost use Rattle.hip_parse.specs.Left.{left, Gives, Takes};

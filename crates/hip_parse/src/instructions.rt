@@ -1,8 +1,8 @@
 //! Instructions.
 
-ghost use Rattle.std.specs.Prelude.{◌≡◌, ℕ, List, [], ◌∷◌, ◌++◌, codes, None};
-ghost use Rattle.hip_rules.specs.Part.{token, one_more_by, separated};
-ghost use Rattle.hip_rules.specs.Reader.{many_at, next};
+ghost use Rattle.std.specs.Prelude.{◌≡◌, None};
+ghost use Rattle.hip_rules.specs.Part.{one_more_by, separated};
+ghost use Rattle.hip_rules.specs.Reader.{next};
 ghost use Rattle.hip_grammar.specs.Words.{comma};
 ghost use Rattle.hip_grammar.specs.Grammar.{operand, index};
 ghost use Rattle.hip_grammar.specs.Bodies.{align, maybe_align, assigned, with_flag, flags, binary, compare, next_of_type, alternatives, select, to_int, int_cast, ptrtoint, inttoptr, alloca, next_address, aligned_address, load, gep, plain_call, call, store, memory_instr, cast_instr, value_instr, effect_instr, assigning_instr, instr, begins_effect, begins_instr};

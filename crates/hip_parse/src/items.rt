@@ -1,12 +1,12 @@
 //! Globals, externs, functions and whole texts.
 
-ghost use Rattle.std.specs.Prelude.{◌≡◌, ℕ, List, [], ◌∷◌, ◌++◌, OnOk, codes};
-ghost use Rattle.hip_rules.specs.Part.{either, listed, separated, one_more_by};
-ghost use Rattle.hip_rules.specs.Reader.{many_at, next, with_front};
-ghost use Rattle.hip_grammar.specs.Words.{comma, is_mark, is_word, is_label};
+ghost use Rattle.std.specs.Prelude.{◌≡◌, OnOk, codes};
+ghost use Rattle.hip_rules.specs.Part.{either, listed};
+ghost use Rattle.hip_rules.specs.Reader.{next};
+ghost use Rattle.hip_grammar.specs.Words.{is_word, is_label};
 ghost use Rattle.hip_grammar.specs.Grammar.{scalar};
 ghost use Rattle.hip_grammar.specs.Bodies.{block};
-ghost use Rattle.hip_grammar.specs.Text.{GlobalItem, ExternItem, FunctionItem, DroppedItem, linkages, links, source_filename, target_item, section, only_align, placement, place, global, maybe_unnamed, extern_item, param, blocks, function, item, begins_item, with_item, text};
+ghost use Rattle.hip_grammar.specs.Text.{source_filename, target_item, section, only_align, placement, place, global, maybe_unnamed, extern_item, param, blocks, function, item, begins_item, with_item, text};
 ghost use Rattle.hip_parse.specs.Items.{item_of};
 ghost use Rattle.hip_parse.specs.Lengths.{scalar_within, param_within, block_some};
 ghost use Rattle.hip_parse.specs.Left.{left, Gives, Takes};

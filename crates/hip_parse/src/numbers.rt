@@ -1,6 +1,6 @@
 //! The values of numbers.
 
-ghost use Rattle.std.specs.Prelude.{◌≡◌, ℕ, List, [], ◌∷◌, ◌^◌, ◌-◌, ◌<◌, ◌≤◌, ◌*◌, Some, None, Option};
+ghost use Rattle.std.specs.Prelude.{◌≡◌, ◌^◌, ◌-◌, ◌<◌, ◌*◌, Some, None, Option};
 ghost use Rattle.hip_types.specs.Widths.{bits_of};
 ghost use Rattle.hip_grammar.specs.Numbers.{below, digits_from, is_negative, magnitude, negated, value_of, count_of, alignment_of, is_alignment};
 

@@ -1,6 +1,6 @@
 //! A parser with one token of look-ahead.
 
-ghost use Rattle.std.specs.Prelude.{◌≡◌, ℕ, List, [], ◌∷◌};
+ghost use Rattle.std.specs.Prelude.{◌≡◌};
 ghost use Rattle.hip_tokens.specs.Tokens.{tokens};
 ghost use Rattle.hip_rules.specs.Reader.{next};
 ghost use Rattle.hip_rules.specs.Part.{token};

@@ -1,6 +1,6 @@
 //! Lists: parts that are repeated.
 
-ghost use Rattle.std.specs.Prelude.{◌≡◌, ◌≤◌, ℕ, Bool, List, [], ◌∷◌, ◌++◌, Result, Ok, length};
+ghost use Rattle.std.specs.Prelude.{◌≡◌, ◌≤◌, Bool, List, Result, Ok, length};
 ghost use Rattle.hip_tokens.specs.Tokens.{Tok, At};
 ghost use Rattle.hip_rules.specs.Reader.{Reader, many_at, next, with_front};
 ghost use Rattle.hip_rules.specs.Part.{Part, one_more_by, separated, listed};

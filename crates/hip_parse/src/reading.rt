@@ -1,6 +1,6 @@
 //! The program of a text.
 
-ghost use Rattle.std.specs.Prelude.{◌≡◌, ℕ, List, [], ◌∷◌, IfOk, IfErr, IsTrue, ◌↔◌, Option};
+ghost use Rattle.std.specs.Prelude.{◌≡◌, [], IfOk, IfErr, IsTrue, ◌↔◌, Option};
 ghost use Rattle.hip_grammar.specs.declared.fault.Fault.{Fault};
 ghost use Rattle.hip_tree.specs.declared.program.Program.{Program};
 ghost use Rattle.hip_grammar.specs.Reading.{Reads, IsSpelled, line_at};

@@ -1,6 +1,6 @@
 //! The numbers of a text, by their places.
 
-ghost use Rattle.std.specs.Prelude.{◌≡◌, ℕ, List, [], ◌∷◌};
+ghost use Rattle.std.specs.Prelude.{◌≡◌};
 ghost use Rattle.hip_rules.specs.Part.{token};
 ghost use Rattle.hip_grammar.specs.Numbers.{a_literal, an_int_const, a_count, an_alignment, truth_word};
 ghost use Rattle.hip_parse.specs.Left.{left, Gives};

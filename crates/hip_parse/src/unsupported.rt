@@ -1,6 +1,6 @@
 //! Tokens of LLVM's text that belong to forms which are not read.
 
-ghost use Rattle.std.specs.Prelude.{◌≡◌, codes};
+ghost use Rattle.std.specs.Prelude.{◌≡◌};
 ghost use Rattle.std.specs.List.{list_all};
 ghost use Rattle.std.specs.Str.{bytes_eq};
 ghost use Rattle.hip_tokens.specs.Bytes.{is_digit};

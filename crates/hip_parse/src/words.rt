@@ -1,6 +1,6 @@
 //! Words with a meaning, by their places.
 
-ghost use Rattle.std.specs.Prelude.{◌≡◌, ℕ, List, Option, codes};
+ghost use Rattle.std.specs.Prelude.{◌≡◌, ℕ, List, Option};
 ghost use Rattle.hip_rules.specs.Reader.{next};
 ghost use Rattle.hip_rules.specs.Part.{token, skipped};
 ghost use Rattle.hip_grammar.specs.Words.{a_word_of, is_word_of, width_word, scalar_word, ret_word, type_word, binary_word, pred_word, int_cast_word, flag_word, link_word, unnamed_word, linkage_word, target_word, fixed_word};

@@ -58,7 +58,8 @@ pub record HasReportOf (P Q : Program) (I : Input) (steps_of : ℕ → ℕ) (n :
 -- check has a report of the same store, so Q's check reports nothing if P's reports nothing.
 pub record IsNoWorse (P Q : Program) (I : Input) (steps_of : ℕ → ℕ) (n : ℕ) (range : Range) : Type 0 where
   pub there : next_check P I (run P I (steps_of n)) ≡ Some range
-  pub reports : (r' : Report) → In r' (check_reports (run Q I n) (Some range)) → HasReportOf P Q I steps_of n range r'
+  pub reports : (r' : Report) → In r' (check_reports (run Q I n) (Some range))
+      → HasReportOf P Q I steps_of n range r'
   pub quiet : check_reports (run P I (steps_of n)) (Some range) ≡ [] → check_reports (run Q I n) (Some range) ≡ []
 
 -- On every valid input no check of the repaired program is worse than the program's check in the corresponding state.
@@ -91,5 +92,6 @@ pub record IsStoredSince (s : State) (step b : ℕ) : Type 0 where
 -- survives a crash after the fence.
 abbrev pub CoveredSurvive : Program → Program → Type 0
 CoveredSurvive P Q =
-    (I : Input) → IsValid P I → (j n : ℕ) → IsAfterCloneCall Q (length P.functions) (run Q I n) → IsLastBefore Q I j n →
+    (I : Input) → IsValid P I → (j n : ℕ) → IsAfterCloneCall Q (length P.functions) (run Q I n)
+    → IsLastBefore Q I j n →
     (b : ℕ) → IsStoredSince (run Q I (suc n)) j b → Survives Q I (run Q I (suc n)) b

@@ -1,6 +1,6 @@
 //! A tracker that notes a run step by step, and what it has found at the end of the run.
 
-ghost use Rattle.std.specs.Prelude.{◌≡◌, ◌+◌, ◌<◌, ◌≤◌, ◌^◌, length, true};
+ghost use Rattle.std.specs.Prelude.{◌≡◌, ◌+◌, ◌<◌, ◌≤◌, ◌^◌, true};
 ghost use Rattle.hip_report.specs.Tracking.{HasNoted};
 ghost use Rattle.hip_runs.specs.Seen.{state_of};
 ghost use Rattle.hip_runs.specs.Step.{has_ended, header_entries};

@@ -24,8 +24,8 @@ pub record StoodOutermost (P : Program) (I : Input) (n : ℕ) (calls : List Leve
   pub few : steps ≤ n
   pub outer : AreOutermost calls (levels_of (run P I steps).frames)
 
--- After a step with this event the notes have the calls that stand in the machine, if the event needs them; nothing else
--- is noted.
+-- After a step with this event the notes have the calls that stand in the machine, if the event needs them. Nothing
+-- else is noted.
 pub record LooksAt (e : Event) (m : Seen) (old new : Notes) : Type 0 where
   pub rest : new ≡ record old { calls = new.calls }
   pub looked : needs_calls e ≡ true → new.calls ≡ standing m

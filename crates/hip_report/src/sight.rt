@@ -1,4 +1,4 @@
-ghost use Rattle.std.specs.Prelude.{◌≡◌, ◌+◌, ◌++◌, ◌∷◌, ℕ, [], None, Some, map, slice_get, IfOk, IfSome, IsTrue, OnOk};
+ghost use Rattle.std.specs.Prelude.{◌≡◌, ◌+◌, ◌++◌, ◌∷◌, ℕ, [], None, Some, slice_get, IfOk, IfSome, IsTrue, OnOk};
 ghost use Rattle.hip_engine.specs.OpsAhead.{PointsTo};
 ghost use Rattle.hip_engine.specs.Quiet.{next_event};
 ghost use Rattle.hip_runs.specs.Found.Marks.{mark_of};

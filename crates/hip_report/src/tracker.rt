@@ -1,4 +1,4 @@
-ghost use Rattle.std.specs.Prelude.{◌≡◌, ◌⊎◌, ◌≤◌, ◌<◌, ◌^◌, Some, None, true, false, map, IfOk, OnErr, OnOk, IsErr};
+ghost use Rattle.std.specs.Prelude.{◌≡◌, ◌⊎◌, ◌≤◌, ◌<◌, ◌^◌, Some, None, true, false, IfOk, OnErr, OnOk, IsErr};
 ghost use Rattle.hip_engine.specs.Quiet.{ComesTo};
 ghost use Rattle.hip_runs.specs.Ends.{longest};
 ghost use Rattle.hip_runs.specs.Found.Marks.{IsFound};

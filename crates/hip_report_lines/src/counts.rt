@@ -1,4 +1,3 @@
-ghost use Rattle.std.specs.Prelude.{◌++◌};
 ghost use Rattle.hip_io.specs.Sinks.{Writes};
 ghost use Rattle.hip_report_lines.specs.Counts.{check_counts, count_line, repair_counts, rerun_counts};
 

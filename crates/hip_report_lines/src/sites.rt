@@ -1,5 +1,4 @@
-ghost use Rattle.std.specs.Prelude.{◌≡◌, ◌++◌, slice_get, codes};
-ghost use Rattle.std.specs.Fmt.{decimal};
+ghost use Rattle.std.specs.Prelude.{slice_get};
 ghost use Rattle.hip_io.specs.Sinks.{Writes};
 ghost use Rattle.hip_tree.specs.Sites.{block_of};
 ghost use Rattle.hip_report_lines.specs.Reports.{site_text};

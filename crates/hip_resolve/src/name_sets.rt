@@ -8,7 +8,7 @@ ghost use Rattle.hip_globals.specs.Values.{global_address};
 ghost use Rattle.hip_names.specs.Names.{AllDiffer};
 ghost use Rattle.hip_sound.specs.Numbering.{function_names};
 ghost use Rattle.hip_sound.specs.Paths.{names_of};
-ghost use Rattle.hip_sound.specs.Registers.{assigned_by, block_registers, phi_registers};
+ghost use Rattle.hip_sound.specs.Registers.{assigned_by, block_registers};
 ghost use Rattle.hip_sound.specs.Sound.{IsSound, register_names};
 
 use hip_globals::GlobalAddresses;

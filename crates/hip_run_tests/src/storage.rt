@@ -1,6 +1,5 @@
 //! The storage of a run: its memory, and what it shows of stores and flushes.
 
-ghost use Rattle.std.specs.Prelude.{◌≤◌};
 
 use crate::machines::{BASE, checked, input};
 use hip_examples::AMPLE;

@@ -1,4 +1,4 @@
-ghost use Rattle.std.specs.Prelude.{◌≡◌, ◌+◌, ◌-◌, ◌*◌, ◌/◌, ◌^◌, ◌<◌, ◌≤◌, length, IfErr, OnOk, OnErr, None, Some, option_map};
+ghost use Rattle.std.specs.Prelude.{◌≡◌, ◌+◌, ◌-◌, ◌*◌, ◌/◌, ◌^◌, ◌<◌, ◌≤◌, length, IfErr, OnOk, OnErr, None, option_map};
 ghost use Rattle.std.specs.Bool.{OnTrue};
 ghost use Rattle.hip_types.specs.declared.limits.TheConstants.{LARGEST_REGION};
 ghost use Rattle.hip_types.specs.declared.areas.TheConstants.{LINE_SIZE};

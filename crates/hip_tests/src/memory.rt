@@ -1,6 +1,6 @@
 //! Memory: loads, stores, and blocks of the stack.
 
-ghost use Rattle.std.specs.Prelude.{◌≡◌, ◌≤◌, length};
+ghost use Rattle.std.specs.Prelude.{◌≡◌, length};
 
 use hip_examples::AMPLE;
 use hip_image::Image;

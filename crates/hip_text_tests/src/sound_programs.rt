@@ -1,6 +1,5 @@
 //! What a sound program gives: its functions, its addresses and its initial bytes.
 
-ghost use Rattle.std.specs.Prelude.{◌≡◌, length};
 
 use hip_copies::same;
 use hip_examples::AMPLE;

@@ -1,7 +1,7 @@
 //! One token at a time.
 
-ghost use Rattle.std.specs.Prelude.{◌≡◌, ℕ, true, List, ◌<◌, ◌≤◌, ◌+◌, ◌^◌, length, slice_index, drop, ◌∷◌, [], ◌==◌, MatchOption};
-ghost use Rattle.hip_tokens.specs.Tokens.{piece, piece_at, name_here, word_piece, number_piece, minus_piece, local_piece, global_piece, string_piece, cut, tokens, At};
+ghost use Rattle.std.specs.Prelude.{◌≡◌, ℕ, true, List, ◌<◌, ◌≤◌, ◌+◌, ◌^◌, length, slice_index, ◌∷◌, [], ◌==◌};
+ghost use Rattle.hip_tokens.specs.Tokens.{piece, piece_at, name_here, word_piece, number_piece, minus_piece, local_piece, global_piece, string_piece, cut, tokens};
 ghost use Rattle.hip_tokens.specs.Longest.{IsLongest};
 ghost use Rattle.hip_tokens.specs.Seen.{seen, IsNext};
 

@@ -99,7 +99,8 @@ pub record WritesRepair (P : Program) (inputs : List Input) (answer : Answer) : 
 abbrev pub Headline : Type 0
 Headline =
     (files : List NamedFile) (program trace : List ℕ) (P : Program) (I : Input) (old new : CabinetState) (s : Sinks)
-    (status : Status) → old.files ≡ Some files → IsProgramOf (Some files) program P → IsTraceFile files trace P I →
+    (status : Status) → old.files ≡ Some files → IsProgramOf (Some files) program P
+    → IsTraceFile files trace P I →
     IsCall (Repair program trace) old new s status → Gives (WritesRepair P (I ∷ [])) s status
 
 -- ---- the other orders
@@ -120,7 +121,8 @@ pub record AnswersPrograms (files : List NamedFile) (program : List ℕ) (P : Pr
     (s : Sinks) (status : Status) : Type 0 where
   pub run : (limit : ℕ) (numbers : List ℤ) → IsCall (Run program limit numbers) old new s status →
       Gives (WritesOutput P (first_input P LOWEST_BASE limit numbers)) s status
-  pub recorded : (base limit : ℕ) (numbers : List ℤ) → IsCall (Record program base limit numbers) old new s status →
+  pub recorded : (base limit : ℕ) (numbers : List ℤ)
+      → IsCall (Record program base limit numbers) old new s status →
       Gives (GivesTrace P (first_input P base limit numbers)) s status
   pub many : (names : List (List ℕ)) (runs : List TracedRun) → AreRunsOf (Some files) P names runs →
       IsCall (Many program names) old new s status → Gives (WritesRepair P (map (λ r. r.input) runs)) s status

@@ -1,6 +1,6 @@
 //! The bytes that a reader holds.
 
-ghost use Rattle.std.specs.Prelude.{ℕ, ◌≡◌, ◌+◌, ◌-◌, ◌<◌, ◌≤◌, ◌++◌, [], drop, length, position, slice_range, take, IsTrue};
+ghost use Rattle.std.specs.Prelude.{ℕ, ◌≡◌, ◌+◌, ◌-◌, ◌<◌, ◌≤◌, [], drop, length, position, slice_range, take, IsTrue};
 ghost use Rattle.hip_io.specs.Cabinets.{HasTaken};
 ghost use Rattle.hip_trace.specs.Pieces.{is_separator};
 ghost use Rattle.hip_trace.specs.Fronts.{HasTakenMore};

@@ -1,9 +1,8 @@
 //! Phis, ends and basic blocks.
 
-ghost use Rattle.std.specs.Prelude.{◌++◌, codes, map};
-ghost use Rattle.std.specs.List.{flat_map};
+ghost use Rattle.std.specs.Prelude.{◌++◌, codes};
 ghost use Rattle.hip_io.specs.Sinks.{Writes};
-ghost use Rattle.hip_grammar.specs.Show.{arg_text, edge_text, phi_text, case_text, end_text, line_of, phi_line, instr_line, block_text, commas};
+ghost use Rattle.hip_grammar.specs.Show.{arg_text, edge_text, phi_text, case_text, end_text, line_of, phi_line, instr_line, block_text};
 
 use crate::instructions::{put_instr, put_operand};
 use crate::lists::{Written, put_all, put_joined};

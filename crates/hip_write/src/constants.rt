@@ -1,9 +1,9 @@
 //! Constants.
 
-ghost use Rattle.std.specs.Prelude.{◌≡◌, ◌++◌, ◌+◌, ◌-◌, ◌≤◌, ◌<◌, nat_lt, if◌then◌else◌, codes, map};
+ghost use Rattle.std.specs.Prelude.{◌++◌, ◌+◌, ◌-◌, ◌≤◌, ◌<◌, nat_lt, if◌then◌else◌, codes, map};
 ghost use Rattle.std.specs.Fmt.{decimal};
 ghost use Rattle.hip_io.specs.Sinks.{Writes};
-ghost use Rattle.hip_grammar.specs.Show.{truth_text, literal_text, index_text, inbounds_text, const_text, gep_text, item_text, bracketed, braced, commas, after_commas};
+ghost use Rattle.hip_grammar.specs.Show.{truth_text, literal_text, index_text, inbounds_text, const_text, gep_text, item_text, bracketed, braced, commas};
 
 use crate::lists::{Written, put_more};
 use crate::text::{put_address, put_natural};

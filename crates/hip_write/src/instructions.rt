@@ -3,7 +3,7 @@
 ghost use Rattle.std.specs.Prelude.{◌++◌, codes, map};
 ghost use Rattle.std.specs.Fmt.{decimal};
 ghost use Rattle.hip_io.specs.Sinks.{Writes};
-ghost use Rattle.hip_grammar.specs.Show.{operand_text, arg_text, align_text, assigned_text, result_text, instr_text, flags_text, inbounds_text, type_text, commas, after_commas};
+ghost use Rattle.hip_grammar.specs.Show.{operand_text, arg_text, align_text, assigned_text, result_text, instr_text, flags_text, inbounds_text, type_text, after_commas};
 ghost use Rattle.hip_grammar.specs.Words.{binary_text, cast_text, pred_text, scalar_text};
 ghost use Rattle.hip_write.specs.Parts.{calculation_text, memory_text};
 

@@ -1,6 +1,6 @@
 //! Lists of parts of a program.
 
-ghost use Rattle.std.specs.Prelude.{◌≡◌, ℕ, List, map};
+ghost use Rattle.std.specs.Prelude.{ℕ, List, map};
 ghost use Rattle.std.specs.List.{flat_map};
 ghost use Rattle.hip_io.specs.Sinks.{Writes};
 ghost use Rattle.hip_grammar.specs.Show.{commas, after_commas, parenthesized};

@@ -1,6 +1,6 @@
 //! Types.
 
-ghost use Rattle.std.specs.Prelude.{◌≡◌, ◌++◌, codes, map};
+ghost use Rattle.std.specs.Prelude.{◌++◌, codes, map};
 ghost use Rattle.std.specs.Fmt.{decimal};
 ghost use Rattle.hip_io.specs.Sinks.{Writes};
 ghost use Rattle.hip_grammar.specs.Show.{type_text, commas, braced};

@@ -161,14 +161,16 @@ no_trace_fault (traces.Misfit e k) q = cc
 not_current : (new : CabinetState) → new.is_current ≡ true → new.is_current ≡ false → ⊥
 not_current new current e = let k : true ≡ false = sym current ∙ e in cc
 
-module _ {files : List NamedFile} (old new : CabinetState) {p : List ℕ} {P : Program} (stated : old.files ≡ Some files)
+module _ {files : List NamedFile} (old new : CabinetState) {p : List ℕ} {P : Program}
+    (stated : old.files ≡ Some files)
     (loaded : IsProgramOf (Some files) p P) (current : new.is_current ≡ true) where
   -- a refusal of the program is no read fault
   pub loads_no_fault : (a : Answer) → a.status ≡ statuses.ReadFault → absent.IsUnloaded old new p a → ⊥
   loads_no_fault a status u = no_read_fault u.why (sym (ap (λ (x : Answer). x.status) u.is) ∙ status)
 
   -- another file than the program's is current, so the program was read
-  pub reads_program : {t : List ℕ} (a : Answer) → new.name ≡ Some t → p ≢ t → absent.IsUnread old new p a → ⊥
+  pub reads_program : {t : List ℕ} (a : Answer) → new.name ≡ Some t → p ≢ t → absent.IsUnread old new p a
+      → ⊥
   reads_program {t} a named apart u = go u.current
     where
       go : (new.is_current ≡ false) ⊎ IfSome new.name (λ name. name ≡ p) → ⊥

@@ -1,5 +1,4 @@
-ghost use Rattle.std.specs.Prelude.{◌≡◌, ◌<◌, length, map, slice_get};
-ghost use Rattle.std.specs.List.{flat_map};
+ghost use Rattle.std.specs.Prelude.{◌<◌, length};
 ghost use Rattle.hip_checks.specs.Seen.AssignedSeen.{Describes, AnswersUses, AnswersAssigned};
 ghost use Rattle.hip_globals.specs.Constants.{joined};
 ghost use Rattle.hip_sound.specs.Sound.{names_in_function};

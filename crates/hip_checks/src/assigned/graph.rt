@@ -1,5 +1,4 @@
 ghost use Rattle.std.specs.Prelude.{[], ◌≡◌, ◌++◌, map, IfOk, OnOk, MatchOption};
-ghost use Rattle.std.specs.List.{flat_map};
 ghost use Rattle.hip_checks.specs.Seen.Inner.{block_number, label_numbers};
 ghost use Rattle.hip_sound.specs.Registers.{end_labels};
 ghost use Rattle.hip_names.specs.Tables.{value_beside};

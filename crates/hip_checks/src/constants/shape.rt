@@ -1,6 +1,6 @@
 ghost use Rattle.std.specs.Prelude.{◌≡◌, map};
 ghost use Rattle.hip_types.specs.declared.ty.Ty.{out-Ty};
-ghost use Rattle.hip_sound.specs.Constants.{entered, enters, path_exists, has_shape, gep_is_sound, item_has_shape, all_have};
+ghost use Rattle.hip_sound.specs.Constants.{entered, path_exists, has_shape, gep_is_sound, item_has_shape, all_have};
 ghost use Rattle.hip_sound.specs.Types.{all_pass, same_type};
 ghost use Rattle.std.specs.Option.{option_copied};
 

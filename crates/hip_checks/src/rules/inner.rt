@@ -1,4 +1,4 @@
-ghost use Rattle.std.specs.Prelude.{◌≡◌, ◌++◌, OnOk, IfOk, map, option_map};
+ghost use Rattle.std.specs.Prelude.{◌≡◌, ◌++◌, OnOk, map};
 ghost use Rattle.hip_checks.specs.Seen.Answers.{Answers};
 ghost use Rattle.hip_sound.specs.Check.{each};
 ghost use Rattle.hip_checks.specs.Seen.NamesSeen.{seen};

@@ -1,4 +1,3 @@
-ghost use Rattle.std.specs.Prelude.{◌≡◌};
 ghost use Rattle.hip_globals.specs.Addresses.{OwnTypesFit};
 ghost use Rattle.hip_checks.specs.Seen.Answers.{Answers};
 ghost use Rattle.hip_sound.specs.Rules.{sizes_check};

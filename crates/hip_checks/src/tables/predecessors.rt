@@ -2,7 +2,7 @@ ghost use Rattle.std.specs.Prelude.{◌≡◌, [], ◌∷◌, None, OnOk, IfOk};
 ghost use Rattle.std.specs.Option.{option_copied};
 ghost use Rattle.hip_checks.specs.Seen.Arrivals.{names_at, found_at, Arrives, FindsPredecessors};
 ghost use Rattle.hip_sound.specs.Registers.{end_labels};
-ghost use Rattle.hip_checks.specs.Seen.TargetsSeen.{label_seen, case_labels, targets_seen};
+ghost use Rattle.hip_checks.specs.Seen.TargetsSeen.{label_seen, case_labels};
 
 use crate::places::targets::Targets;
 use hip_names::NameSet;

@@ -33,7 +33,8 @@ module _ (P : Program) (I : Input) where
       ∙ same_output start k (λ n lt. quiet n (omega (arith, lt)))
 
 -- a run that goes some quiet steps further has printed what it had printed before them
-pub quiet_output : (old new : Seen) → GoesQuietly old new → (state_of new).world.output ≡ (state_of old).world.output
+pub quiet_output : (old new : Seen) → GoesQuietly old new
+    → (state_of new).world.output ≡ (state_of old).world.output
 quiet_output old new g =
     ap (λ (m : Seen). (state_of m).world.output) g.is ∙ same_output old.program old.input old.taken g.steps g.quiet
 
@@ -45,12 +46,14 @@ unfolding run step on_ending
 after_step_is m = go (state_of m).world.ending refl
   where
     go : (o : Option Ending) → (state_of m).world.ending ≡ o
-        → run m.program m.input (cond (is_some o) m.taken (suc m.taken)) ≡ on_ending m.program m.input (state_of m) o
+        → run m.program m.input (cond (is_some o) m.taken (suc m.taken))
+          ≡ on_ending m.program m.input (state_of m) o
     go (Some e) q = refl
     go None q = ap (on_ending m.program m.input (state_of m)) q
 
 -- up to its next event a run prints what the event says, and ends as the event says
-pub comes_stated : (old new : Seen) (e : Event) → ComesTo old new e → IsStated (state_of old).world (state_of new).world e
+pub comes_stated : (old new : Seen) (e : Event) → ComesTo old new e
+    → IsStated (state_of old).world (state_of new).world e
 comes_stated old new e c =
     let at = c.before in
     let stated = step_stated at.program at.input (state_of at) in
@@ -68,7 +71,8 @@ unfolding event
 ending_then m x q = ap (λ o. ending_by (event_on_ending m.program m.input (state_of m) o)) q
 
 -- up to an event that is no end a run takes at least one step
-pub comes_further : (old new : Seen) (e : Event) → ComesTo old new e → ending_by e ≡ None → old.taken < new.taken
+pub comes_further : (old new : Seen) (e : Event) → ComesTo old new e → ending_by e ≡ None
+    → old.taken < new.taken
 comes_further old new e c going = go (state_of at).world.ending refl
   where
     at : Seen

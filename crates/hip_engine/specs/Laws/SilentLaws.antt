@@ -33,14 +33,16 @@ ends_nothing (events.End e) s = absurd (let z : ⊥ = cc in z)
 
 module _ (P : Program) (I : Input) where
   -- after a silent step the run goes on
-  pub silent_goes_on : (n : ℕ) → is_silent (event P I (run P I n)) ≡ true → (run P I (suc n)).world.ending ≡ None
+  pub silent_goes_on : (n : ℕ) → is_silent (event P I (run P I n)) ≡ true
+      → (run P I (suc n)).world.ending ≡ None
   silent_goes_on n s = (run_stated P I n).ending ∙ ends_nothing (event P I (run P I n)) s
 
   -- and has printed what it had printed before the step
   silent_prints : (n : ℕ) → is_silent (event P I (run P I n)) ≡ true
       → (run P I (suc n)).world.output ≡ (run P I n).world.output
   silent_prints n s =
-      (run_stated P I n).output ∙ ap (λ text. (run P I n).world.output ++ text) (prints_nothing (event P I (run P I n)) s)
+      (run_stated P I n).output
+        ∙ ap (λ text. (run P I n).world.output ++ text) (prints_nothing (event P I (run P I n)) s)
       ∙ append-nil (run P I n).world.output
 
   -- silent steps print nothing

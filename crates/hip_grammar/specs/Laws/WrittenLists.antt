@@ -11,7 +11,8 @@ use Rattle.hip_grammar.specs.Words.{comma, is_mark}
 use Rattle.hip_grammar.specs.Show.{commas, after_commas}
 
 -- what follows a comma and a space
-pub after_comma : {A : Type 0} (l : Part Fault A) {c : List ℕ → Bool} {s : List ℕ} {x : A} → IsTextOf c l.rule s x
+pub after_comma : {A : Type 0} (l : Part Fault A) {c : List ℕ → Bool} {s : List ℕ} {x : A}
+    → IsTextOf c l.rule s x
     → IsTextOf c (one_more_by comma l).rule (codes ", " ++ s) x
 unfolding one_more_by
 after_comma l p = mark_then _ _ 44 refl refl (blank_text 32 refl p)

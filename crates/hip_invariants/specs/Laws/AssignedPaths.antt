@@ -163,7 +163,8 @@ module _ (fn : Function) where
   blocks_kept (c ∷ cs) b q (inr h) = among-right (whole_block_names fn c) _ q (blocks_kept cs b q (inr h))
 
   -- what is assigned by the end of a block, is also assigned by the end of the next block of a path
-  pub by_earlier : (earlier : List ℕ) (b c : ℕ) (block : Block) (q : List ℕ) → slice_get fn.blocks b ≡ Some block
+  pub by_earlier : (earlier : List ℕ) (b c : ℕ) (block : Block) (q : List ℕ)
+      → slice_get fn.blocks b ≡ Some block
       → IsAmong (assigned_on fn earlier b AtEnd) q → IsAmong (assigned_on fn (earlier ++ b ∷ []) c AtEnd) q
   by_earlier earlier b c block q at h =
       ⊎_elim (λ l. by_parameter (earlier ++ b ∷ []) c AtEnd q l)

@@ -279,7 +279,8 @@ module _ (P : Program) where
           assigns_keeps I w f r (Cast dest op from x to) e (Some dest) _ (own (Cast dest op from x to) dest refl)
       case_keeps below (Alloca dest ty align) e =
           λ a q within. record {
-            kept = reached_assigned I w f r (Alloca dest ty align) e (Some dest) a (own (Alloca dest ty align) dest refl);
+            kept =
+              reached_assigned I w f r (Alloca dest ty align) e (Some dest) a (own (Alloca dest ty align) dest refl);
             trap = λ e. let z : ⊥ = cc in z;
           }
       case_keeps below (Load dest ty addr align) e =

@@ -77,7 +77,8 @@ module _ (bytes : List ℕ) (es : List Entry) (e : Entry) (piece : List ℕ) (sp
 
   after : (more : List (Option Entry)) → stated es ++ (entry_of piece ∷ more) ≡ stated (es ++ e ∷ []) ++ more
   after more =
-      ap (λ (o : Option Entry). stated es ++ (o ∷ more)) spells ∙ sym (append_assoc (stated es) (Some e ∷ []) more)
+      ap (λ (o : Option Entry). stated es ++ (o ∷ more)) spells
+        ∙ sym (append_assoc (stated es) (Some e ∷ []) more)
       ∙ ap (λ (ps : List (Option Entry)). ps ++ more) (sym stated_one)
 
   at_separator : (text left : List ℕ) (separator : ℕ) → list_any is_separator piece ≡ false
@@ -230,7 +231,8 @@ read_front bytes es o h held rest split none = go h.spells
     go (inl k) = (
       [],
       sym (append-nil (spelled false (h.text ++ held)) ∙ k.spells false held
-          ∙ ap (λ (ps : List (Option Entry)). stated es ++ ps) (nothing_spelled held none) ∙ append-nil (stated es)),
+          ∙ ap (λ (ps : List (Option Entry)). stated es ++ ps) (nothing_spelled held none)
+          ∙ append-nil (stated es)),
     )
     go (inr k) =
         let empty : held ≡ [] = empty_front held rest (sym k.none ∙ split) in (

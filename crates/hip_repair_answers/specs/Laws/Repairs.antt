@@ -190,7 +190,8 @@ second_repair P I found sound is_input valid is files p t on old new stated met 
         is_text = record {
           fits = on.fits;
           stated =
-              subst (λ (fs : Option (List NamedFile)). IfSome fs (λ stated_files. file_of stated_files p ≡ Some (show Q)))
+              subst (λ (fs : Option (List NamedFile)).
+                  IfSome fs (λ stated_files. file_of stated_files p ≡ Some (show Q)))
               (sym stated) on.text;
         };
         reads = cured.reads;

@@ -31,7 +31,8 @@ going_of : (P : Program) (I : Input) (s : State) (range : Range) → next_check 
     → s.world.ending ≡ None
 going_of P I s range e = by s.world.ending refl e
   where
-    by : (o : Option Ending) → s.world.ending ≡ o → cond (is_some o) None (checked_by I (event P I s)) ≡ Some range
+    by : (o : Option Ending) → s.world.ending ≡ o
+        → cond (is_some o) None (checked_by I (event P I s)) ≡ Some range
         → s.world.ending ≡ None
     by None h q = h
     by (Some x) h q = absurd (let z : ⊥ = cc in z)

@@ -38,9 +38,9 @@ clean_survives P s I v clean = record {
   stop = λ n code going e. stop_image P s I v n code going e (none_reported P I clean n);
 }
 
-pub repaired_survives : (P : Program) (plan : Plan) (skip : Site → Bool) (I : Input) (found : Findings) → IsSound P →
-    IsValid P I → IsQuiet P skip → IsFound P I found → Contains plan (plan_for P found) →
-    ChecksSurvive (repaired P plan skip) I
+pub repaired_survives : (P : Program) (plan : Plan) (skip : Site → Bool) (I : Input) (found : Findings)
+    → IsSound P → IsValid P I → IsQuiet P skip → IsFound P I found → Contains plan (plan_for P found)
+    → ChecksSurvive (repaired P plan skip) I
 repaired_survives P plan skip I found s v quiet is has =
     clean_survives (repaired P plan skip) (repaired_is_sound P plan skip s) I (valid_again P plan skip I v)
     (repairs_are_clean P plan skip I found s v quiet is has)

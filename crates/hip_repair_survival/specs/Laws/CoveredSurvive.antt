@@ -22,7 +22,8 @@ use Rattle.hip_repair_survival.specs.Kept.{CoveredSurvive}
 tight_last : (ls : List (Line StorePart)) (j : ℕ) (l : Line StorePart) → slice_get ls j ≡ Some l
     → (b k : ℕ) (x : StorePart)
     → IsLastOver covers l.parts b k x → k < l.durable
-    → (m : Line StorePart) → slice_get ls j ≡ Some m → (k' : ℕ) (x' : StorePart) → IsLooseBy covers m b k' x' → ⊥
+    → (m : Line StorePart) → slice_get ls j ≡ Some m → (k' : ℕ) (x' : StorePart)
+    → IsLooseBy covers m b k' x' → ⊥
 tight_last ls j l e b k x over lt m g k' x' h =
     let same : m ≡ l = cc in
     let h' : IsLooseBy covers l b k' x' = subst (λ z. IsLooseBy covers z b k' x') same h in

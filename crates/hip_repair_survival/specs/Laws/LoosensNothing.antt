@@ -56,8 +56,8 @@ module _ (P : Program) (plan : Plan) (skip : Site → Bool) where
       → IsAsDurable s s'
   pair_durable I size s s' (related {ls = ls} {ls' = ls'} t r below a kept le) = lines_durable ls ls' a
 
-pub as_durable : (P : Program) (plan : Plan) (skip : Site → Bool) → IsSound P → (I : Input) → IsValid P I → (n : ℕ)
-    → IsAsDurable (run P I (matched P plan skip I n)) (run (repaired P plan skip) I n)
+pub as_durable : (P : Program) (plan : Plan) (skip : Site → Bool) → IsSound P → (I : Input) → IsValid P I
+    → (n : ℕ) → IsAsDurable (run P I (matched P plan skip I n)) (run (repaired P plan skip) I n)
 as_durable P plan skip s I v n =
     let f = follows P plan skip I (sound_callable P (sound-passes P s)) v nothing_held (nothing_kept P plan skip I) n in
     pair_durable P plan skip I f.size (run P I (matched P plan skip I n)) (run (repaired P plan skip) I n) f.pair

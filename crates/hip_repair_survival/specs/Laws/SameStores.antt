@@ -28,7 +28,8 @@ Lines = List (Line StorePart)
 
 -- the line of the second list at the place of a line of the first
 pub same_line : (ls ls' : Lines) → map contents ls ≡ map contents ls' → (m : ℕ) (l : Line StorePart)
-    → slice_get ls m ≡ Some l → (l' : Line StorePart) × (slice_get ls' m ≡ Some l') × (contents l' ≡ contents l)
+    → slice_get ls m ≡ Some l
+    → (l' : Line StorePart) × (slice_get ls' m ≡ Some l') × (contents l' ≡ contents l)
 same_line ls ls' same m l e =
     let seen : slice_get (map contents ls') m ≡ Some (contents l) =
     ap (λ (cs : List (List Content)). slice_get cs m) (sym same) ∙ get-map contents ls m l e in
@@ -44,11 +45,13 @@ same_part l l' same k x e =
     let r = get-of_map content_of l'.parts k (content_of x) seen in
     (r.0, r.1)
 
-same_place : (ls ls' : Lines) → map contents ls ≡ map contents ls' → (m k t : ℕ) → HasPlace (slice_get ls m) k t
+same_place : (ls ls' : Lines) → map contents ls ≡ map contents ls' → (m k t : ℕ)
+    → HasPlace (slice_get ls m) k t
     → (u : ℕ) × HasPlace (slice_get ls' m) k u
 same_place ls ls' same m k t h = go (slice_get ls m) refl h
   where
-    go : (o : Option (Line StorePart)) → slice_get ls m ≡ o → HasPlace o k t → (u : ℕ) × HasPlace (slice_get ls' m) k u
+    go : (o : Option (Line StorePart)) → slice_get ls m ≡ o → HasPlace o k t
+        → (u : ℕ) × HasPlace (slice_get ls' m) k u
     go None e h = absurd h.there
     go (Some l) e h =
         let r = same_line ls ls' same m l e in
@@ -59,7 +62,8 @@ same_place ls ls' same m k t h = go (slice_get ls m) refl h
 
 -- a byte that is loose in one line is loose in the other by the part at the same place, if no more of the other's parts
 -- are durable
-same_loose : (l l' : Line StorePart) → contents l' ≡ contents l → l'.durable ≤ l.durable → (b k : ℕ) (x : StorePart)
+same_loose : (l l' : Line StorePart) → contents l' ≡ contents l → l'.durable ≤ l.durable
+    → (b k : ℕ) (x : StorePart)
     → IsLooseBy covers l b k x → (x' : StorePart) × IsLooseBy covers l' b k x'
 same_loose l l' same less b k x h =
     let seen = loose-map_line content_of content_covers l b k x h in

@@ -52,7 +52,8 @@ filter-append test (x ∷ xs) ys = by_test (test x) (filter-append test xs ys)
     by_test false e = e
 
 -- one more site at the front, if it passes
-pub front_chosen : (b : Bool) (s : Site) (rest : List Site) → cond b (s ∷ rest) rest ≡ cond b (s ∷ []) [] ++ rest
+pub front_chosen : (b : Bool) (s : Site) (rest : List Site)
+    → cond b (s ∷ rest) rest ≡ cond b (s ∷ []) [] ++ rest
 front_chosen true s rest = refl
 front_chosen false s rest = refl
 

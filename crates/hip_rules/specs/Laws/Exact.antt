@@ -154,7 +154,8 @@ tails : (t u : At) (ts m : List At) → t ∷ ts ≡ u ∷ m → m ≡ ts
 tails t u ts m e = cc
 
 -- one token has one verdict
-pub verdicts : {F A : Type 0} (p : Tok → Verdict F A) (t u : At) (ts m : List At) (v w : Verdict F A) → p t.tok ≡ v
+pub verdicts : {F A : Type 0} (p : Tok → Verdict F A) (t u : At) (ts m : List At) (v w : Verdict F A)
+    → p t.tok ≡ v
     → t ∷ ts ≡ u ∷ m → p u.tok ≡ w → w ≡ v
 verdicts p t u ts m v w e k f =
     let same : u ≡ t = cc in

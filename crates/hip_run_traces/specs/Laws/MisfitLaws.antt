@@ -137,7 +137,8 @@ trace_zero P I = refl
 
 not_in : (P : Program) (whole : Bool) (ps : List (Option Entry)) (I : Input) (h e : ℕ) (kind : MisfitKind)
     (d : DiffersFromRun P I whole ps e kind) → h ≡ header_entries I → (rest : List (Option Entry))
-    → ps ≡ stated (header_of I) ++ rest → (more : List Entry) → d.trace ≡ header_of I ++ more → h ≤ d.count
+    → ps ≡ stated (header_of I) ++ rest → (more : List Entry) → d.trace ≡ header_of I ++ more
+    → h ≤ d.count
 not_in P whole ps I h e kind d count rest split more begins = go (order d.count h)
   where
     order : (a b : ℕ) → (a < b) ⊎ (b ≤ a)

@@ -21,7 +21,8 @@ pub rests_later : (P : Program) (I : Input) (k m : ℕ) → k ≤ m → has_ende
 rests_later P I k m less ended =
     ap (run P I) (let e : m ≡ k + (m - k) = omega (arith, less) in e) ∙ stays P I k (m - k) ended
 
-pub one_end : (P : Program) (I : Input) (k m : ℕ) → has_ended (run P I k) ≡ true → has_ended (run P I m) ≡ true
+pub one_end : (P : Program) (I : Input) (k m : ℕ) → has_ended (run P I k) ≡ true
+    → has_ended (run P I m) ≡ true
     → run P I k ≡ run P I m
 one_end P I k m at_k at_m = by_order (cases_order k m)
   where
@@ -30,7 +31,8 @@ one_end P I k m at_k at_m = by_order (cases_order k m)
     by_order (inr (inl less)) = sym (rests_later P I k m (omega (arith, less)) at_k)
     by_order (inr (inr more)) = rests_later P I m k (omega (arith, more)) at_m
 
-pub one_ending : (P : Program) (I : Input) (k m : ℕ) (ending other : Ending) → (run P I k).world.ending ≡ Some ending
+pub one_ending : (P : Program) (I : Input) (k m : ℕ) (ending other : Ending)
+    → (run P I k).world.ending ≡ Some ending
     → (run P I m).world.ending ≡ Some other → ending ≡ other
 one_ending P I k m ending other at_k at_m =
     let same = one_end P I k m (ap is_some at_k) (ap is_some at_m) in

@@ -31,7 +31,8 @@ module _ (P : Program) (passes : ℕ → Option Instr → Bool) where
       (option_and_then (λ (x : Function). slice_get x.blocks b) o)) e_f
       ∙ ap (λ o. option_and_then (λ (x : Block). slice_get x.body k) o) e_b ∙ e_i)
 
-  body_filtered : (f b k : ℕ) (fn : Function) (block : Block) (is : List Instr) → slice_get P.functions f ≡ Some fn
+  body_filtered : (f b k : ℕ) (fn : Function) (block : Block) (is : List Instr)
+      → slice_get P.functions f ≡ Some fn
       → slice_get fn.blocks b ≡ Some block → ((j : ℕ) → slice_get is j ≡ slice_get block.body (k + j))
       → filter passes_at (body_sites f b k is) ≡ passing_in_body (test f) f b k is
   body_filtered f b k fn block [] e_f e_b at = refl
@@ -41,7 +42,8 @@ module _ (P : Program) (passes : ℕ → Option Instr → Bool) where
       let later : List Site = filter passes_at (body_sites f b (suc k) is) in
       let rest = body_filtered f b (suc k) fn block is e_f e_b
       (λ j. at (suc j) ∙ ap (slice_get block.body) (let q : k + suc j ≡ suc k + j = omega arith in q)) in
-      ap (λ t. cond t (s ∷ later) later) (there f b k fn block i e_f e_b (ap (slice_get block.body) here ∙ sym (at 0)))
+      ap (λ t. cond t (s ∷ later) later)
+        (there f b k fn block i e_f e_b (ap (slice_get block.body) here ∙ sym (at 0)))
       ∙ front_chosen (test f i) s later ∙ ap (λ zs. cond (test f i) (s ∷ []) [] ++ zs) rest
 
   blocks_filtered : (f b : ℕ) (fn : Function) (xs : List Block) → slice_get P.functions f ≡ Some fn
@@ -58,7 +60,8 @@ module _ (P : Program) (passes : ℕ → Option Instr → Bool) where
       ∙ ap (λ ys. ys ++ filter passes_at (block_sites f (suc b) xs)) first
       ∙ ap (λ ys. passing_in_body (test f) f b 0 x.body ++ ys) rest
 
-  functions_filtered : (f : ℕ) (xs : List Function) → ((j : ℕ) → slice_get xs j ≡ slice_get P.functions (f + j))
+  functions_filtered : (f : ℕ) (xs : List Function)
+      → ((j : ℕ) → slice_get xs j ≡ slice_get P.functions (f + j))
       → filter passes_at (function_sites f xs) ≡ passing_in_functions test f xs
   functions_filtered f [] at = refl
   functions_filtered f (x ∷ xs) at =
@@ -86,7 +89,8 @@ listed P test none s =
     both_ways _ _ (λ e. (filtered_in test (sites_of P) s (has_in (filter test (sites_of P)) s e)).1)
     (λ e. there (instr_of P s) refl e)
   where
-    there : (o : Option Instr) → instr_of P s ≡ o → test s ≡ true → has_site (filter test (sites_of P)) s ≡ true
+    there : (o : Option Instr) → instr_of P s ≡ o → test s ≡ true
+        → has_site (filter test (sites_of P)) s ≡ true
     there None e h = absurd (never (sym (none s e) ∙ h))
       where
         never : false ≡ true → ⊥

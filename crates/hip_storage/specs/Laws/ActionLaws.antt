@@ -249,7 +249,8 @@ module _ {P : Program} {I : Input} {old : Contents} (p : Point) (h : HoldsAt P I
       valid : areas.are_valid old.areas a n ≡ true
       valid = by_tests (nat_eq (a % align) 0) (areas.are_valid old.areas a n) x.allowed
 
-  pub store_done : {new : Contents} {e : Event} {a n align value : ℕ} → 0 < n → HasStored old new e a n align value →
+  pub store_done : {new : Contents} {e : Event} {a n align value : ℕ} → 0 < n
+      → HasStored old new e a n align value →
       HasDone P I p new e (accessed P I p.world a n align (Stores a (bytes_of n value))) (Stores a (bytes_of n value))
   unfolding perform
   store_done {new} {e} {a} {n} {align} {value} some x = record {

@@ -45,7 +45,8 @@ module _ (P : Program) (I : Input) where
   pub record Bounded (mark : ℕ) (x : Action) : Type 0 where
     pub is : touches mark x
 
-  bounded_cond : (mark : ℕ) (b : Bool) (x y : Action) → Bounded mark x → Bounded mark y → Bounded mark (cond b x y)
+  bounded_cond : (mark : ℕ) (b : Bool) (x y : Action) → Bounded mark x → Bounded mark y
+      → Bounded mark (cond b x y)
   bounded_cond mark true x y p q = p
   bounded_cond mark false x y p q = q
 

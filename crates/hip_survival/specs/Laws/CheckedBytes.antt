@@ -38,12 +38,14 @@ in_range (suc n) a x le lt = go (split a x le) (λ low. in_range n (a + 1) x low
     split : (a x : ℕ) → a ≤ x → (a ≡ x) ⊎ (a + 1 ≤ x)
     split a x h = grind arith
 
-    go : (a ≡ x) ⊎ (a + 1 ≤ x) → (a + 1 ≤ x → (m : ℕ) × (slice_get (range_with_len (a + 1) n) m ≡ Some x))
+    go : (a ≡ x) ⊎ (a + 1 ≤ x)
+        → (a + 1 ≤ x → (m : ℕ) × (slice_get (range_with_len (a + 1) n) m ≡ Some x))
         → (m : ℕ) × (slice_get (range_with_len a (suc n)) m ≡ Some x)
     go (inl e) next = (0, ap Some e)
     go (inr low) next = let r = next low in (suc r.0, r.1)
 
-pub loose_reported : (P : Program) (I : Input) (n : ℕ) (range : Range) → check_reports (run P I n) (Some range) ≡ []
+pub loose_reported : (P : Program) (I : Input) (n : ℕ) (range : Range)
+    → check_reports (run P I n) (Some range) ≡ []
     → (b : ℕ) → range.offset ≤ b → b < range.offset + range.size → ¬ IsLooseAt (run P I n) b
 loose_reported P I n range none b low high loose =
     go (record { part = loose.2.1; flushed = nat_lt loose.2.0 loose.0.flushed }) loose.2.1.step
@@ -82,8 +84,8 @@ reported_loose P I n range tight =
     (λ made. go made (loose_parts range.offset range.size (run P I n).lines made) refl)
   where
     go : (made : ℕ) (ps : List LoosePart) → loose_parts range.offset range.size (run P I n).lines made ≡ ps
-        → report_of (levels_of (run P I n).frames) (suc (run P I n).counts.entries) (loose_parts range.offset range.size
-        (run P I n).lines made) ≡ []
+        → report_of (levels_of (run P I n).frames) (suc (run P I n).counts.entries)
+          (loose_parts range.offset range.size (run P I n).lines made) ≡ []
     go made [] e = ap (report_of (levels_of (run P I n).frames) (suc (run P I n).counts.entries)) e
     go made (p ∷ ps) e =
         let r = part_loose range.offset range.size made (run P I n).lines p

@@ -121,7 +121,8 @@ module _ (m k : ℕ) where
           let r = get-of_map noted_fence l.parts k h.part h.there in
           record { part = r.0; there = r.1; step_is = ap (λ (x : StorePart). x.step) r.2 ∙ h.step_is }
 
-  came_stored : (now : ℕ) (part : ℕ → StorePart) (o n : ℕ) (ls : List (Line StorePart)) → (part m).step ≡ now
+  came_stored : (now : ℕ) (part : ℕ → StorePart) (o n : ℕ) (ls : List (Line StorePart))
+      → (part m).step ≡ now
       → Came now ls (stored part o n ls)
   came_stored now part o n ls made t h =
       go (has_bytes m o n) (slice_get ls m)
@@ -132,7 +133,8 @@ module _ (m k : ℕ) where
       go b None h = absurd h.there
       go true (Some l) h = which (get_last l.parts (part m) h.part k h.there)
         where
-          which : (slice_get l.parts k ≡ Some h.part) ⊎ (part m ≡ h.part) → HasPlace (Some l) k t ⊎ (t ≡ now)
+          which : (slice_get l.parts k ≡ Some h.part) ⊎ (part m ≡ h.part)
+              → HasPlace (Some l) k t ⊎ (t ≡ now)
           which (inl e) = inl (record { part = h.part; there = e; step_is = h.step_is })
           which (inr e) = inr (sym h.step_is ∙ sym (ap (λ (x : StorePart). x.step) e) ∙ made)
       go false (Some l) h = inl h
@@ -162,8 +164,8 @@ module _ (m k : ℕ) where
     onward n (suc d) t h =
         let e : suc (n + d) ≡ n + suc d = omega arith in
         subst (λ i. At i t) e
-        (step-cases P I (run P I (n + d)) (λ e ls. Stays (run P I (n + d)).lines ls) (stays_cases I (run P I (n + d))) t
-        (onward n d t h))
+        (step-cases P I (run P I (n + d)) (λ e ls. Stays (run P I (n + d)).lines ls)
+          (stays_cases I (run P I (n + d))) t (onward n d t h))
 
     one_before : (n t : ℕ) → At (suc n) t → t < n → At n t
     unfolding run

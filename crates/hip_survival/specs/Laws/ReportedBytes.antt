@@ -120,7 +120,8 @@ module _ (P : Program) (I : Input) (n : ℕ) where
           )
       go false t = durable_picked (run P I n).lines (lines_ordered P I n) j m e
 
-pub reported_byte : (P : Program) → IsSound P → (I : Input) → IsValid P I → (n : ℕ) (range : Range) (r : Report)
+pub reported_byte : (P : Program) → IsSound P → (I : Input) → IsValid P I
+    → (n : ℕ) (range : Range) (r : Report)
     → In r (check_reports (run P I n) (Some range)) → IsOfByte P I (run P I n) range r
 reported_byte P s I v n range r i =
     let of = reported_part P I n range r i in

@@ -48,8 +48,8 @@ pub image_byte : (I : Input) (s : State) (pick : ℕ → ℕ) (b : ℕ) → b < 
 image_byte I s pick b lt =
     let z : 0 + b ≡ b = omega arith in
     slice_index-image_from covers byte_of s.lines pick 0 I.image b lt
-    ∙ ap (λ c. byte_after covers byte_of (take (pick (c / 64)) (parts_of covers byte_of (slice_get s.lines (c / 64)))) c
-    (slice_index I.image b)) z
+    ∙ ap (λ c. byte_after covers byte_of
+        (take (pick (c / 64)) (parts_of covers byte_of (slice_get s.lines (c / 64)))) c (slice_index I.image b)) z
 
 -- ---- all parts
 
@@ -60,7 +60,8 @@ all_picked ls o j l e =
     ap (λ x. length (parts_of covers byte_of x)) e in
     let h = ordered-at ls j l o e in (omega (arith, n, h.durable, h.flushed), omega (arith, n))
 
-pub whole_image : (P : Program) → IsSound P → (I : Input) → IsValid P I → (n : ℕ) → IsWholeImage P I (run P I n)
+pub whole_image : (P : Program) → IsSound P → (I : Input) → IsValid P I → (n : ℕ)
+    → IsWholeImage P I (run P I n)
 whole_image P s I v n = record {
   is = same;
   image = subst (IsCrashImage I (run P I n)) (sym same)

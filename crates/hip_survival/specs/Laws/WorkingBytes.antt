@@ -43,7 +43,8 @@ record Agrees (I : Input) (ws : List Write) (ls : List (Line StorePart)) : Type 
 record StateAgrees (I : Input) (s : State) : Type 0 where
   is : Agrees I s.world.writes s.lines
 
-pub line_there : (ls : List (Line StorePart)) (j : ℕ) → j < length ls → (l : Line StorePart) × (slice_get ls j ≡ Some l)
+pub line_there : (ls : List (Line StorePart)) (j : ℕ) → j < length ls
+    → (l : Line StorePart) × (slice_get ls j ≡ Some l)
 line_there [] j h = absurd (omega arith)
 line_there (x ∷ ls) zero h = (x, refl)
 line_there (x ∷ ls) (suc j) h = line_there ls j (omega arith)
@@ -119,7 +120,8 @@ module _ (P : Program) (I : Input) (low : volatile_end P ≤ I.base) (above : st
           next (inl g) = inl g
           next (inr g) = inr (omega (arith, lt, e, g))
 
-  flushed_agrees : (ws : List Write) (ls ls' : List (Line StorePart)) → ((b : ℕ) → line_byte I ls' b ≡ line_byte I ls b)
+  flushed_agrees : (ws : List Write) (ls ls' : List (Line StorePart))
+      → ((b : ℕ) → line_byte I ls' b ≡ line_byte I ls b)
       → Agrees I ws ls → Agrees I ws ls'
   flushed_agrees ws ls ls' same h = record { is = λ b lt. h.is b lt ∙ sym (same b) }
 
@@ -177,7 +179,8 @@ module _ (P : Program) (I : Input) (low : volatile_end P ≤ I.base) (above : st
       go true = record { is = h }
       go false = taken d.turn
 
-  step_agrees : (s : State) → s.world.mark ≤ stack_end → length I.image ≡ 64 * length s.lines → StateAgrees I s
+  step_agrees : (s : State) → s.world.mark ≤ stack_end → length I.image ≡ 64 * length s.lines
+      → StateAgrees I s
       → StateAgrees I (step P I s)
   unfolding step on_ending on_frames
   step_agrees s m size h = go s.world.ending
@@ -193,7 +196,8 @@ module _ (P : Program) (I : Input) (low : volatile_end P ≤ I.base) (above : st
       go (Some e) = h
       go None = on_them s.frames
 
-  no_parts : (o : Option (Line StorePart)) → ((l : Line StorePart) → o ≡ Some l → l.parts ≡ []) → (b first : ℕ)
+  no_parts : (o : Option (Line StorePart)) → ((l : Line StorePart) → o ≡ Some l → l.parts ≡ [])
+      → (b first : ℕ)
       → first ≡ byte_after covers byte_of (parts_of covers byte_of o) b first
   no_parts None h b first = refl
   no_parts (Some l) h b first = sym (ap (λ ps. byte_after covers byte_of ps b first) (h l refl))

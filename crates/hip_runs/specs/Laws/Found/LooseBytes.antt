@@ -95,7 +95,8 @@ byte_shown o n (suc count) b later c s = go (λ t. byte_shown o n count (suc b) 
 
 -- Loose part y is the part p, at place i of these parts and place k + i of its line. It is of the store of step `made`,
 -- after the d durable parts, and the last part over a byte of the range; it is flushed if it is one of the first f.
-pub record IsOfPart (o n made d f k : ℕ) (ps : List StorePart) (y : LoosePart) (i : ℕ) (p : StorePart) : Type 0 where
+pub record IsOfPart (o n made d f k : ℕ) (ps : List StorePart) (y : LoosePart) (i : ℕ) (p : StorePart)
+    : Type 0 where
   pub at : slice_get ps i ≡ Some p
   pub step : p.step ≡ made
   pub loose : d ≤ k + i

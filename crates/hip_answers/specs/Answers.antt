@@ -15,7 +15,7 @@ pub record Answer : Type 0 where
   pub out : List ℕ
   pub notes : List ℕ
 
--- a refusal has its line for notes, and nothing for out
+-- A refusal has its line for notes, and nothing for out.
 abbrev pub refusal : Status → Answer
 refusal status = record { status = status; out = []; notes = line_of status }
 
@@ -39,19 +39,19 @@ outcome_of _ = Refused
 
 -- ---- what is written
 
--- what the sinks held before a call, and hold after it
+-- What the sinks held before a call, and hold after it.
 pub record Sinks : Type 0 where
   pub out : SinkState
   pub out_new : SinkState
   pub notes : SinkState
   pub notes_new : SinkState
 
--- the sinks of a call: that of out before and after it, then that of notes before and after it
+-- The sinks of a call: that of out before and after it, then that of notes before and after it.
 abbrev pub sinks : SinkState → SinkState → SinkState → SinkState → Sinks
 sinks out out_new notes notes_new =
     record { out = out; out_new = out_new; notes = notes; notes_new = notes_new }
 
--- the line of a status, or a prefix of it where the write failed
+-- The line of a status, or a prefix of it where the write failed.
 abbrev pub PutsLine : Status → SinkState → SinkState → Type 0
 PutsLine status old new = AppendsAll old new (line_of status) ⊎ AppendsPrefix old new (line_of status)
 
@@ -101,7 +101,7 @@ pub record HasBeenCut (table : Answer → Type 0) (s : Sinks) : Type 0 where
   pub carried_out : outcome_of answer.status ≡ CarriedOut
   pub written : CutsOut s answer ⊎ CutsNotes s answer
 
--- a command that writes its text for out while it makes it has written a front of the text
+-- A command that writes its text for out while it makes it has written a front of the text.
 abbrev pub HasBegun : Bool → (Answer → Type 0) → Sinks → Type 0
 HasBegun true table s = (answer : Answer) × table answer × WritesFront s answer
 HasBegun false table s = ⊥
@@ -113,8 +113,8 @@ pub record HasRunOut (table : Answer → Type 0) (begins : Bool) (old new : Cabi
   pub out : (s.out_new ≡ s.out) ⊎ HasBegun begins table s
   pub line : PutsLine NoMemory s.notes s.notes_new
 
--- what a call does, by the outcome of its status: it writes both texts, writes the line of a refusal alone, is cut
--- short, or runs out of memory
+-- What a call does, by the outcome of its status: it writes both texts, writes the line of a refusal alone, is cut
+-- short, or runs out of memory.
 abbrev pub answered : Outcome → (Answer → Type 0) → Bool → CabinetState → CabinetState → Sinks → Status
     → Type 0
 answered CarriedOut table begins old new s status = HasAnswer table status (WritesBoth s)
@@ -128,7 +128,7 @@ pub record HasAnswered (table : Answer → Type 0) (begins : Bool) (old new : Ca
     (status : Status) : Type 0 where
   pub how : answered (outcome_of status) table begins old new s status
 
--- what a command does on a run, once it has read its files: it gives an answer of the table and reads no more
+-- What a command does on a run, once it has read its files: it gives an answer of the table and reads no more.
 abbrev pub AnswersOnRun : (Answer → Type 0) → Bool → Sinks → Status → Type 0
 AnswersOnRun table begins s status =
     (old new : CabinetState) → HasMet false false old new → HasAnswered table begins old new s status

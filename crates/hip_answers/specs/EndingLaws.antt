@@ -19,17 +19,17 @@ use Rattle.hip_tree.specs.declared.program.Program.{Program}
 
 -- ---- the answer of a run
 
--- with every ending the command was carried out
+-- With every ending the command was carried out.
 pub is_carried_out : (ending : Ending) → outcome_of (status_of_ending ending) ≡ CarriedOut
 is_carried_out (endings.Stop code) = refl
 is_carried_out (endings.Trap kind) = refl
 is_carried_out endings.Cut = refl
 
--- the answer for a run with this text and this ending
+-- The answer for a run with this text and this ending.
 abbrev pub answer_of : List ℕ → Ending → Answer
 answer_of text ending = record { status = status_of_ending ending; out = text; notes = ending_line ending }
 
--- the lines of a run's trace are its text, and the run has ended in some way
+-- The lines of a run's trace are its text, and the run has ended in some way.
 pub text_of : (P : Program) (I : Input) (trace : List Entry) → IsTrace P I trace
     → (ending : Ending) × IsTraceText P I (lines_of trace) ending
 text_of P I trace t = by_end (run P I t.steps).world.ending refl
@@ -42,7 +42,7 @@ text_of P I trace t = by_end (run P I t.steps).world.ending refl
 answer_is : {a : Answer} (b : Answer) → a.status ≡ b.status → a.out ≡ b.out → a.notes ≡ b.notes → a ≡ b
 answer_is b e f g = λ i. record { status = e i; out = f i; notes = g i }
 
--- two answers that have the trace of a run are equal
+-- Two answers that have the trace of a run are equal.
 pub one_given : (P : Program) (I : Input) (a b : Answer) → GivesTrace P I a → GivesTrace P I b → a ≡ b
 one_given P I a b x y =
     let u = x.traced in

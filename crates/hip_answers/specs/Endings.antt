@@ -9,17 +9,17 @@ use Rattle.hip_runs.specs.declared.event.Ending.TheVariants as endings
 use Rattle.hip_runs.specs.declared.event.TrapKind.{TrapKind}
 use Rattle.hip_trace.specs.Entries.{trap_text}
 
--- the status of a command that runs a program: Done whatever number `main` returned, and else the trap or the cut
+-- The status of a command that runs a program: Done whatever number `main` returned, and else the trap or the cut.
 abbrev pub status_of_ending : Ending → Status
 status_of_ending (endings.Stop code) = statuses.Done
 status_of_ending (endings.Trap kind) = statuses.Trapped kind
 status_of_ending endings.Cut = statuses.Cut
 
--- the word for a kind of trap, as a trace has it
+-- The word for a kind of trap, as a trace has it.
 abbrev pub trap_text_of : TrapKind → List ℕ
 trap_text_of kind = trap_text (trap_word kind)
 
--- `stop C`, `trap K` or `cut`
+-- `stop C`, `trap K` or `cut`.
 abbrev pub ending_line : Ending → List ℕ
 ending_line (endings.Stop code) = codes "stop " ++ signed_decimal code ++ codes "\n"
 ending_line (endings.Trap kind) = codes "trap " ++ trap_text_of kind ++ codes "\n"

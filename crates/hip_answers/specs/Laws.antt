@@ -27,7 +27,7 @@ refused {table} {begins} {old} {new} s status e row kept line = record {
   how = subst (λ o. answered o table begins old new s status) (sym e) (row, record { out = kept; notes = line });
 }
 
--- memory ran out before anything was written
+-- Memory ran out before anything was written.
 pub ran_out : {table : Answer → Type 0} {begins : Bool} {old new : CabinetState} (s : Sinks)
     → HasMet false false old new
     → s.out_new ≡ s.out → PutsLine statuses.NoMemory s.notes s.notes_new
@@ -48,7 +48,7 @@ cut_out s answer row carried out line = record {
   };
 }
 
--- memory ran out while the text for out was made: a front of it is written
+-- Memory ran out while the text for out was made: a front of it is written.
 pub ran_out_later : {table : Answer → Type 0} {old new : CabinetState} (s : Sinks) (answer : Answer)
     → HasMet false false old new → table answer → WritesFront s answer
     → PutsLine statuses.NoMemory s.notes s.notes_new
@@ -56,7 +56,7 @@ pub ran_out_later : {table : Answer → Type 0} {old new : CabinetState} (s : Si
 ran_out_later s answer met row front line =
     record { how = record { met = met; out = inr (answer, row, front); line = line } }
 
--- the text for out is written whole, and the call has tried to write that for notes
+-- The text for out is written whole, and the call has tried to write that for notes.
 pub finished : {table : Answer → Type 0} {begins : Bool} {old new : CabinetState} (s : Sinks) (answer : Answer)
     (tried : Put) (mid : SinkState) (result : Status) → table answer → outcome_of answer.status ≡ CarriedOut
     → AppendsAll s.out s.out_new answer.out → HasPut s.notes mid answer.notes tried
@@ -115,7 +115,7 @@ begun_by : {table wider : Answer → Type 0} (begins : Bool) (s : Sinks) → ((a
 begun_by true s wide h = (h.0, wide h.0 h.1, h.2)
 begun_by false s wide h = h
 
--- an answer by one table is an answer by each table that has all of its answers
+-- An answer by one table is an answer by each table that has all of its answers.
 pub answered_by : {table wider : Answer → Type 0} {begins : Bool} {old new : CabinetState} (s : Sinks)
     (status : Status) → ((a : Answer) → table a → wider a) → HasAnswered table begins old new s status
     → HasAnswered wider begins old new s status

@@ -18,7 +18,7 @@ use Rattle.hip_program_files.specs.declared.refusal.ProgramRefusal.TheVariants a
 use Rattle.hip_answers.specs.declared.status.Status.{Status}
 use Rattle.hip_answers.specs.declared.status.Status.TheVariants as status
 
--- the words of the usage, and a line for each command
+-- The words of the usage, and a line for each command.
 abbrev pub usage_text : List ℕ
 usage_text =
     codes "hippo: usage\n" ++ codes "usage: hippo run PROGRAM [--limit N] [NUMBERS...]\n"
@@ -28,20 +28,20 @@ usage_text =
     ++ codes "       hippo many PROGRAM TRACES...\n" ++ codes "       hippo crash PROGRAM TRACE ENTRY [PICKS...]\n"
     ++ codes "       hippo thin PROGRAM TRACE\n"
 
--- `hippo: no file: program`, `hippo: no file: trace`, or `hippo: no file: trace T` for the T-th of many traces
+-- `hippo: no file: program`, `hippo: no file: trace`, or `hippo: no file: trace T` for the T-th of many traces.
 abbrev pub missing_text : FileRole → List ℕ
 missing_text role.Program = codes "hippo: no file: program\n"
 missing_text role.Trace = codes "hippo: no file: trace\n"
 missing_text (role.Number number) = codes "hippo: no file: trace " ++ decimal number ++ codes "\n"
 
--- the word for how an entry of a trace differs from the run
+-- The word for how an entry of a trace differs from the run.
 abbrev pub kind_word : MisfitKind → List ℕ
 kind_word kinds.Malformed = codes "malformed"
 kind_word kinds.Differs = codes "differs"
 kind_word kinds.Early = codes "early"
 kind_word kinds.Extra = codes "extra"
 
--- the words for the rule of soundness that is broken; the path that shows an unassigned register is left out
+-- The words for the rule of soundness that is broken; the path that shows an unassigned register is left out.
 abbrev pub fault_words : TypeFault → List ℕ
 fault_words fault.BadShape = codes "shape"
 fault_words fault.Duplicate = codes "duplicate"
@@ -55,11 +55,11 @@ fault_words fault.BadEdge = codes "bad edge"
 fault_words fault.TooLarge = codes "too large"
 fault_words fault.NoMemory = codes "out of memory"
 
--- `function F block B`, each counted from 0
+-- `function F block B`, each counted from 0.
 abbrev pub block_text : ℕ → ℕ → List ℕ
 block_text function block = codes "function " ++ decimal function ++ codes " block " ++ decimal block
 
--- `program`, `global G`, `extern E`, `function F`, or a block with `phi I`, `index I` or `end`; each counted from 0
+-- `program`, `global G`, `extern E`, `function F`, or a block with `phi I`, `index I` or `end`; each counted from 0.
 abbrev pub place_text : Place → List ℕ
 place_text place.Whole = codes "program"
 place_text (place.Global g) = codes "global " ++ decimal g
@@ -69,7 +69,7 @@ place_text (place.Phi s) = block_text s.function s.block ++ codes " phi " ++ dec
 place_text (place.Body s) = block_text s.function s.block ++ codes " index " ++ decimal s.index
 place_text (place.End f b) = block_text f b ++ codes " end"
 
--- the word for why the text of a program is refused; no status has the refusal out of memory
+-- The word for why the text of a program is refused; no status has the refusal out of memory.
 abbrev pub parse_word : ParseRefusal → List ℕ
 parse_word (parse.Syntax line) = codes "syntax"
 parse_word (parse.Unsupported line) = codes "unsupported"
@@ -77,7 +77,7 @@ parse_word (parse.Range line) = codes "range"
 parse_word (parse.TooDeep line) = codes "depth"
 parse_word parse.NoMemory = codes "out of memory"
 
--- the line of the refused token, counted from 1; 0 for out of memory, which is in no status
+-- The line of the refused token, counted from 1; 0 for out of memory, which is in no status.
 abbrev pub parse_line : ParseRefusal → ℕ
 parse_line (parse.Syntax line) = line
 parse_line (parse.Unsupported line) = line
@@ -85,52 +85,52 @@ parse_line (parse.Range line) = line
 parse_line (parse.TooDeep line) = line
 parse_line parse.NoMemory = 0
 
--- `hippo: program line L: WORD`
+-- `hippo: program line L: WORD`.
 abbrev pub text_refusal : List ℕ → ℕ → List ℕ
 text_refusal word line = codes "hippo: program line " ++ decimal line ++ codes ": " ++ word ++ codes "\n"
 
--- `hippo: program: WORDS at PLACE`
+-- `hippo: program: WORDS at PLACE`.
 abbrev pub form_refusal : List ℕ → Place → List ℕ
 form_refusal words at = codes "hippo: program: " ++ words ++ codes " at " ++ place_text at ++ codes "\n"
 
--- the line for a text that reads as no program, or as one that is not sound
+-- The line for a text that reads as no program, or as one that is not sound.
 abbrev pub program_refusal : ProgramRefusal → List ℕ
 program_refusal (refusal.Text r) = text_refusal (parse_word r) (parse_line r)
 program_refusal (refusal.Form r) = form_refusal (fault_words r.fault) r.place
 
--- `hippo: trace entry E: KIND`, for the one trace of a command
+-- `hippo: trace entry E: KIND`, for the one trace of a command.
 abbrev pub misfit_text : ℕ → List ℕ → List ℕ
 misfit_text entry word = codes "hippo: trace entry " ++ decimal entry ++ codes ": " ++ word ++ codes "\n"
 
--- `hippo: trace T entry E: KIND`, for the T-th of many traces
+-- `hippo: trace T entry E: KIND`, for the T-th of many traces.
 abbrev pub misfit_in_text : ℕ → ℕ → List ℕ → List ℕ
 misfit_in_text trace entry word =
     codes "hippo: trace " ++ decimal trace ++ codes " entry " ++ decimal entry ++ codes ": " ++ word ++ codes "\n"
 
--- `hippo: no entry: N entries`, where the trace has N
+-- `hippo: no entry: N entries`, where the trace has N.
 abbrev pub no_entry_text : ℕ → List ℕ
 no_entry_text entries = codes "hippo: no entry: " ++ decimal entries ++ codes " entries\n"
 
--- the number of the pick that fails, counted from 1; 0 for out of memory, which is in no status
+-- The number of the pick that fails, counted from 1; 0 for out of memory, which is in no status.
 abbrev pub pick_number : PickRefusal → ℕ
 pick_number (picks.NoLine at) = at
 pick_number (picks.Repeated at) = at
 pick_number (picks.OutOfRange at least most) = at
 pick_number picks.NoMemory = 0
 
--- how a pick fails: `line`, `repeated` or `range G to L`
+-- How a pick fails: `line`, `repeated` or `range G to L`.
 abbrev pub pick_words : PickRefusal → List ℕ
 pick_words (picks.NoLine at) = codes "line"
 pick_words (picks.Repeated at) = codes "repeated"
 pick_words (picks.OutOfRange at least most) = codes "range " ++ decimal least ++ codes " to " ++ decimal most
 pick_words picks.NoMemory = codes "out of memory"
 
--- `hippo: pick N: ` and how the pick fails
+-- `hippo: pick N: ` and how the pick fails.
 abbrev pub bad_pick_text : PickRefusal → List ℕ
 bad_pick_text refusal =
     codes "hippo: pick " ++ decimal (pick_number refusal) ++ codes ": " ++ pick_words refusal ++ codes "\n"
 
--- each refusal has a line; a command that was carried out has none
+-- Each refusal has a line; a command that was carried out has none.
 unfoldable pub line_of : Status → List ℕ
 line_of status.Done = []
 line_of status.Usage = usage_text

@@ -21,6 +21,6 @@ pub record IsUnread (old new : CabinetState) (name : List ℕ) (answer : Answer)
   pub current : (new.is_current ≡ false) ⊎ IfSome new.name (λ n. n ≡ name)
   pub is : answer ≡ refusal statuses.ReadFault
 
--- what a command answers without a program: why there is none in the file, or a read fault
+-- What a command answers without a program: why there is none in the file, or a read fault.
 abbrev pub LacksProgram : CabinetState → CabinetState → List ℕ → Answer → Type 0
 LacksProgram old new name answer = IsUnloaded old new name answer ⊎ IsUnread old new name answer

@@ -26,7 +26,7 @@ pub record HasRunOf (Texts : Program → Input → Findings → Answer → Type 
   pub met : HasMet false false old new
   pub texts : Texts program input found answer
 
--- the answers of such a command: for no program, for no trace of a run of it, or for a run
+-- The answers of such a command: for no program, for no trace of a run of it, or for a run.
 abbrev pub TraceAnswers : (Program → Input → Findings → Answer → Type 0) → CabinetState → CabinetState
     → List ℕ
     → List ℕ → Answer → Type 0

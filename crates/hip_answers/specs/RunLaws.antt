@@ -14,12 +14,12 @@ use Rattle.hip_answers.specs.RunAnswers.{TraceAnswers}
 use Rattle.hip_runs.specs.declared.input.Input.{Input}
 use Rattle.hip_runs.specs.declared.report.Findings.{Findings}
 
--- where the files are known, two answers on them are the same, unless one of them is a read fault
+-- Where the files are known, two answers on them are the same, unless one of them is a read fault.
 abbrev pub GivesOne : (Program → Input → Findings → Answer → Type 0) → Type 0
 GivesOne Texts = (p t : List ℕ) → AreOne (λ old new answer. TraceAnswers Texts old new p t answer)
 
--- where one file has a program and the other is the trace of a run of it, and no file is missing and no read fails,
--- there is an answer by which the command is carried out
+-- Where one file has a program and the other is the trace of a run of it, and no file is missing and no read fails,
+-- there is an answer by which the command is carried out.
 abbrev pub AnswersRuns : (Program → Input → Findings → Answer → Type 0) → Type 0
 AnswersRuns Texts =
     (files : List NamedFile) → (old new : CabinetState) → (p t : List ℕ) → (P : Program) → (I : Input)
@@ -27,8 +27,8 @@ AnswersRuns Texts =
     → HasMet false false old new
     → (a : Answer) × (a.status ≡ statuses.Done) × TraceAnswers Texts old new p t a
 
--- where the trace's file is current after a read fault, and is not the program's, the bytes that were taken from it
--- show no misfit
+-- Where the trace's file is current after a read fault, and is not the program's, the bytes that were taken from it
+-- show no misfit.
 abbrev pub FaultsHideNone : (Program → Input → Findings → Answer → Type 0) → Type 0
 FaultsHideNone Texts =
     (files : List NamedFile) → (old new : CabinetState) → (p t : List ℕ) → (P : Program) → (a : Answer)

@@ -23,7 +23,7 @@ same_words : (fault : TypeFault) → fault_words fault ≡ fault_words (without_
 same_words (faults.Unassigned path) = refl
 same_words _ = refl
 
--- the line of a refusal does not show the path
+-- The line of a refusal does not show the path.
 line_is : (why : LoadRefusal) → line_of (status_of_refusal why) ≡ line_of (status_of_refusal (without_paths why))
 unfolding line_of
 line_is loads.Missing = refl

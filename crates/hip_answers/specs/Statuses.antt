@@ -8,7 +8,7 @@ use Rattle.hip_program_files.specs.declared.failure.Failure.TheVariants as failu
 use Rattle.hip_program_files.specs.declared.refusal.LoadRefusal.{LoadRefusal}
 use Rattle.hip_program_files.specs.declared.refusal.LoadRefusal.TheVariants as loads
 
--- the exit status of the process: 0 for Done alone, and for each other kind of status one of its own, from 1 to 13
+-- The exit status of the process: 0 for Done alone, and for each other kind of status one of its own, from 1 to 13.
 abbrev pub code_of : Status → ℕ
 code_of statuses.Done = 0
 code_of statuses.Usage = 1
@@ -25,13 +25,13 @@ code_of (statuses.MisfitIn trace entry kind) = 11
 code_of (statuses.NoEntry entries) = 12
 code_of (statuses.BadPick refusal) = 13
 
--- the status that says why there is no program in a file
+-- The status that says why there is no program in a file.
 abbrev pub status_of_refusal : LoadRefusal → Status
 status_of_refusal loads.Missing = statuses.Missing roles.Program
 status_of_refusal loads.TooLarge = statuses.TooLarge
 status_of_refusal (loads.Bad refusal) = statuses.BadProgram refusal
 
--- the status of a program that is not loaded: why it is refused, a read fault, or out of memory
+-- The status of a program that is not loaded: why it is refused, a read fault, or out of memory.
 abbrev pub status_of_failure : Failure LoadRefusal → Status
 status_of_failure (failures.Refused refusal) = status_of_refusal refusal
 status_of_failure failures.ReadFault = statuses.ReadFault

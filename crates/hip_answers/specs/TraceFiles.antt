@@ -19,13 +19,13 @@ use Rattle.hip_runs.specs.declared.input.Input.{Input}
 
 -- ---- files
 
--- the file is the trace of the program's run on the input
+-- The file is the trace of the program's run on the input.
 pub record IsTraceFile (files : List NamedFile) (name : List ℕ) (P : Program) (I : Input) : Type 0 where
   pub bytes : List ℕ
   pub found : file_of files name ≡ Some bytes
   pub trace : IsTraceOf P bytes I
 
--- the file has this misfit
+-- The file has this misfit.
 pub record IsMisfitFile (files : List NamedFile) (name : List ℕ) (P : Program) (entry : ℕ) (kind : MisfitKind) :
     Type 0 where
   pub bytes : List ℕ
@@ -49,28 +49,28 @@ pub record IsReadInPart (files : Option (List NamedFile)) (name : List ℕ) (P :
     pub named : IfSome new.name (λ n. n ≡ name)
     pub taken : IfSome files (λ fs. ShowsNoMisfit fs name P new.rest)
 
--- the trace could not be fetched, and no file is current; or a read of it failed
+-- The trace could not be fetched, and no file is current; or a read of it failed.
 abbrev pub FailsToRead : Option (List NamedFile) → List ℕ → Program → CabinetState → Type 0
 FailsToRead files name P new = (new.is_current ≡ false) ⊎ IsReadInPart files name P new
 
 -- ---- refusals
 
--- why the file is no trace of a run of the program
+-- Why the file is no trace of a run of the program.
 abbrev pub HasNoTrace : Option (List NamedFile) → List ℕ → Program → TraceFileRefusal → Type 0
 HasNoTrace files name P traces.Missing = IfSome files (λ fs. file_of fs name ≡ None)
 HasNoTrace files name P (traces.Misfit entry kind) = IfSome files (λ fs. IsMisfitFile fs name P entry kind)
 
--- whether the refusal is that no file has the name of the trace
+-- Whether the refusal is that no file has the name of the trace.
 abbrev pub is_missing : TraceFileRefusal → Bool
 is_missing traces.Missing = true
 is_missing (traces.Misfit entry kind) = false
 
--- the status that says why the only trace of a command is not the trace of a run
+-- The status that says why the only trace of a command is not the trace of a run.
 abbrev pub status_of_refusal : TraceFileRefusal → Status
 status_of_refusal traces.Missing = statuses.Missing roles.Trace
 status_of_refusal (traces.Misfit entry kind) = statuses.Misfit entry kind
 
--- the status of a trace that is not loaded: why it is refused, a read fault, or out of memory
+-- The status of a trace that is not loaded: why it is refused, a read fault, or out of memory.
 abbrev pub status_of_trace : Failure TraceFileRefusal → Status
 status_of_trace (failures.Refused why) = status_of_refusal why
 status_of_trace failures.ReadFault = statuses.ReadFault
@@ -97,7 +97,7 @@ pub record IsTraceUnread (old new : CabinetState) (program_name trace_name : Lis
   pub unread : FailsToRead old.files trace_name program new
   pub is : answer ≡ refusal statuses.ReadFault
 
--- what a command answers that has a program but no trace of a run of it
+-- What a command answers that has a program but no trace of a run of it.
 abbrev pub LacksTrace : CabinetState → CabinetState → List ℕ → List ℕ → Answer → Type 0
 LacksTrace old new program_name trace_name answer =
     IsUntraced old new program_name trace_name answer ⊎ IsTraceUnread old new program_name trace_name answer

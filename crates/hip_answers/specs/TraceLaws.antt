@@ -14,7 +14,7 @@ use Rattle.hip_run_traces.specs.declared.misfit.MisfitKind.{MisfitKind}
 use Rattle.hip_runs.specs.declared.input.Input.{Input}
 use Rattle.hip_tree.specs.declared.program.Program.{Program}
 
--- a trace is the trace of one input
+-- A trace is the trace of one input.
 pub one_input : (P : Program) (bytes : List ℕ) (I J : Input) → IsTraceOf P bytes I → IsTraceOf P bytes J
     → I ≡ J
 one_input P bytes I J t u = let same : Gives t.entries I ≡ Gives u.entries J = sym t.header_is ∙ u.header_is in cc

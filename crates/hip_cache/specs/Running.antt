@@ -3,10 +3,10 @@ use Rattle.hip_runs.specs.Seen.{Seen, state_of}
 use Rattle.hip_runs.specs.Standing.{HoldsLines}
 use Rattle.hip_cache.specs.declared.machine.Machine.TheInside.{Inside}
 
--- what contracts see of a machine is what they see of its runner
+-- What contracts see of a machine is what they see of its runner.
 abbrev pub view_of : Inside → Seen
 view_of m = m.runner
 
--- the lines are those of the state after the steps that the runner took
+-- The lines are those of the state after the steps that the runner took.
 abbrev pub IsRunning : Inside → Type 0
 IsRunning m = HoldsLines m.runner.input m.lines.lines (state_of m.runner).lines

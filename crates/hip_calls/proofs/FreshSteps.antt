@@ -13,7 +13,7 @@ use Rattle.hip_sound.specs.Sound.{top_names}
 use Rattle.hip_calls.specs.Fresh.{candidate, fresh_from, fresh_name, fresh_for, name_of, numeral}
 use Rattle.hip_calls.specs.Laws.FreshLaws.{IsFirstFree, fresh-first, fresh-free, first_alike, among_alike}
 
--- the same names are taken
+-- The same names are taken.
 abbrev pub Alike : List (List ℕ) → List (List ℕ) → Type 0
 Alike xs ys = (q : List ℕ) → is_among xs q ≡ is_among ys q
 
@@ -72,7 +72,7 @@ fresh_for-next earlier set functions P k f d alike h e =
     ∙ ap (λ g. earlier ++ fresh_for (earlier ++ top_names P) (name_of P g ∷ rest)) e
     ∙ sym (at_drop_more (λ fs. earlier ++ fresh_for (earlier ++ top_names P) (map (name_of P) fs)) functions k d h)
 
--- a fresh name is put after the earlier ones
+-- A fresh name is put after the earlier ones.
 pub fresh-put : (earlier set : List (List ℕ)) (name : List ℕ) → (if list_any (bytes_eq (fresh_name (earlier ++ set) name)) earlier then earlier else earlier ++ fresh_name (earlier ++ set) name ∷ []) ≡ earlier ++ fresh_name (earlier ++ set) name ∷ []
 fresh-put earlier set name = by_test (list_any (bytes_eq x) earlier) (list_any (bytes_eq x) set) (sym (list_any-append (bytes_eq x) earlier set) ∙ fresh-free (earlier ++ set) name)
   where

@@ -5,7 +5,7 @@ use Rattle.hip_names.specs.Names.{is_among}
 use Rattle.hip_sound.specs.Numbering.{name_in}
 use Rattle.hip_sound.specs.Sound.{top_names}
 
--- the last digits of a number, at most the given count of them
+-- The last digits of a number, at most the given count of them.
 abbrev pub numeral_in : ℕ → ℕ → List ℕ
 numeral_in zero n = []
 numeral_in (suc more) n = if nat_lt n 10 then (48 + n) ∷ [] else numeral_in more (n / 10) ++ (48 + n % 10) ∷ []
@@ -15,7 +15,7 @@ numeral_in (suc more) n = if nat_lt n 10 then (48 + n) ∷ [] else numeral_in mo
 abbrev pub numeral : ℕ → List ℕ
 numeral n = numeral_in (suc n) n
 
--- `f.pm`, `f.pm1`, `f.pm2` and so on
+-- `f.pm`, `f.pm1`, `f.pm2` and so on.
 abbrev pub candidate : List ℕ → ℕ → List ℕ
 candidate name zero = name ++ codes ".pm"
 candidate name (suc k) = name ++ (codes ".pm" ++ numeral (suc k))
@@ -31,15 +31,15 @@ fresh_from taken name (suc more) k =
 abbrev pub fresh_name : List (List ℕ) → List ℕ → List ℕ
 fresh_name taken name = fresh_from taken name (length taken) 0
 
--- a fresh name for each of these names; the fresh names differ from one another too
+-- A fresh name for each of these names; the fresh names differ from one another too.
 abbrev pub fresh_for : List (List ℕ) → List (List ℕ) → List (List ℕ)
 fresh_for taken [] = []
 fresh_for taken (name ∷ names) = fresh_name taken name ∷ fresh_for (fresh_name taken name ∷ taken) names
 
--- the name of the function of a number
+-- The name of the function of a number.
 abbrev pub name_of : Program → ℕ → List ℕ
 name_of P f = name_in (slice_get P.functions f)
 
--- fresh names for copies of the functions of these numbers
+-- Fresh names for copies of the functions of these numbers.
 abbrev pub fresh_names : Program → List ℕ → List (List ℕ)
 fresh_names P functions = fresh_for (top_names P) (map (name_of P) functions)

@@ -13,7 +13,7 @@ use Rattle.hip_calls.specs.Laws.FreshLaws.{IsFirstFree}
 use Rattle.hip_calls.specs.Reach.{called_at, called_from, callees}
 use Rattle.hip_calls.specs.Laws.ReachLaws.{Has}
 
--- each callee of these calls passes the test, and so does each function that a passing one calls
+-- Each callee of these calls passes the test, and so does each function that a passing one calls.
 pub record PassesOn (P : Program) (sites : List Site) (test : ℕ → Bool) : Type 0 where
   pub first : (s : Site) (f : ℕ) → has_site sites s ≡ true → Has (called_at P (instr_of P s)) f
       → test f ≡ true

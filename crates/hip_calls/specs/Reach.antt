@@ -10,37 +10,37 @@ use Rattle.hip_tree.specs.declared.program.Program.{Program}
 use Rattle.hip_tree.specs.declared.site.Site.{Site}
 use Rattle.hip_sound.specs.Numbering.{function_number}
 
--- the number of the defined function that an instruction calls, if it does
+-- The number of the defined function that an instruction calls, if it does.
 abbrev pub called_by : Program → Instr → List ℕ
 called_by P (Call dest ret callee args) = option_to_list (function_number P callee)
 called_by P _ = []
 
--- the numbers of the functions that a function calls, one a call, in the order of its text; none without a function
+-- The numbers of the functions that a function calls, one a call, in the order of its text; none without a function.
 abbrev pub called_in : Program → Option Function → List ℕ
 called_in P None = []
 called_in P (Some f) = flat_map (λ b. flat_map (called_by P) b.body) f.blocks
 
--- the numbers of the functions that the function of a number calls, in the order of its text, also by calls that no run
--- reaches
+-- The numbers of the functions that the function of a number calls, in the order of its text, also by calls that no run
+-- reaches.
 abbrev pub called_from : Program → ℕ → List ℕ
 called_from P f = called_in P (slice_get P.functions f)
 
--- the list, extended by the functions that one of its functions calls, if they are not in it yet
+-- The list, extended by the functions that one of its functions calls, if they are not in it yet.
 abbrev pub extended : Program → List ℕ → Option ℕ → List ℕ
 extended P seen None = seen
 extended P seen (Some f) = met nat_eq seen (called_from P f)
 
--- the list after `steps` steps from a place on, each of which extends it by the callees of the function at its place
+-- The list after `steps` steps from a place on, each of which extends it by the callees of the function at its place.
 abbrev pub reached : Program → ℕ → ℕ → List ℕ → List ℕ
 reached P zero place seen = seen
 reached P (suc steps) place seen = reached P steps (suc place) (extended P seen (slice_get seen place))
 
--- the number of the defined function that an instruction calls, as a list of one; none where it calls none
+-- The number of the defined function that an instruction calls, as a list of one; none where it calls none.
 abbrev pub called_at : Program → Option Instr → List ℕ
 called_at P None = []
 called_at P (Some i) = called_by P i
 
--- the callees of these calls, each once
+-- The callees of these calls, each once.
 abbrev pub first_callees : Program → List Site → List ℕ
 first_callees P sites = met nat_eq [] (flat_map (λ s. called_at P (instr_of P s)) sites)
 

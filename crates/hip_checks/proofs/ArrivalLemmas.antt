@@ -45,7 +45,7 @@ module _ {S : Type 0} (old new : IndexMap (Bor (List ℕ)) (List (List ℕ)) S) 
           ap (λ ns. is_among ns name) same ∙ sym (or_false (is_among (names_at old at) name))
           ∙ ap (λ b. is_among (names_at old at) name || (b && bytes_eq name from)) (sym (bytes_eq-sym at label ∙ e))
 
-  -- a block whose end names the label is put into the label's set
+  -- A block whose end names the label is put into the label's set.
   pub one_arrived : UpdatesBy same_name (λ k. bytes_eq label k.now) old new (Some set) → names_at old label ≡ before → is_new ≡ not (is_among before from) → set ≡ (if is_new then before ++ from ∷ [] else before) → Arrives old new (label ∷ []) from
   one_arrived u was fresh grown = record {
     adds = λ at name.
@@ -100,7 +100,7 @@ predecessors-push (x ∷ xs) b at name = by_test (is_predecessor at x) (predeces
     by_test false e = e
 
 module _ {S : Type 0} {old new : IndexMap (Bor (List ℕ)) (List (List ℕ)) S} where
-  -- one block more
+  -- One block more.
   pub predecessors_more : (bs : List Block) (i : ℕ) (b : Block) → i < length bs → b ≡ get_or bs i b → FindsPredecessors old (take i bs) → Arrives old new (end_labels b.end) b.label → FindsPredecessors new (take (i + 1) bs)
   predecessors_more bs i b within is so_far more = record {
     finds = λ at name.

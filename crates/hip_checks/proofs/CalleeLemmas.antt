@@ -52,7 +52,7 @@ both_found (e ∷ es) fs name =
     ap (λ o. if bytes_eq e.name name then Some (extern_entry e).value else o) (both_found es fs name)
     ∙ first_if (bytes_eq e.name name) (extern_entry e).value (extern_of es name) (function_of fs name)
 
--- a table that grew from nothing by what a program declares and defines finds its callees
+-- A table that grew from nothing by what a program declares and defines finds its callees.
 pub finds_callees : {ns ms : List (List ℕ)} {vs us : List Callee} (P : Program) → StandsFor ns vs [] → AddsCallees ns vs ms us (map extern_entry P.externs ++ map function_entry P.functions) → FindsCallees ms us P
 finds_callees {ms = ms} {us = us} P empty grown = record {
   finds = λ name.

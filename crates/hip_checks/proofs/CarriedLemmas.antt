@@ -29,7 +29,7 @@ again_seen : (first : Option (Bor Operand)) (o : Operand) → carries_again firs
 again_seen None o = refl
 again_seen (Some first) o = refl
 
--- an edge that carries the same as an earlier one is like all edges that are like that one
+-- An edge that carries the same as an earlier one is like all edges that are like that one.
 alike : (y z x : Edge) → bytes_eq y.label x.label ≡ true → same_operand y.value x.value ≡ true → carry_alike y z ≡ true → carry_alike z x ≡ true
 alike y z x label same other = by_test (bytes_eq z.label x.label) refl
   where
@@ -48,7 +48,7 @@ all_alike y (z ∷ zs) x label same others =
     let both = and_parts (carry_alike y z) (list_all (carry_alike y) zs) others in
     ap (λ b. b && list_all (λ w. carry_alike w x) zs) (alike y z x label same both.0) ∙ all_alike y zs x label same both.1
 
--- if edges agree, the first one of a label decides
+-- If edges agree, the first one of a label decides.
 first_decides : (ys : List Edge) (x : Edge) → repeats_agree ys ≡ true → list_all (λ y. carry_alike y x) ys ≡ again (value_of (map edge_entry ys) x.label) x.value
 first_decides [] x agree = refl
 first_decides (y ∷ ys) x agree = by_test (first_decides ys x both.1) (bytes_eq y.label x.label) refl
@@ -121,7 +121,7 @@ module _ {V : Type 0} where
   is_beside (n ∷ ns) [] name e = absurd (omega arith)
   is_beside (n ∷ ns) (v ∷ vs) name e = ap is_some (beside-cons n ns v vs name) ∙ some_if (bytes_eq name n) v (value_beside ns vs name) ∙ ap (λ b. bytes_eq name n || b) (is_beside ns vs name (omega arith))
 
-  -- a table has the names of its entries
+  -- A table has the names of its entries.
   pub has_names : {ns : List (List ℕ)} {vs : List V} (es : List (Entry V)) → StandsFor ns vs es → Knows ns (map (λ e. e.name) es)
   has_names {ns = ns} {vs = vs} es s name = sym (is_beside ns vs name s.as_long) ∙ ap is_some (s.finds name) ∙ is_found es name
 
@@ -133,7 +133,7 @@ labels_of : (edges : List Edge) → map (λ e. e.name) (map edge_entry edges) �
 labels_of [] = refl
 labels_of (e ∷ es) = ap (λ ns. e.label ∷ ns) (labels_of es)
 
--- if the edges agree, the rule is whether each predecessor is in the table
+-- If the edges agree, the rule is whether each predecessor is in the table.
 pub edges_by_table : {ns : List (List ℕ)} {vs : List (Bor Operand)} (before : List (List ℕ)) (edges : List Edge) → Carries ns vs edges → are_among before (edge_labels edges) ≡ true → list_all (is_among ns) before ≡ edges_agree before edges
 edges_by_table {ns = ns} before edges c among =
     let knows : Knows ns (edge_labels edges) = λ name. has_names c.entries c.stands name ∙ ap (λ names. is_among names name) (labels_seen c.entries ∙ ap (map (λ e. e.name)) c.are ∙ labels_of edges) in

@@ -20,7 +20,7 @@ use Rattle.hip_checks.specs.declared.assigned.NotAssigned.TheVariants as unassig
 use Rattle.hip_sound.specs.declared.fault.Place.{Place}
 use Rattle.hip_checks.specs.declared.tables.inner_table.Inner.{Inner}
 
--- the names of each function of a program differ
+-- The names of each function of a program differ.
 pub function_differs : (P : Program) (k : ℕ) (fn : Function) → (inner_names_check P).Holds → k < length P.functions → fn ≡ get_or P.functions k fn → AllDiffer (names_in_function fn)
 function_differs P k fn h within is = subst (λ (f : Function). AllDiffer (names_in_function f)) (sym is) (inner-sound k (get_or P.functions k fn) (each-holds inner_check P.functions k fn h within))
 
@@ -42,7 +42,7 @@ describes fn ns vs graph differ stands e = record { stands = stands; graph_is = 
 
 -- ---- functions one after another
 
--- the functions before one are right
+-- The functions before one are right.
 pub record RightBefore (functions : List Function) (end : ℕ) : Type 0 where
   pub right : (g : ℕ) (gn : Function) → g < end → slice_get functions g ≡ Some gn → AllAssigned gn g
 

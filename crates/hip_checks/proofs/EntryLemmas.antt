@@ -24,7 +24,7 @@ use Rattle.hip_sound.specs.declared.point.Point.TheVariants.{Before, AtEnd}
 use Rattle.hip_checks.specs.declared.tables.inner_table.Inner.{Inner}
 use Rattle.hip_checks.specs.declared.tables.inner_table.Inner.TheVariants.{Parameter, Label, Assigned}
 
--- one of the entries has this name and this value
+-- One of the entries has this name and this value.
 abbrev pub IsEntry : List (Entry Inner) → List ℕ → Inner → Type 0
 IsEntry [] name v = ⊥
 IsEntry (e ∷ es) name v = ((e.name ≡ name) × (e.value ≡ v)) ⊎ IsEntry es name v
@@ -72,7 +72,7 @@ entry_cases [] ys name v h = inr h
 entry_cases (x ∷ xs) ys name v (inl h) = inl (inl h)
 entry_cases (x ∷ xs) ys name v (inr h) = ⊎_elim (λ a. inl (inr a)) (λ b. inr b) (entry_cases xs ys name v h)
 
--- the item that an entry comes from, and its number
+-- The item that an entry comes from, and its number.
 pub record ComesOf {A : Type 0} (n : ℕ) (make : ℕ → A → List (Entry Inner)) (xs : List A) (name : List ℕ) (v : Inner) : Type 0 where
   pub number : ℕ
   pub item : A
@@ -192,7 +192,7 @@ body_from b n (i ∷ is) name v h =
 
 -- ---- the entries of a block
 
--- a register of the block can be used at the point
+-- A register of the block can be used at the point.
 pub record IsUsable (b : ℕ) (point : Point) (entries : List (Entry Inner)) (name : List ℕ) : Type 0 where
   pub after : ℕ
   pub there : is_there point after ≡ true
@@ -233,7 +233,7 @@ usable_before b point block name h =
     record { after = found.after; there = found.there; is = inr (entry_right (numbered (entries.phi b) block.phis) (body_declared (entries.instr b) block.body) name (Assigned b found.after) found.is) })
     (named_cases (phi_registers block.phis) (body_registers (body_part point block)) name (rw (registers_before-is point block) at h))
 
--- a register's entry in a block is of that block, and a use of it comes after its assignment
+-- A register's entry in a block is of that block, and a use of it comes after its assignment.
 pub record IsAssignedIn (b : ℕ) (block : Block) (name : List ℕ) (d after : ℕ) : Type 0 where
   pub same : d ≡ b
   pub before : (point : Point) → is_there point after ≡ true → IsAmong (names_of (registers_before point block)) name
@@ -261,7 +261,7 @@ assigned_in b block name d after (inl h) = let e : Label b ≡ Assigned d after 
 assigned_in b block name d after (inr h) =
     ⊎_elim (λ g. phi_assigned b block name d after g) (λ g. body_assigned b block name d after g) (entry_cases (numbered (entries.phi b) block.phis) (body_declared (entries.instr b) block.body) name (Assigned d after) h)
 
--- what is no label of a block is a register
+-- What is no label of a block is a register.
 registers_assign : (b : ℕ) (block : Block) (name : List ℕ) (v : Inner) → IsEntry (numbered (entries.phi b) block.phis ++ body_declared (entries.instr b) block.body) name v → (after : ℕ) × (Assigned b after ≡ v)
 registers_assign b block name v h =
     ⊎_elim (λ g. (0, (phi_from b 0 block.phis name v g).0)) (λ g. let found : BodyName b 0 block.body name v = body_from b 0 block.body name v g in (found.after, found.value))
@@ -295,7 +295,7 @@ block_is_in fn b block name v here h =
     let e : 0 + b ≡ b = omega arith in
     entry_right (map entries.parameter fn.params) (blocks_declared entries fn.blocks) name v (goes_into 0 (block_declared entries) fn.blocks b block name v here (subst (λ (k : ℕ). IsEntry (block_declared entries k block) name v) (sym e) h))
 
--- a block that has the entry
+-- A block that has the entry.
 pub record InBlock (fn : Function) (name : List ℕ) (v : Inner) : Type 0 where
   pub number : ℕ
   pub block : Block

@@ -8,7 +8,7 @@ use Rattle.hip_names.specs.Tables.{Entry, StandsFor}
 use Rattle.hip_checks.proofs.NameLists.{joined-push, numbered_from-push}
 use Rattle.hip_checks.proofs.RegisterLemmas.{take_one}
 
--- numbered items, one more
+-- Numbered items, one more.
 pub numbered_more : {A B : Type 0} (make : ℕ → A → B) (xs : List A) (i : ℕ) (x : A) → i < length xs → x ≡ get_or xs i x → numbered make (take (i + 1) xs) ≡ numbered make (take i xs) ++ make i x ∷ []
 numbered_more make xs i x within is =
     let short : 0 + length (take i xs) ≡ i = zero-add (length (take i xs)) ∙ length-take-le i xs (omega (arith, within)) in
@@ -35,6 +35,6 @@ module _ {V : Type 0} {ns ms ks : List (List ℕ)} {vs us ws : List V} where
       let whole : joined (numbered make (take (i + 1) xs)) ≡ joined (numbered make (take i xs)) ++ make i x = ap joined (numbered_more make xs i x within is) ∙ joined-push (numbered make (take i xs)) (make i x) in
       subst (λ (es : List (Entry V)). Gains ns vs ks ws es) (sym whole) (gains_then (joined (numbered make (take i xs))) (make i x) first next)
 
--- a table that gained no entries is as it was
+-- A table that gained no entries is as it was.
 pub gains_none : {V : Type 0} (ns : List (List ℕ)) (vs : List V) → Gains ns vs ns vs []
 gains_none ns vs = record { gains = λ before s. subst (λ (es : List (Entry _)). StandsFor ns vs es) (sym (append-nil before)) s }

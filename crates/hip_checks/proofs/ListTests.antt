@@ -8,11 +8,11 @@ use Rattle.hip_globals.specs.Constants.{joined}
 use Rattle.hip_sound.specs.Constants.{all_have}
 use Rattle.hip_sound.specs.Types.{all_pass}
 
--- an item that passes: the rest decides
+-- An item that passes: the rest decides.
 pub rest_decides : (test rest so_far whole : Bool) → so_far ≡ (test && rest) → so_far ≡ whole → test ≡ true → rest ≡ whole
 rest_decides test rest so_far whole split is passes = ap (λ (t : Bool). t && rest) (sym passes) ∙ sym split ∙ is
 
--- the first item that fails decides
+-- The first item that fails decides.
 pub item_decides : (test rest so_far whole : Bool) → so_far ≡ (test && rest) → so_far ≡ whole → test ≡ false → false ≡ whole
 item_decides test rest so_far whole split is fails = ap (λ (t : Bool). t && rest) (sym fails) ∙ sym split ∙ is
 

@@ -20,15 +20,15 @@ some_first : (a b : Option Finding) (f : Finding) → a ≡ Some f → or_else a
 some_first None b f e = cc
 some_first (Some g) b f e = e
 
--- an item with nothing found: the rest of the list decides
+-- An item with nothing found: the rest of the list decides.
 pub each_goes_on : {A : Type 0} (check : ℕ → A → Check) (xs : List A) (i : ℕ) (x : A) → i < length xs → x ≡ get_or xs i x → (each_from i check (drop i xs)).found ≡ (each check xs).found → (check i x).found ≡ None → (each_from (i + 1) check (drop (i + 1) xs)).found ≡ (each check xs).found
 each_goes_on check xs i x within is so_far none = sym (none_first _ _ none) ∙ sym (each_next check xs i x within is) ∙ so_far
 
--- the first item with a finding decides
+-- The first item with a finding decides.
 pub each_stops : (T : Type 0) {A : Type 0} (check : ℕ → A → Check) (xs : List A) (i : ℕ) (x : A) (e : Refused) → i < length xs → x ≡ get_or xs i x → (each_from i check (drop i xs)).found ≡ (each check xs).found → Answers {T = T} (Err e) (check i x).found → Answers {T = T} (Err e) (each check xs).found
 each_stops T check xs i x (refused.Found f) within is so_far found = sym so_far ∙ each_next check xs i x within is ∙ some_first _ _ f found
 each_stops T check xs i x refused.NoMemory within is so_far found = tt
 
--- after two checks with nothing found the third decides
+-- After two checks with nothing found the third decides.
 pub after_two : {T : Type 0} (r : Result T Refused) (a b found : Option Finding) → a ≡ None → b ≡ None → Answers r found → Answers r (or_else a (or_else b found))
 after_two r a b found e f h = subst (λ (o : Option Finding). Answers r o) (sym (none_first a (or_else b found) e ∙ none_first b found f)) h

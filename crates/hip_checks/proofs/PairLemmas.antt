@@ -16,7 +16,7 @@ shuffled true false true d = refl
 shuffled true false false d = refl
 shuffled false b c d = refl
 
--- one item more is tested with each earlier one
+-- One item more is tested with each earlier one.
 pub each_pair-push : {A : Type 0} (test : A → A → Bool) (xs : List A) (x : A) → each_pair test (xs ++ x ∷ []) ≡ (each_pair test xs && list_all (λ y. test y x) xs)
 each_pair-push test [] x = refl
 each_pair-push test (y ∷ ys) x =
@@ -31,7 +31,7 @@ each_pair-front test (x ∷ xs) ys e =
     let here = and_parts (list_all (test x) xs) (list_all (test x) ys) (sym (list_all-append (test x) xs ys) ∙ both.0) in
     ap (λ b. b && each_pair test xs) here.0 ∙ each_pair-front test xs ys both.1
 
--- if it fails in a prefix it fails in the list
+-- If it fails in a prefix it fails in the list.
 pub fails_in_front : {A : Type 0} (test : A → A → Bool) (xs : List A) (k : ℕ) → each_pair test (take k xs) ≡ false → false ≡ each_pair test xs
 fails_in_front test xs k e = by_test (each_pair test xs) refl
   where

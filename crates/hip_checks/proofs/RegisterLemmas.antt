@@ -35,6 +35,6 @@ found_in : (rs : List Register) (name : List ℕ) → value_of (map register_ent
 found_in [] name = refl
 found_in (r ∷ rs) name = ap (λ o. if bytes_eq r.name name then Some r.ty else o) (found_in rs name)
 
--- a table that grew from nothing finds what it grew by
+-- A table that grew from nothing finds what it grew by.
 pub finds_all : {ns ms : List (List ℕ)} {vs us : List (Option Scalar)} (rs : List Register) → StandsFor ns vs [] → Adds ns vs ms us rs → Finds ms us rs
 finds_all rs empty grown = record { finds = λ name. (grown.adds [] empty).finds name ∙ found_in rs name }

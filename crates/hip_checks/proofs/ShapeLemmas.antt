@@ -21,7 +21,7 @@ all_pass-lengths test (y ∷ ys) (x ∷ xs) h = fails_too (test y x) _ (all_pass
 
 -- ---- indices that enter
 
--- all indices after the first
+-- All indices after the first.
 pub enters_rest : (indices : List Bits) (t : Ty) → (length indices == 0) ≡ false → enters (take (length indices - 1) (drop 1 indices)) t ≡ path_exists indices t
 enters_rest [] t e = cc
 enters_rest (x ∷ xs) t e = ap (λ (is : List Bits). enters is t) (take_all (length (x ∷ xs) - 1) xs (omega arith))

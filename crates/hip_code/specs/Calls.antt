@@ -24,26 +24,26 @@ line_op lines.Flush _ a b = Flush a
 line_op lines.FlushAndFence params a b = Range a b true
 line_op _ params a b = Fence
 
--- the op of a call with a result and two arguments, of which the function may take fewer
+-- The op of a call with a result and two arguments, of which the function may take fewer.
 abbrev pub extern_op : ExternCall → Option ℕ → Operand → Operand → Effect
 extern_op calls.ReadI64 dest a b = effects.Outside (Read dest)
 extern_op calls.PrintI64 dest a b = effects.Outside (Print a)
 extern_op calls.PmAssert dest a b = effects.Outside (Assert a b)
 extern_op call dest a b = effects.Persistence (line_op (row_of call).effect (row_of call).params a b)
 
--- the operand resolves the first of the arguments; false if there is none
+-- The operand resolves the first of the arguments; false if there is none.
 abbrev pub is_first : List GlobalVar → ℕ → List (List ℕ) → List ℕ → List Arg → Operand → Type 0
 is_first globals region names constants [] a = ⊥
 is_first globals region names constants (x ∷ xs) a = IsOperand globals region names constants a x.value
 
--- the operands resolve the first two of the arguments; false if there are fewer
+-- The operands resolve the first two of the arguments; false if there are fewer.
 abbrev pub are_both : List GlobalVar → ℕ → List (List ℕ) → List ℕ → List Arg → Operand → Operand
     → Type 0
 are_both globals region names constants [] a b = ⊥
 are_both globals region names constants (x ∷ xs) a b =
     IsOperand globals region names constants a x.value × is_first globals region names constants xs b
 
--- the operands resolve the arguments of a function with these parameters, at most two
+-- The operands resolve the arguments of a function with these parameters, at most two.
 abbrev pub are_passed : List GlobalVar → ℕ → List (List ℕ) → List ℕ → List Scalar → List Arg → Operand
     → Operand →
     Type 0
@@ -51,7 +51,7 @@ are_passed globals region names constants [] args a b = Unit {0}
 are_passed globals region names constants (x ∷ []) args a b = is_first globals region names constants args a
 are_passed globals region names constants (x ∷ y ∷ more) args a b = are_both globals region names constants args a b
 
--- the operands resolve the arguments that the function takes
+-- The operands resolve the arguments that the function takes.
 abbrev pub are_taken : List GlobalVar → ℕ → List (List ℕ) → List ℕ → ExternCall → List Arg → Operand
     → Operand → Type 0
 are_taken globals region names constants call args a b =

@@ -27,12 +27,12 @@ use Rattle.hip_code.specs.declared.op.Case.{Case}
 use Rattle.hip_code.specs.declared.op.Edge.{Edge}
 use Rattle.hip_code.specs.declared.op.Move.{Move}
 
--- the operand that a phi has for control from a label
+-- The operand that a phi has for control from a label.
 abbrev pub edge_from : List named_edge.Edge → List ℕ → Option named.Operand
 edge_from [] from = None
 edge_from (e ∷ es) from = cond (bytes_eq e.label from) (Some e.value) (edge_from es from)
 
--- the move is that of a phi, for control from a label
+-- The move is that of a phi, for control from a label.
 pub record IsMove (globals : List GlobalVar) (region : ℕ) (names : List (List ℕ)) (constants from : List ℕ)
     (m : Move)
     (p : Phi) : Type 0 where
@@ -41,7 +41,7 @@ pub record IsMove (globals : List GlobalVar) (region : ℕ) (names : List (List 
   pub dest : number_of names p.dest ≡ Some m.dest
   pub value : IsOperand globals region names constants m.value operand
 
--- the moves are those of the phis of a block, one for each phi
+-- The moves are those of the phis of a block, one for each phi.
 abbrev pub are_moves : List GlobalVar → ℕ → List (List ℕ) → List ℕ → List ℕ → List Move → List Phi
     → Type 0
 are_moves globals region names constants from [] [] = Unit {0}
@@ -50,7 +50,7 @@ are_moves globals region names constants from (m ∷ ms) (p ∷ ps) =
 are_moves globals region names constants from [] (p ∷ ps) = ⊥
 are_moves globals region names constants from (m ∷ ms) [] = ⊥
 
--- the moves are those of the arguments of a call, one for each parameter, into slots of the callee
+-- The moves are those of the arguments of a call, one for each parameter, into slots of the callee.
 abbrev pub are_arguments : List GlobalVar → ℕ → List (List ℕ) → List (List ℕ) → List ℕ → List Move
     → List Param
     → List Arg → Type 0
@@ -63,7 +63,7 @@ are_arguments globals region names called constants (m ∷ ms) (p ∷ ps) (x ∷
     (number_of called p.name ≡ Some m.dest) × IsOperand globals region names constants m.value x.value
     × are_arguments globals region names called constants ms ps xs
 
--- the edge of that number leads from a block to the one with a label
+-- The edge of that number leads from a block to the one with a label.
 pub record IsEdge (P : Program) (I : Input) (f b : ℕ) (tables : Tables) (number : ℕ)
     (label : List ℕ) : Type 0 where
   pub edge : Edge
@@ -84,7 +84,7 @@ pub record AreCases (P : Program) (I : Input) (f b : ℕ) (tables : Tables) (cs 
   pub taken : (v other : ℕ) (label : List ℕ) → IsEdge P I f b tables other label
       → IsEdge P I f b tables (case_edge v cs other) (case_label v ds label)
 
--- the call is that of a defined function
+-- The call is that of a defined function.
 pub record IsCall (P : Program) (I : Input) (f : ℕ) (tables : Tables) (call : Call) (callee : List ℕ)
     (args : List Arg)
     (dest : Option (List ℕ)) : Type 0 where

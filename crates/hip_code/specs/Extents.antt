@@ -24,7 +24,7 @@ pub record IsExtent (P : Program) (f b extent : ℕ) : Type 0 where
   pub covers : (fn : Function) (name : List ℕ) (slot : ℕ) → slice_get P.functions f ≡ Some fn
       → MayHaveValue fn b name → number_of (names_at P f) name ≡ Some slot → slot < extent
 
--- if the op is a call, the slots that it keeps of its caller include those of the registers that may have a value
+-- If the op is a call, the slots that it keeps of its caller include those of the registers that may have a value.
 abbrev pub keeps_extent : Program → ℕ → ℕ → Op → Type 0
 keeps_extent P f b (ops.Control (controls.Call call)) = IsExtent P f b call.frame
 keeps_extent P f b _ = Unit {0}

@@ -21,12 +21,12 @@ use Rattle.hip_code.specs.declared.op.Memory.TheVariants as memories
 use Rattle.hip_code.specs.declared.op.Op.{Op}
 use Rattle.hip_code.specs.declared.op.Op.TheVariants as ops
 
--- the op stores at an address
+-- The op stores at an address.
 abbrev pub stores_at : Numbers → ℕ → Op → Type 0
 stores_at n a (ops.Memory (memories.Store size align value addr)) = operand_value n addr ≡ a
 stores_at n a _ = ⊥
 
--- the values that a call moves into the slots of its callee
+-- The values that a call moves into the slots of its callee.
 abbrev pub values_passed : Numbers → Call → List ℕ
 values_passed n call = map (λ m. operand_value n m.value) (entries_of call.arguments n.tables.moves)
 
@@ -37,23 +37,23 @@ pub record IsCallWith (P : Program) (n : Numbers) (callee : List ℕ) (values : 
       → length values ≤ length g.params →
       values_passed n call ≡ values
 
--- the op is a call of the function of that name with these values; an op of another kind never is
+-- The op is a call of the function of that name with these values; an op of another kind never is.
 abbrev pub passes : Program → Numbers → List ℕ → List ℕ → Op → Type 0
 passes P n callee values (ops.Control (controls.Call call)) = IsCallWith P n callee values call
 passes P n callee values _ = ⊥
 
--- the op acts on memory, on cache lines or on the outside
+-- The op acts on memory, on cache lines or on the outside.
 abbrev pub is_memory : Op → Type 0
 is_memory (ops.Memory memory) = Unit {0}
 is_memory _ = ⊥
 
--- the op of a call: for a function of the program it passes the arguments; for an external function it acts on memory,
--- on cache lines or on the outside
+-- The op of a call: for a function of the program it passes the arguments; for an external function it acts on memory,
+-- on cache lines or on the outside.
 abbrev pub passes_or_effects : Program → Numbers → Option ExternCall → List ℕ → List ℕ → Op → Type 0
 passes_or_effects P n None callee values o = passes P n callee values o
 passes_or_effects P n (Some call) callee values o = is_memory o
 
--- the op of a store has its address, the op of a call passes its arguments; the ops of all other instructions fit
+-- The op of a store has its address, the op of a call passes its arguments; the ops of all other instructions fit.
 abbrev pub names_operands : Program → Input → Numbers → Registers → Op → Instr → Type 0
 names_operands P I n rs o (instrs.Store ty value addr align) = stores_at n (value_of P.globals I.base rs addr) o
 names_operands P I n rs o (instrs.Call dest ret callee args) =
@@ -62,21 +62,21 @@ names_operands P I n rs o _ = Unit {0}
 
 -- ---- pointers
 
--- whether a scalar type is `ptr`
+-- Whether a scalar type is `ptr`.
 abbrev pub is_pointer : Scalar → Bool
 is_pointer Ptr = true
 is_pointer (Int width) = false
 
--- whether one of the arguments is a pointer
+-- Whether one of the arguments is a pointer.
 abbrev pub has_pointer : List Arg → Bool
 has_pointer args = list_any (λ a. is_pointer a.ty) args
 
--- a call says whether one of its arguments is a pointer; an op of another kind says nothing
+-- A call says whether one of its arguments is a pointer; an op of another kind says nothing.
 abbrev pub says_pointed : Op → List Arg → Type 0
 says_pointed (ops.Control (controls.Call call)) args = call.pointed ≡ has_pointer args
 says_pointed _ args = Unit {0}
 
--- the same, where the instruction is a call
+-- The same, where the instruction is a call.
 abbrev pub says_of : Op → Instr → Type 0
 says_of o (instrs.Call dest ret callee args) = says_pointed o args
 says_of o _ = Unit {0}

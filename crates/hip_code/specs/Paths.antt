@@ -13,13 +13,13 @@ use Rattle.hip_types.specs.Scalars.{width_of}
 use Rattle.hip_code.specs.Resolved.{IsOperand}
 use Rattle.hip_code.specs.declared.op.Term.{Term}
 
--- the index is a constant
+-- The index is a constant.
 pub record IsFixed (globals : List GlobalVar) (region : ℕ) (a : Arg) (index : ℕ) : Type 0 where
   pub value : Const
   pub is : a.value ≡ Fixed value
   pub index_is : index_value a.ty (const_value globals region value) ≡ index
 
--- the term is an index in a register times a scale
+-- The term is an index in a register times a scale.
 pub record IsScaled (globals : List GlobalVar) (region : ℕ) (names : List (List ℕ)) (constants : List ℕ) (a : Arg)
     (size : ℕ) (t : Term) : Type 0 where
   pub index : IsOperand globals region names constants t.index a.value
@@ -40,7 +40,7 @@ is_path globals region names constants t (a ∷ rest_args) offset terms =
     × (out-Ty t ≡ Ty-F.Array n e) × (terms ≡ term ∷ rest)
     × is_path globals region names constants e rest_args offset rest)
 
--- the first index steps over whole values of the type
+-- The first index steps over whole values of the type.
 abbrev pub is_gep : List GlobalVar → ℕ → List (List ℕ) → List ℕ → Ty → List Arg → ℕ → List Term
     → Type 0
 is_gep globals region names constants t [] offset terms = (offset ≡ 0) × (terms ≡ [])
@@ -51,7 +51,7 @@ is_gep globals region names constants t (a ∷ rest_args) offset terms =
     × (terms ≡ term ∷ rest)
     × is_path globals region names constants t rest_args offset rest)
 
--- the indices of a `getelementptr` of a type add this to its base
+-- The indices of a `getelementptr` of a type add this to its base.
 pub record IsGep (globals : List GlobalVar) (region : ℕ) (names : List (List ℕ)) (constants : List ℕ) (t : Ty)
     (args : List Arg) (offset : ℕ) (terms : List Term) : Type 0 where
   pub is : is_gep globals region names constants t args offset terms

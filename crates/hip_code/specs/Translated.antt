@@ -21,11 +21,11 @@ use Rattle.hip_code.specs.declared.op.SumOp.TheVariants as sums
 use Rattle.hip_code.specs.declared.op.Value.{Value}
 use Rattle.hip_code.specs.declared.op.Value.TheVariants as values
 
--- the op that gives 1 where a test of two integers of a width holds or, if it is negated, where it does not
+-- The op that gives 1 where a test of two integers of a width holds or, if it is negated, where it does not.
 abbrev pub compares : Comparison → Bool → Width → Operand → Operand → Rest
 compares test negated w a b = Compare test negated w a b
 
--- a is greater than b where b is less than a, and at least b where it is not less
+-- A is greater than b where b is less than a, and at least b where it is not less.
 abbrev pub compare_op : Pred → Width → Operand → Operand → Rest
 compare_op preds.Eq w a b = Compare Equal false w a b
 compare_op preds.Ne w a b = Compare Equal true w a b
@@ -38,7 +38,7 @@ compare_op preds.Sge w a b = Compare SignedLess true w a b
 compare_op preds.Slt w a b = Compare SignedLess false w a b
 compare_op preds.Sle w a b = Compare SignedLess true w b a
 
--- only `sext` looks at the sign
+-- Only `sext` looks at the sign.
 abbrev pub cast_op : CastOp → Width → Width → Operand → Rest
 cast_op casts.Sext from to a = Cast true from to a
 cast_op casts.Zext from to a = Cast false from to a
@@ -46,15 +46,15 @@ cast_op casts.Trunc from to a = Cast false from to a
 cast_op casts.Ptrtoint from to a = Cast false from to a
 cast_op casts.Inttoptr from to a = Cast false from to a
 
--- the op of an operation that is no division, on two integers of a width
+-- The op of an operation that is no division, on two integers of a width.
 abbrev pub integer_value : IntegerOp → Width → Operand → Operand → Value
 integer_value op w a b = values.Integer op w a b
 
--- the op of a division, with a sign or without one, for the rest or for the quotient
+-- The op of a division, with a sign or without one, for the rest or for the quotient.
 abbrev pub division_value : Bool → Bool → Width → Operand → Operand → Value
 division_value signed rest w a b = values.Rest (Other (others.Divide (record { signed = signed; rest = rest }) w a b))
 
--- divisions have an op of their own
+-- Divisions have an op of their own.
 abbrev pub binary_value : BinaryOp → Width → Operand → Operand → Value
 binary_value binaries.Add w a b = integer_value (integers.Sum sums.Add) w a b
 binary_value binaries.Sub w a b = integer_value (integers.Sum sums.Sub) w a b

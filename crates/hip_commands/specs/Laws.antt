@@ -4,13 +4,13 @@ use Rattle.hip_answers.specs.Same.{AreOne}
 use Rattle.hip_commands.specs.Record.{RecordAnswers}
 use Rattle.hip_commands.specs.Run.{RunAnswers}
 
--- if the files are known, two answers of `run` on them are the same, unless one is a read fault
+-- If the files are known, two answers of `run` on them are the same, unless one is a read fault.
 abbrev pub RunsAreOne : Type 0
 RunsAreOne =
     (name : List ℕ) (limit : ℕ) (numbers : List ℤ)
     → AreOne (λ old new answer. RunAnswers old new name limit numbers answer)
 
--- if the files are known, two answers of `record` on them are the same, unless one is a read fault
+-- If the files are known, two answers of `record` on them are the same, unless one is a read fault.
 abbrev pub RecordsAreOne : Type 0
 RecordsAreOne =
     (name : List ℕ) (base limit : ℕ) (numbers : List ℤ)

@@ -18,7 +18,7 @@ pub record HasRecorded (old new : CabinetState) (name : List ℕ) (base limit : 
   pub met : HasMet false false old new
   pub recorded : GivesTrace program (first_input program base limit numbers) answer
 
--- the answers of `record`: there is no program in the file, or its run at the order's base was recorded
+-- The answers of `record`: there is no program in the file, or its run at the order's base was recorded.
 abbrev pub RecordAnswers : CabinetState → CabinetState → List ℕ → ℕ → ℕ → List ℤ → Answer → Type 0
 RecordAnswers old new name base limit numbers answer =
     LacksProgram old new name answer ⊎ HasRecorded old new name base limit numbers answer

@@ -23,7 +23,7 @@ pub record HasRun (old new : CabinetState) (name : List ℕ) (limit : ℕ) (numb
   pub status_is : answer.status ≡ status_of_ending ending
   pub notes_is : answer.notes ≡ ending_line ending
 
--- the answers of `run`: there is no program in the file, or it has run at the lowest base
+-- The answers of `run`: there is no program in the file, or it has run at the lowest base.
 abbrev pub RunAnswers : CabinetState → CabinetState → List ℕ → ℕ → List ℤ → Answer → Type 0
 RunAnswers old new name limit numbers answer =
     LacksProgram old new name answer ⊎ HasRun old new name limit numbers answer

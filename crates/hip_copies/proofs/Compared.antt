@@ -2,7 +2,7 @@
 use Rattle.std.proofs.Common.{◌≡◌, ◌∙◌, sym}
 use Rattle.std.specs.Prelude.{◌↔◌, IsTrue, Bool}
 
--- a test of the fields of two values of one variant tests the values
+-- A test of the fields of two values of one variant tests the values.
 pub of_fields : {A P : Type 0} {b : Bool} {p q m n : A} → p ≡ m → q ≡ n
     → (P ↔ (m ≡ n)) → (IsTrue b ↔ P) → IsTrue b ↔ (p ≡ q)
 of_fields l r fields test =

@@ -8,14 +8,14 @@ use Rattle.hip_crash.specs.declared.values.StoredValue.{StoredValue}
 
 -- ---- the bytes of a value
 
--- a byte does not depend on how many are taken
+-- A byte does not depend on how many are taken.
 pub byte-any : (n m v i : ℕ) → i < n → i < m → slice_index (bytes_of n v) i ≡ slice_index (bytes_of m v) i
 byte-any zero m v i h k = absurd (omega (arith, h))
 byte-any (suc n) zero v i h k = absurd (omega (arith, k))
 byte-any (suc n) (suc m) v zero h k = refl
 byte-any (suc n) (suc m) v (suc i) h k = byte-any n m (v / 256) i (omega (arith, h)) (omega (arith, k))
 
--- after the bytes of a value there are zeros
+-- After the bytes of a value there are zeros.
 pub byte-past : (n k v i : ℕ) → v < 256 ^ k → k ≤ i → slice_index (bytes_of n v) i ≡ 0
 byte-past zero k v i h le = refl
 byte-past (suc n) zero v zero h le = let z : v ≡ 0 = omega (arith, h) in ap (λ x. x % 256) z
@@ -47,7 +47,7 @@ pub length-bytes_after : (vs : List StoredValue) (b : ℕ) (xs : List ℕ) → l
 length-bytes_after [] b xs = refl
 length-bytes_after (v ∷ vs) b xs = length-bytes_after vs b (bytes_with v b xs) ∙ length-bytes_with v b xs
 
--- byte by byte they are those after the values
+-- Byte by byte they are those after the values.
 pub index-bytes_after : (vs : List StoredValue) (b : ℕ) (xs : List ℕ) (i : ℕ) → i < length xs → slice_index (bytes_after vs b xs) i ≡ byte_after stored_covers stored_byte vs (b + i) (slice_index xs i)
 index-bytes_after [] b xs i h = refl
 index-bytes_after (v ∷ vs) b xs i h = index-bytes_after vs b (bytes_with v b xs) i (omega (arith, h, length-bytes_with v b xs)) ∙ ap (byte_after stored_covers stored_byte vs (b + i)) (index-bytes_with v b xs i h)
@@ -62,7 +62,7 @@ index-take (suc n) [] i h = refl
 index-take (suc n) (x ∷ xs) zero h = refl
 index-take (suc n) (x ∷ xs) (suc i) h = index-take n xs i (omega arith)
 
--- one value more
+-- One value more.
 after-suc : (vs : List StoredValue) (i : ℕ) (v : StoredValue) (b : ℕ) (xs : List ℕ) → slice_get vs i ≡ Some v → bytes_after (take (suc i) vs) b xs ≡ bytes_with v b (bytes_after (take i vs) b xs)
 after-suc [] i v b xs e = absurd (let z : ⊥ = cc in z)
 after-suc (w ∷ vs) zero v b xs e = let s : w ≡ v = cc in ap (λ u. bytes_with u b xs) s
@@ -71,7 +71,7 @@ after-suc (w ∷ vs) (suc i) v b xs e = after-suc vs i v b (bytes_with w b xs) e
 pub after-more : (vs : List StoredValue) (i : ℕ) (v : StoredValue) (b : ℕ) (xs : List ℕ) → slice_get vs i ≡ Some v → bytes_after (take (i + 1) vs) b xs ≡ bytes_with v b (bytes_after (take i vs) b xs)
 after-more vs i v b xs e = ap (λ n. bytes_after (take n vs) b xs) (let z : i + 1 ≡ suc i = omega arith in z) ∙ after-suc vs i v b xs e
 
--- the bytes that a loop has written are those of the value
+-- The bytes that a loop has written are those of the value.
 module _ (v : StoredValue) (b : ℕ) (old new : List ℕ) (len : length new ≡ length old) where
   pub written : (from to : ℕ) → from ≡ max v.offset b → ((i : ℕ) → i < length old → stored_covers v (b + i) ≡ (nat_le from (b + i) && nat_lt (b + i) to))
       → ((i : ℕ) → i < length old → slice_index new i ≡ cond (nat_le from (b + i) && nat_lt (b + i) to) (stored_byte v (b + i)) (slice_index old i))
@@ -80,7 +80,7 @@ module _ (v : StoredValue) (b : ℕ) (old new : List ℕ) (len : length new ≡ 
       let l : i < length old = omega (arith, len, lt) in
       at i l ∙ ap (λ t. cond t (stored_byte v (b + i)) (slice_index old i)) (sym (covers i l)) ∙ sym (index-bytes_with v b old i l))
 
--- two tests that say the same
+-- Two tests that say the same.
 pub same_test : (a b : Bool) → (a ≡ true → b ≡ true) → (b ≡ true → a ≡ true) → a ≡ b
 same_test true true f g = refl
 same_test true false f g = sym (f refl)
@@ -93,7 +93,7 @@ tests a x b h = (grind (arith, nat_tests), grind (arith, nat_tests))
 test : (a x b : ℕ) → a ≤ x → x < b → nat_le a x && nat_lt x b ≡ true
 test a x b h k = grind (arith, nat_tests)
 
--- a range that is cut off at the ends of a line has the same bytes of the line
+-- A range that is cut off at the ends of a line has the same bytes of the line.
 pub same_range : (o n s x from end at most : ℕ) → from ≡ max o s → end ≡ min (min (o + n) most) (s + 64) → s + 64 ≤ most → from ≤ at → end ≤ at → at ≤ max from end → s ≤ x → x < s + 64
     → (nat_le o x && nat_lt x (o + n)) ≡ (nat_le from x && nat_lt x at)
 same_range o n s x from end at most f e m low high exact l u = same_test (nat_le o x && nat_lt x (o + n)) (nat_le from x && nat_lt x at)

@@ -21,7 +21,7 @@ use Rattle.hip_runs.specs.declared.event.Ending.{Ending}
 use Rattle.hip_runs.specs.declared.event.Ending.TheVariants.{Cut}
 use Rattle.hip_runs.specs.declared.input.Input.{Input}
 
--- each line has this many parts at most
+-- Each line has this many parts at most.
 pub record AreShort (most : ℕ) (ls : List (Line StorePart)) : Type 0 where
   pub are : (j : ℕ) (l : Line StorePart) → slice_get ls j ≡ Some l → length l.parts ≤ most
 
@@ -37,7 +37,7 @@ get_mapped g (x ∷ xs) (suc k) = get_mapped g xs k
 short_more : (m n : ℕ) (ls : List (Line StorePart)) → m ≤ n → AreShort m ls → AreShort n ls
 short_more m n ls h a = record { are = λ j l e. omega (arith, h, a.are j l e) }
 
--- lines that are changed in a range
+-- Lines that are changed in a range.
 short_changed : (f : ℕ → Line StorePart → Line StorePart) (o n m more : ℕ) (ls : List (Line StorePart)) → ((j : ℕ) (l : Line StorePart) → length (f j l).parts ≤ length l.parts + more) → AreShort m ls → AreShort (m + more) (change_range f o n ls)
 short_changed f o n m more ls h a = record {
   are = λ j l e.
@@ -91,7 +91,7 @@ unfolding leave
 few_left I v w f [] ls after h k = record { parts = h; turns = k }
 few_left I v w f (g ∷ fs) ls after h k = record { parts = h; turns = k }
 
--- where a store takes a turn more than the lines have parts
+-- Where a store takes a turn more than the lines have parts.
 few_performed : (I : Input) (w : World) (f : Frame) (fs : List Frame) (ls : List (Line StorePart)) (before after : Counts) (x : Action) (m : ℕ) → AreShort m ls → m ≤ w.turns → (stores x ≡ true → m + 1 ≤ w.turns) → w.turns ≤ I.limit
     → IsFew I (perform I w f fs ls before after x)
 unfolding perform
@@ -126,7 +126,7 @@ few_carried I w f fs ls before after d turn h k = go (is_cut I w d) refl d.turn 
         subst (λ b. IsFew I (perform I (cond b (with_turn w) w) f fs ls before after d.action)) (sym q)
         (few_performed I w f fs ls before after d.action w.turns h (omega arith) (λ s. absurd (let e = sym (turn s) ∙ q in let z : ⊥ = cc in z)) k)
 
--- a store is a turn
+-- A store is a turn.
 store_turns : (P : Program) (I : Input) (w : World) (f : Frame) (fs : List Frame) → stores (deed_at P I w f fs).action ≡ true → (deed_at P I w f fs).turn ≡ true
 store_turns P I w f fs = by_code (code_at P f) refl
   where
@@ -177,6 +177,6 @@ few_run P I zero = record { parts = record { are = λ j l e. fresh (length I.ima
     fresh k j l e = let none : length l.parts ≡ 0 = ap length (line_of_fresh P k j l e) in omega (arith, none)
 few_run P I (suc n) = few_step P I (run P I n) (few_run P I n)
 
--- a cache line has at most as many parts as the limit has turns
+-- A cache line has at most as many parts as the limit has turns.
 pub few_parts : (P : Program) (I : Input) (n j : ℕ) (l : Line StorePart) → slice_get (run P I n).lines j ≡ Some l → length l.parts ≤ I.limit
 few_parts P I n j l e = let few = few_run P I n in omega (arith, few.turns, few.parts.are j l e)

@@ -61,7 +61,7 @@ module _ (j : ℕ) where
   alike-fence [] (x ∷ xs) a = absurd a
   alike-fence (v ∷ vs) [] a = absurd a
 
-  -- a byte of the line after them
+  -- A byte of the line after them.
   pub after-alike : (vs : List StoredValue) (xs : List StorePart) (b y : ℕ) → AreAlike j vs xs → 64 * j ≤ b → b < 64 * j + 64
       → byte_after stored_covers stored_byte vs b y ≡ byte_after covers byte_of xs b y
   after-alike [] [] b y a h k = refl
@@ -175,7 +175,7 @@ module _ (o n value j : ℕ) where
   short : (b m : ℕ) → start_in j o ≤ b → b < start_in j o + (end_in j o m - start_in j o) → b - start_in j o < end_in j o m - start_in j o
   short b m h k = omega arith
 
-  -- a stored value is alike to its store's part in each line
+  -- A stored value is alike to its store's part in each line.
   pub alike-store : (counts : Counts) (site : Site) (levels : List Level) → IsAlike j (record { offset = o; value = value; size = n }) (part_of_store counts site levels o (bytes_of n value) j)
   alike-store counts site levels = record {
     same_covers = λ b l u. same_test (nat_le o b && nat_lt b (o + n)) (nat_le (start_in j o) b && nat_lt b (start_in j o + length Held))

@@ -46,7 +46,7 @@ number-other : (xs : List Pick) (p : Pick) (j : ℕ) → p.line ≢ j → number
 number-other [] p j ne = ap (λ b. cond b (Some p.upto) None) (ne_test p.line j ne)
 number-other (x ∷ xs) p j ne = ap (λ o. cond (nat_eq x.line j) (Some x.upto) o) (number-other xs p j ne)
 
--- what a table has at a line
+-- What a table has at a line.
 pub number-found : (entries : List (ℕ × ℕ)) (j : ℕ) → lookup (is_at (nat_cmp j)) entries ≡ number_in entries j
 number-found entries j = λ i. lookup (λ k. number-is_at j k i) entries
 
@@ -66,7 +66,7 @@ numbers-more xs p old new h updates e = record { are = λ j. go j (equal_or_not 
         let other : p.line ≢ j = λ z. s.1 (sym z) in
         updated j ∙ ap (λ b. cond b (Some p.upto) (number_in old j)) (ne_test p.line j other) ∙ h.are j ∙ sym (number-other xs p j other)
 
--- a pick that does not fail
+-- A pick that does not fail.
 pub failed-none : (s : State) (earlier : List Pick) (at : ℕ) (p : Pick) → failure s earlier at p ≡ None → (p.line < length s.lines) × (number_for earlier p.line ≡ None) × IsBetween (bounds_of s p.line) p.upto
 failed-none s earlier at p e = line (nat_lt p.line (length s.lines)) refl e
   where
@@ -148,7 +148,7 @@ piece I s pick j l bs size e lt long at = same_lists bs (take 64 (drop (64 * j) 
         ∙ ap (λ o. byte_after covers byte_of (take (pick j) (parts_of covers byte_of o)) (0 + (64 * j + i)) (slice_index I.image (64 * j + i))) e
         ∙ ap (λ k. byte_after covers byte_of (take (pick j) l.parts) k (slice_index I.image (64 * j + i))) zero_is
 
--- a front of an image, one line longer
+-- A front of an image, one line longer.
 pub front-more : (xs front bs : List ℕ) (j : ℕ) → front ≡ take (64 * j) xs → bs ≡ take 64 (drop (64 * j) xs) → front ++ bs ≡ take (64 * (j + 1)) xs
 front-more xs front bs j f b = ap₂ (λ a c. a ++ c) f b ∙ sym (take-take-drop (64 * j) 64 xs) ∙ ap (λ n. take n xs) (let z : 64 * j + 64 ≡ 64 * (j + 1) = omega arith in z)
   where
@@ -166,7 +166,7 @@ front-whole I s pick front j size le e = e ∙ take_all (64 * j) (crash_image I 
 
 -- ---- picks that are found
 
--- the picks of the first lines, each with the number that the image has there
+-- The picks of the first lines, each with the number that the image has there.
 pub record AreFound (I : Input) (s : State) (image : List ℕ) (count : ℕ) (picks : List Pick) : Type 0 where
   pub many : length picks ≡ count
   pub lines : (k : ℕ) (p : Pick) → slice_get picks k ≡ Some p → p.line ≡ k
@@ -202,7 +202,7 @@ found-more I s image count picks upto f n = record {
     number k p e (inl h) = f.numbers k p (sym (get-append_left picks (new ∷ []) k h) ∙ e)
     number k p e (inr h) = subst (λ i. IsNumberOf I s image i (Some p.upto)) (sym f.many ∙ sym h) (subst (λ (x : Pick). IsNumberOf I s image count (Some x.upto)) (last k p e h) n)
 
--- picks of lines one after another
+-- Picks of lines one after another.
 record AreFrom (from : ℕ) (picks : List Pick) : Type 0 where
   at : (k : ℕ) (p : Pick) → slice_get picks k ≡ Some p → p.line ≡ from + k
 
@@ -216,7 +216,7 @@ from-lines : (from : ℕ) (picks : List Pick) → AreFrom from picks → map (λ
 from-lines from [] h = refl
 from-lines from (x ∷ picks) h = ap₂ (λ a ys. a ∷ ys) (from-head from x picks h) (from-lines (from + 1) picks (from-tail from x picks h))
 
--- the number of a line
+-- The number of a line.
 from-number : (from : ℕ) (picks : List Pick) → AreFrom from picks → (k : ℕ) (p : Pick) → slice_get picks k ≡ Some p → number_for picks (from + k) ≡ Some p.upto
 from-number from [] h k p e = absurd (let z : ⊥ = cc in z)
 from-number from (x ∷ picks) h zero p e =
@@ -229,7 +229,7 @@ from-number from (x ∷ picks) h (suc k) p e =
     other : x.line ≡ from → x.line ≢ from + suc k
     other q r = absurd (omega (arith, q, r))
 
--- they do not fail after picks of the lines before them
+-- They do not fail after picks of the lines before them.
 from-fit : (s : State) (earlier rest : List Pick) → AreFrom (length earlier) rest → ((k : ℕ) (p : Pick) → slice_get rest k ≡ Some p → (p.line < length s.lines) × IsBetween (bounds_of s p.line) p.upto) → ((j : ℕ) → length earlier ≤ j → number_for earlier j ≡ None)
     → failure_after s earlier rest ≡ None
 from-fit s earlier [] h b n = refl
@@ -256,7 +256,7 @@ from-fit s earlier (x ∷ rest) h b n =
         ∙ ap (λ o. cond (is_some o) (Some (Repeated (suc (length earlier)))) (range_failure (suc (length earlier)) (bounds_of s x.line) x.upto)) (n x.line (omega (arith, q)))
         ∙ ap (λ t. cond t None (Some (OutOfRange (suc (length earlier)) (bounds_of s x.line).least (bounds_of s x.line).most))) (within (bounds_of s x.line).least x.upto (bounds_of s x.line).most between.least between.most)
 
--- the picks of all lines give the image
+-- The picks of all lines give the image.
 pub found-all : (I : Input) (s : State) (image : List ℕ) (count : ℕ) (picks : List Pick) → length I.image ≡ 64 * length s.lines → length image ≡ length I.image → count ≡ length s.lines → AreFound I s image count picks → ArePicksOf I s picks image
 found-all I s image count picks size whole all f = record {
   lines = from-lines 0 picks each ∙ ap (range_with_len 0) (f.many ∙ all);
@@ -300,7 +300,7 @@ found-all I s image count picks size whole all f = record {
         ∙ ap (λ q. byte_after covers byte_of (take q l.0.parts) b (slice_index I.image b)) (number (b / 64) p.0 p.1)
         ∙ sym (is.bytes b (omega arith) (omega arith))
 
--- a line that no number fits
+-- A line that no number fits.
 pub not-image : (I : Input) (s : State) (image : List ℕ) (j : ℕ) → j < length s.lines → IsNumberOf I s image j None → ¬ IsCrashImage I s image
 not-image I s image j lt n h = let l = get_there s.lines j lt in let r = h.lines j l.0 l.1 in n.is l.0 l.1 r.0 r.1
 

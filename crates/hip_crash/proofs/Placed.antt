@@ -49,14 +49,14 @@ pub some-place : (m : KeptLines) (j : ℕ) → IsSome (line_at m j) → 0 < numb
 unfolding line_at
 some-place m j s = has-place m.directory m.lines.items j s
 
--- the kept line at a place is that of the cache line
+-- The kept line at a place is that of the cache line.
 pub at-place : (m : KeptLines) (j : ℕ) (x : KeptLine) → 0 < number_at m.directory j → slice_get m.lines.items (number_at m.directory j - 1) ≡ Some x → (line_at m j ≡ Some x) × (x.line ≡ j)
 unfolding line_at
 at-place m j x p e =
     let f : line_in m.directory m.lines.items j ≡ Some x = at-counted m.lines.items (number_at m.directory j) p ∙ e in
     (f, m.placed.numbered j x f)
 
--- what is kept at one place is changed
+-- What is kept at one place is changed.
 module _ (f : Kept → Kept) (d : Directory) (xs xs' : List KeptLine) (line : ℕ) (h : ArePlaced d xs) (p : 0 < number_at d line) (c : ChangesPlace f (number_at d line - 1) xs xs') where
   other-place : (j : ℕ) → j ≢ line → number_at d j ≢ number_at d line
   other-place j ne e =
@@ -94,7 +94,7 @@ changes-line f m m' line d p c = record {
     others : (j : ℕ) → j ≢ line → line_in m'.directory m'.lines.items j ≡ line_in m.directory m.lines.items j
     others j ne = ap (λ x. line_in x m'.lines.items j) d ∙ other-line f m.directory m.lines.items m'.lines.items line m.placed p c j ne
 
--- what is changed by nothing is the same
+-- What is changed by nothing is the same.
 pub changes-nothing : (m m' : KeptLines) (line : ℕ) → ChangesLine (λ k. k) line m m' → (j : ℕ) → kept_at m' j ≡ kept_at m j
 changes-nothing m m' line c j = go (equal_or_not j line)
   where
@@ -163,7 +163,7 @@ gives-line m m' d line x k q same s l e = record {
     placed : ArePlaced d m.lines.items
     placed = placed-same m.directory d m.lines.items same m.placed
 
--- whatever the answer was
+-- Whatever the answer was.
 pub placed-either : {A E : Type 0} (r : Result A E) (f g : Kept → Kept) (d : Directory) (xs xs' : List KeptLine) (line n : ℕ) → ArePlaced d xs → 0 < number_at d line → n ≡ number_at d line
     → OnOk r (ChangesPlace f (n - 1) xs xs') → OnErr r (ChangesPlace g (n - 1) xs xs') → ArePlaced d xs'
 placed-either (Ok a) f g d xs xs' line n h p e o w = placed-changed f d xs xs' line h p (subst (λ i. ChangesPlace f (i - 1) xs xs') e o)

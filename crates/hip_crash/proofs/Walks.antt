@@ -21,7 +21,7 @@ changed : (f : Kept → Kept) (b : Bool) (o : Option Kept) → b ≡ true → op
 changed f b None e = refl
 changed f b (Some k) e = ap (λ t. Some (cond t (f k) k)) e
 
--- the lines of a range, as far as a walk has come, are changed
+-- The lines of a range, as far as a walk has come, are changed.
 pub record IsWalked (f : ℕ → Kept → Kept) (o n next : ℕ) (old new : KeptLines) : Type 0 where
   pub is : (j : ℕ) → kept_at new j ≡ option_map (λ k. cond (has_bytes j o n && nat_lt j next) (f j k) k) (kept_at old j)
 
@@ -42,7 +42,7 @@ place_of j next line ne = grind arith
 
 -- ---- fences of the listed lines
 
--- a line without flushed stores stays as it is
+-- A line without flushed stores stays as it is.
 pub fence_nothing : (j : ℕ) (k : Kept) → k.flushed ≡ 0 → with_fence j k ≡ k
 fence_nothing j k e = nothing k.bytes k.least k.later k.flushed e
   where
@@ -51,7 +51,7 @@ fence_nothing j k e = nothing k.bytes k.least k.later k.flushed e
     nothing bytes least later zero e = ap (λ n. record { bytes = bytes; least = n; later = later; flushed = 0 }) (let z : least + 0 ≡ least = omega arith in z)
     nothing bytes least later (suc n) e = absurd (omega (arith, e))
 
--- the lines of a list are fenced as far as a walk has come
+-- The lines of a list are fenced as far as a walk has come.
 pub record AreFenced (lines : List ℕ) (old new : KeptLines) : Type 0 where
   pub are : (j : ℕ) → kept_at new j ≡ option_map (λ k. cond (list_any (nat_eq j) lines) (with_fence j k) k) (kept_at old j)
 

@@ -9,14 +9,14 @@ use Rattle.hip_crash.specs.Kept.{Kept}
 use Rattle.hip_crash.specs.Values.{stored_covers, stored_byte}
 use Rattle.hip_crash.specs.declared.values.StoredValue.{StoredValue}
 
--- the stored value gives line j the same bytes as the part
+-- The stored value gives line j the same bytes as the part.
 pub record IsAlike (j : ℕ) (v : StoredValue) (x : StorePart) : Type 0 where
   pub same_covers : (b : ℕ) → LINE_SIZE * j ≤ b → b < LINE_SIZE * j + LINE_SIZE
       → stored_covers v b ≡ covers x b
   pub same_bytes : (b : ℕ) → LINE_SIZE * j ≤ b → b < LINE_SIZE * j + LINE_SIZE → covers x b ≡ true →
       stored_byte v b ≡ byte_of x b
 
--- as many stored values as parts, and each value gives line j the same bytes as the part at its place
+-- As many stored values as parts, and each value gives line j the same bytes as the part at its place.
 abbrev pub AreAlike : ℕ → List StoredValue → List StorePart → Type 0
 AreAlike j [] [] = Unit {0}
 AreAlike j (v ∷ vs) (x ∷ xs) = IsAlike j v x × AreAlike j vs xs
@@ -32,6 +32,6 @@ pub record IsKeptOf (image : List ℕ) (j : ℕ) (k : Kept) (l : Line StorePart)
   pub bytes : (i : ℕ) → i < LINE_SIZE → slice_index k.bytes i
       ≡ byte_after covers byte_of (take l.durable l.parts) (LINE_SIZE * j + i) (slice_index image (LINE_SIZE * j + i))
 
--- the same for all lines
+-- The same for all lines.
 pub record AreKeptOf (image : List ℕ) (see : ℕ → Kept) (ls : List (Line StorePart)) : Type 0 where
   pub are : (j : ℕ) (l : Line StorePart) → slice_get ls j ≡ Some l → IsKeptOf image j (see j) l

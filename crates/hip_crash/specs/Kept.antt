@@ -6,27 +6,27 @@ use Rattle.hip_crash.specs.Values.{bytes_after}
 use Rattle.hip_crash.specs.declared.kept_line.KeptLine.{KeptLine}
 use Rattle.hip_crash.specs.declared.values.StoredValue.{StoredValue}
 
--- what is kept of a cache line: its bytes after the durable stores, the number of these, the later stores, the
--- earliest first, and the number of the later ones that are flushed
+-- What is kept of a cache line: its bytes after the durable stores, the number of these, the later stores, the
+-- earliest first, and the number of the later ones that are flushed.
 pub record Kept : Type 0 where
   pub bytes : List ℕ
   pub least : ℕ
   pub later : List StoredValue
   pub flushed : ℕ
 
--- what is kept of a line, without the line's number
+-- What is kept of a line, without the line's number.
 abbrev pub kept_in : KeptLine → Kept
 kept_in x = record { bytes = x.bytes; least = x.least; later = x.later.items; flushed = x.flushed }
 
--- the line after one more store, the last one, which is not flushed
+-- The line after one more store, the last one, which is not flushed.
 abbrev pub with_store : StoredValue → Kept → Kept
 with_store v k = record k { later = k.later ++ v ∷ [] }
 
--- the line after a flush of it, by which all of its later stores are flushed
+-- The line after a flush of it, by which all of its later stores are flushed.
 abbrev pub with_flush : Kept → Kept
 with_flush k = record k { flushed = length k.later }
 
--- the flushed stores of line j are durable now
+-- The flushed stores of line j are durable now.
 abbrev pub with_fence : ℕ → Kept → Kept
 with_fence j k =
     record {

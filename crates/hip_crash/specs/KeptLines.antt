@@ -6,44 +6,44 @@ use Rattle.hip_crash.specs.Places.{line_in}
 use Rattle.hip_crash.specs.declared.kept_line.KeptLine.{KeptLine}
 use Rattle.hip_crash.specs.declared.kept_lines.KeptLines.{KeptLines}
 
--- the kept line of cache line j, with its number; none where nothing is kept of that line
+-- The kept line of cache line j, with its number; none where nothing is kept of that line.
 unfoldable pub line_at : KeptLines → ℕ → Option KeptLine
 line_at m j = line_in m.directory m.lines.items j
 
--- what is kept of cache line j, if something is
+-- What is kept of cache line j, if something is.
 abbrev pub kept_at : KeptLines → ℕ → Option Kept
 kept_at m j = option_map kept_in (line_at m j)
 
--- what is kept of one cache line is changed, and nothing else is
+-- What is kept of one cache line is changed, and nothing else is.
 pub record ChangesLine (change : Kept → Kept) (line : ℕ) (old new : KeptLines) : Type 0 where
   pub here : kept_at new line ≡ option_map change (kept_at old line)
   pub others : (j : ℕ) → j ≢ line → kept_at new j ≡ kept_at old j
 
--- this is kept now of one cache line of which nothing was kept, and nothing else is changed
+-- This is kept now of one cache line of which nothing was kept, and nothing else is changed.
 pub record GivesLine (kept : Kept) (line : ℕ) (old new : KeptLines) : Type 0 where
   pub here : kept_at new line ≡ Some kept
   pub others : (j : ℕ) → j ≢ line → kept_at new j ≡ kept_at old j
 
--- nothing is kept of the cache lines from one up to another
+-- Nothing is kept of the cache lines from one up to another.
 abbrev pub NoneKept : KeptLines → ℕ → ℕ → Type 0
 NoneKept m from to = (j : ℕ) → from ≤ j → j < to → line_at m j ≡ None
 
--- the first of the cache lines from one up to another of which something is kept, if there is one
+-- The first of the cache lines from one up to another of which something is kept, if there is one.
 abbrev pub IsFirstKept : KeptLines → ℕ → ℕ → Option KeptLine → Type 0
 IsFirstKept m from to None = NoneKept m from to
 IsFirstKept m from to (Some x) =
     (line_at m x.line ≡ Some x) × (from ≤ x.line) × (x.line < to) × NoneKept m from x.line
 
--- the number of flushed stores
+-- The number of flushed stores.
 abbrev pub flushed_in : Option Kept → ℕ
 flushed_in None = 0
 flushed_in (Some k) = k.flushed
 
--- the list has each line that holds flushed stores
+-- The list has each line that holds flushed stores.
 abbrev pub AreListed : List ℕ → KeptLines → Type 0
 AreListed lines m = (j : ℕ) → 0 < flushed_in (kept_at m j) → list_any (nat_eq j) lines ≡ true
 
--- whether there are stores of which none is flushed
+-- Whether there are stores of which none is flushed.
 abbrev pub is_unflushed : Option Kept → Bool
 is_unflushed None = false
 is_unflushed (Some k) = nat_eq k.flushed 0 && not (nat_eq (length k.later) 0)

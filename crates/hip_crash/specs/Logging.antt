@@ -10,7 +10,7 @@ use Rattle.hip_crash.specs.Region.{seen_at}
 use Rattle.hip_crash.specs.Waiting.{WaitsWithin}
 use Rattle.hip_crash.specs.declared.log.CrashLog.TheInside.{Inside}
 
--- what contracts see of a log: its program, its input, and the number of steps that it noted
+-- What contracts see of a log: its program, its input, and the number of steps that it noted.
 abbrev pub view_of : Inside → Seen
 view_of c = record { program = c.checked.now; input = c.input.now; taken = c.taken }
 

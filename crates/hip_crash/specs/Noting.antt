@@ -5,7 +5,7 @@ use Rattle.hip_runs.specs.declared.event.Event.{Event}
 use Rattle.hip_runs.specs.declared.event.Event.TheVariants as events
 use Rattle.hip_crash.specs.Kept.{Kept, with_store, with_flush, with_fence}
 
--- line j of a region at a base, after a step with this event
+-- Line j of a region at a base, after a step with this event.
 abbrev pub noted : ℕ → Event → ℕ → Kept → Kept
 noted base (events.Store a v n) j k =
     cond (has_bytes j (a - base) n) (with_store (record { offset = a - base; value = v; size = n }) k) k

@@ -5,15 +5,15 @@ use Rattle.hip_crash.specs.Kept.{Kept}
 use Rattle.hip_crash.specs.KeptLines.{kept_at}
 use Rattle.hip_crash.specs.declared.kept_lines.KeptLines.{KeptLines}
 
--- line j, into which nothing was stored, of a region with these initial bytes
+-- Line j, into which nothing was stored, of a region with these initial bytes.
 abbrev pub fresh : List ℕ → ℕ → Kept
 fresh image j = record { bytes = take LINE_SIZE (drop (LINE_SIZE * j) image); least = 0; later = []; flushed = 0 }
 
--- what is kept of line j; the line with its initial bytes, and no store, if nothing is
+-- What is kept of line j; the line with its initial bytes, and no store, if nothing is.
 abbrev pub kept_or_fresh : List ℕ → ℕ → Option Kept → Kept
 kept_or_fresh image j None = fresh image j
 kept_or_fresh image j (Some k) = k
 
--- the state of line j, without a store or a flush that waits to be taken up
+-- The state of line j, without a store or a flush that waits to be taken up.
 abbrev pub now_at : KeptLines → List ℕ → ℕ → Kept
 now_at m image j = kept_or_fresh image j (kept_at m j)

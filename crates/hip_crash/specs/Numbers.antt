@@ -10,7 +10,7 @@ use Rattle.hip_crash.specs.Picks.{number_for}
 use Rattle.hip_picks.specs.declared.pick.Bounds.{Bounds}
 use Rattle.hip_picks.specs.declared.pick.Pick.{Pick}
 
--- the number that a table by lines gives line j, if it has one
+-- The number that a table by lines gives line j, if it has one.
 abbrev pub number_in : List (ℕ × ℕ) → ℕ → Option ℕ
 number_in entries j = lookup (nat_eq j) entries
 
@@ -18,17 +18,17 @@ number_in entries j = lookup (nat_eq j) entries
 pub record AreNumbers (picks : List Pick) (entries : List (ℕ × ℕ)) : Type 0 where
   pub are : (j : ℕ) → number_in entries j ≡ number_for picks j
 
--- the number of first parts lies between the bounds, or is one of them
+-- The number of first parts lies between the bounds, or is one of them.
 pub record IsBetween (bounds : Bounds) (upto : ℕ) : Type 0 where
   pub least : bounds.least ≤ upto
   pub most : upto ≤ bounds.most
 
--- an image has this many first parts in line j, if it is a crash image there
+-- An image has this many first parts in line j, if it is a crash image there.
 abbrev pub IsNumberIn : Input → List ℕ → ℕ → Line StorePart → Option ℕ → Type 0
 IsNumberIn I image j l None = (q : ℕ) → IsLineImageAt covers byte_of I.image image j l q → ⊥
 IsNumberIn I image j l (Some q) = IsLineImageAt covers byte_of I.image image j l q
 
--- an image has this many first parts in line j, or none if it is not a crash image there; nothing is required if the
--- region has no line j
+-- An image has this many first parts in line j, or none if it is not a crash image there; nothing is required if the
+-- region has no line j.
 pub record IsNumberOf (I : Input) (s : State) (image : List ℕ) (j : ℕ) (number : Option ℕ) : Type 0 where
   pub is : (l : Line StorePart) → slice_get s.lines j ≡ Some l → IsNumberIn I image j l number

@@ -10,22 +10,22 @@ use Rattle.hip_picks.specs.declared.pick.Pick.{Pick}
 use Rattle.hip_picks.specs.declared.pick.PickRefusal.{PickRefusal}
 use Rattle.hip_picks.specs.declared.pick.PickRefusal.TheVariants.{NoLine, Repeated, OutOfRange, NoMemory}
 
--- the least and the greatest number of first parts of a cache line that a crash may leave: its durable number, and its
--- length
+-- The least and the greatest number of first parts of a cache line that a crash may leave: its durable number, and its
+-- length.
 abbrev pub bounds_in : Option (Line StorePart) → Bounds
 bounds_in None = record { least = 0; most = 0 }
 bounds_in (Some l) = record { least = l.durable; most = length l.parts }
 
--- the bounds of line j in a state; 0 and 0 where the region has no such line
+-- The bounds of line j in a state; 0 and 0 where the region has no such line.
 abbrev pub bounds_of : State → ℕ → Bounds
 bounds_of s j = bounds_in (slice_get s.lines j)
 
--- the number of first parts that the first pick that names line j gives it, if one does
+-- The number of first parts that the first pick that names line j gives it, if one does.
 abbrev pub number_for : List Pick → ℕ → Option ℕ
 number_for [] j = None
 number_for (p ∷ ps) j = cond (nat_eq p.line j) (Some p.upto) (number_for ps j)
 
--- the number that was picked, or the least one if none was
+-- The number that was picked, or the least one if none was.
 abbrev pub number_or : ℕ → Option ℕ → ℕ
 number_or least None = least
 number_or least (Some upto) = upto
@@ -34,7 +34,7 @@ number_or least (Some upto) = upto
 abbrev pub picked : State → List Pick → ℕ → ℕ
 picked s picks j = number_or (bounds_of s j).least (number_for picks j)
 
--- how a number for a line fails, in the pick of that number: it is outside the line's bounds
+-- How a number for a line fails, in the pick of that number: it is outside the line's bounds.
 abbrev pub range_failure : ℕ → Bounds → ℕ → Option PickRefusal
 range_failure at bounds upto =
     cond (nat_le bounds.least upto && nat_le upto bounds.most) None (Some (OutOfRange at bounds.least bounds.most))
@@ -47,22 +47,22 @@ failure s earlier at p =
     (cond (is_some (number_for earlier p.line)) (Some (Repeated at)) (range_failure at (bounds_of s p.line) p.upto))
     (Some (NoLine at))
 
--- the first refusal or, if there is none, the later one
+-- The first refusal or, if there is none, the later one.
 abbrev pub first_of : Option PickRefusal → Option PickRefusal → Option PickRefusal
 first_of None later = later
 first_of (Some refusal) later = Some refusal
 
--- how the first failing pick after earlier ones fails, if one does
+-- How the first failing pick after earlier ones fails, if one does.
 abbrev pub failure_after : State → List Pick → List Pick → Option PickRefusal
 failure_after s earlier [] = None
 failure_after s earlier (p ∷ ps) =
     first_of (failure s earlier (suc (length earlier)) p) (failure_after s (earlier ++ p ∷ []) ps)
 
--- how the first failing pick fails, if one does
+-- How the first failing pick fails, if one does.
 abbrev pub first_failure : State → List Pick → Option PickRefusal
 first_failure s picks = failure_after s [] picks
 
--- a refusal of picks in a state; out of memory may come at any time
+-- A refusal of picks in a state; out of memory may come at any time.
 abbrev pub IsRefusal : State → List Pick → PickRefusal → Type 0
 IsRefusal s picks refusal = (refusal ≡ NoMemory) ⊎ (first_failure s picks ≡ Some refusal)
 

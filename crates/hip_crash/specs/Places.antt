@@ -5,21 +5,21 @@ use Rattle.hip_directory.specs.Directories.{number_at}
 use Rattle.hip_crash.specs.Kept.{Kept, kept_in}
 use Rattle.hip_crash.specs.declared.kept_line.KeptLine.{KeptLine}
 
--- the kept line at a place, counted from 1; none at 0
+-- The kept line at a place, counted from 1; none at 0.
 abbrev pub at_place : List KeptLine → ℕ → Option KeptLine
 at_place xs zero = None
 at_place xs (suc n) = slice_get xs n
 
--- what is kept of cache line j, if something is
+-- What is kept of cache line j, if something is.
 abbrev pub line_in : Directory → List KeptLine → ℕ → Option KeptLine
 line_in d xs j = at_place xs (number_at d j)
 
--- each kept line is there, and stands at its number
+-- Each kept line is there, and stands at its number.
 pub record ArePlaced (d : Directory) (xs : List KeptLine) : Type 0 where
   pub within : (j : ℕ) → number_at d j ≤ length xs
   pub numbered : (j : ℕ) (x : KeptLine) → line_in d xs j ≡ Some x → x.line ≡ j
 
--- what is kept at a place, counted from 0, is changed, and nothing else is
+-- What is kept at a place, counted from 0, is changed, and nothing else is.
 pub record ChangesPlace (change : Kept → Kept) (place : ℕ) (old new : List KeptLine) : Type 0 where
   pub others : (k : ℕ) → k ≢ place → slice_get new k ≡ slice_get old k
   pub count : length new ≡ length old

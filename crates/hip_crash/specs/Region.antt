@@ -6,7 +6,7 @@ use Rattle.hip_crash.specs.Waiting.{with_waiting}
 use Rattle.hip_crash.specs.declared.region_log.RegionLog.{RegionLog}
 use Rattle.hip_types.specs.declared.areas.TheConstants.{LINE_SIZE}
 
--- the state of line j of a region with these initial bytes
+-- The state of line j of a region with these initial bytes.
 unfoldable pub seen_at : RegionLog → List ℕ → ℕ → Kept
 seen_at r image j = with_waiting r.waiting j (now_at r.lines image j)
 

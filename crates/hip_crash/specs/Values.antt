@@ -3,20 +3,20 @@ use Rattle.std.specs.Prelude.{ℕ, suc, ◌+◌, ◌-◌, Bool, cond, ◌&&◌, 
 use Rattle.hip_types.specs.Bytes.{bytes_of}
 use Rattle.hip_crash.specs.declared.values.StoredValue.{StoredValue}
 
--- whether a stored value covers the byte at an offset of the region, and the value that it gives it
+-- Whether a stored value covers the byte at an offset of the region, and the value that it gives it.
 abbrev pub stored_covers : StoredValue → ℕ → Bool
 stored_covers v b = nat_le v.offset b && nat_lt b (v.offset + v.size)
 
--- the value of the byte at an offset that the stored value covers; the lowest byte is at its first offset
+-- The value of the byte at an offset that the stored value covers; the lowest byte is at its first offset.
 abbrev pub stored_byte : StoredValue → ℕ → ℕ
 stored_byte v b = slice_index (bytes_of v.size v.value) (b - v.offset)
 
--- bytes of the region, the first of which has offset b, after a value was stored
+-- Bytes of the region, the first of which has offset b, after a value was stored.
 abbrev pub bytes_with : StoredValue → ℕ → List ℕ → List ℕ
 bytes_with v b [] = []
 bytes_with v b (x ∷ xs) = cond (stored_covers v b) (stored_byte v b) x ∷ bytes_with v (suc b) xs
 
--- those bytes after these values were stored, in this order
+-- Those bytes after these values were stored, in this order.
 abbrev pub bytes_after : List StoredValue → ℕ → List ℕ → List ℕ
 bytes_after [] b xs = xs
 bytes_after (v ∷ vs) b xs = bytes_after vs b (bytes_with v b xs)

@@ -3,6 +3,6 @@ use Rattle.std.specs.Prelude.{List, ◌++◌, option_to_list}
 use Rattle.hip_crash.specs.declared.values.StoredValue.{StoredValue}
 use Rattle.hip_crash.specs.declared.views.LineView.{LineView}
 
--- the later stores, in order
+-- The later stores, in order.
 abbrev pub later_in : LineView → List StoredValue
 later_in v = v.later.now ++ option_to_list v.last

@@ -6,19 +6,19 @@ use Rattle.hip_crash.specs.declared.values.StoredValue.{StoredValue}
 use Rattle.hip_crash.specs.declared.waiting.Waiting.{Waiting}
 use Rattle.hip_crash.specs.declared.waiting.Waiting.TheVariants as waits
 
--- line j with what waits to be taken up
+-- Line j with what waits to be taken up.
 abbrev pub with_waiting : Waiting → ℕ → Kept → Kept
 with_waiting waits.Nothing j k = k
 with_waiting (waits.Store v from) j k = cond (has_bytes j v.offset v.size && nat_le from j) (with_store v k) k
 with_waiting (waits.Flush offset len) j k = cond (has_bytes j offset len) (with_flush k) k
 
--- what waits lies in the region
+-- What waits lies in the region.
 abbrev pub WaitsWithin : Waiting → List ℕ → Type 0
 WaitsWithin waits.Nothing image = Unit {0}
 WaitsWithin (waits.Store v from) image = v.offset + v.size ≤ length image
 WaitsWithin (waits.Flush offset len) image = offset + len ≤ length image
 
--- the store whose part in line j waits, if one does
+-- The store whose part in line j waits, if one does.
 abbrev pub waiting_in : Waiting → ℕ → Option StoredValue
 waiting_in (waits.Store v from) j = cond (has_bytes j v.offset v.size && nat_le from j) (Some v) None
 waiting_in _ j = None

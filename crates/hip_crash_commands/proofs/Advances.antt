@@ -14,17 +14,17 @@ use Rattle.hip_runs.specs.Step.{has_ended, run}
 use Rattle.hip_runs.specs.declared.input.Input.{Input}
 use Rattle.hip_runs.specs.Seen.{Seen, after_step, state_of}
 
--- how many steps are left at most
+-- How many steps are left at most.
 abbrev pub steps_ahead : Program → Input → ℕ → ℕ
 steps_ahead P I n = (runs_end P I).0 - n
 
--- the run has taken n steps, and before each of them it had fewer entries
+-- The run has taken n steps, and before each of them it had fewer entries.
 pub record IsBefore (P : Program) (I : Input) (entry : ℕ) (m : Seen) : Type 0 where
   pub program : m.program ≡ P
   pub input : m.input ≡ I
   pub least : (k : ℕ) → k < m.taken → (run P I k).counts.entries < entry
 
--- the run comes to the entry
+-- The run comes to the entry.
 pub comes : (P : Program) (I : Input) (entry : ℕ) → HasEntry P I entry → (n : ℕ) × IsAtEntry P I entry n
 comes P I entry has =
     let steps = has.counted.is_trace.steps in
@@ -88,14 +88,14 @@ module _ {P : Program} {I : Input} {entry : ℕ} (has : HasEntry P I entry) {m :
       go n ended (inr (inl less)) = less
       go n ended (inr (inr more)) = absurd (no n ended (omega (arith, more)))
 
--- the entries that a log counts are those of the run
+-- The entries that a log counts are those of the run.
 pub counts_of : (start m : Seen) (entry : ℕ) → IsBefore start.program start.input entry m
     → (state_of m).counts.entries ≡ (run start.program start.input m.taken).counts.entries
 counts_of start m entry is =
     ap (λ (p : Program). (run p m.input m.taken).counts.entries) is.program
     ∙ ap (λ (i : Input). (run start.program i m.taken).counts.entries) is.input
 
--- the state of a log that reaches the entry is the one at it
+-- The state of a log that reaches the entry is the one at it.
 pub stands : (start m : Seen) (entry : ℕ) → HasEntry start.program start.input entry → Reaches start m entry
     → StandsAt m.program m.input entry (state_of m)
 stands start m entry has r =

@@ -35,7 +35,7 @@ use Rattle.hip_runs.specs.declared.report.Findings.{Findings}
 use Rattle.hip_trace.specs.Texts.{lines_of}
 use Rattle.hip_trace.specs.declared.entry.Entry.{Entry}
 
--- picks of which none fails give a crash image
+-- Picks of which none fails give a crash image.
 abbrev FitsGive : Type 0
 FitsGive =
     (P : Program) (I : Input) (n : ℕ) (ps : List Pick) → IsValid P I → first_failure (run P I n) ps ≡ None
@@ -50,7 +50,7 @@ no_ending (endings.Stop code) e = cc
 no_ending (endings.Trap kind) e = cc
 no_ending endings.Cut e = cc
 
--- the trace of a run, as an answer
+-- The trace of a run, as an answer.
 given : (P : Program) (I : Input) → (a : Answer) × (a.status ≢ statuses.ReadFault) × GivesTrace P I a
 given P I = by_end (run P I traced.1.steps).world.ending refl
   where
@@ -78,7 +78,7 @@ module _ (fits : FitsGive) (P : Program) (I : Input) (valid : IsValid P I) (entr
   refuse why cause =
       (refusal (status_of_refusal why), no_fault why, inl (record { why = why; cause = cause; is = refl }))
 
-  -- the trace has the entry
+  -- The trace has the entry.
   at_entry : HasEntry P I entry → (a : Answer) × (a.status ≢ statuses.ReadFault) × CrashTexts entry ps P I found a
   at_entry has = by_picks (first_failure state ps) refl
     where

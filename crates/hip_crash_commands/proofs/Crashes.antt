@@ -24,7 +24,7 @@ use Rattle.hip_runs.specs.Seen.{Seen}
 
 -- ---- images
 
--- a refusal of picks at an entry
+-- A refusal of picks at an entry.
 pub unpicked : (P : Program) (I : Input) (entry : ℕ) (ps : List Pick) (state : State) (why : PickRefusal)
     → StandsAt P I entry state → IsRefusal state ps why → PicksImage P I entry ps (Err (failure_of_picks why))
 unpicked P I entry ps state picks.NoMemory at r = tt {0}
@@ -36,7 +36,7 @@ unpicked P I entry ps state (picks.NoLine n) at (inl e) = absurd (let z : ⊥ = 
 unpicked P I entry ps state (picks.Repeated n) at (inl e) = absurd (let z : ⊥ = cc in z)
 unpicked P I entry ps state (picks.OutOfRange n least most) at (inl e) = absurd (let z : ⊥ = cc in z)
 
--- what a log that reached the entry gives is of the run
+-- What a log that reached the entry gives is of the run.
 pub of_run : (start m : Seen) (entry : ℕ) (ps : List Pick) (result : Result (List ℕ) (Failure ImageRefusal))
     → Reaches start m entry → PicksImage m.program m.input entry ps result
     → PicksImage start.program start.input entry ps result

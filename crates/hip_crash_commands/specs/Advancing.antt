@@ -3,7 +3,7 @@ use Rattle.std.specs.Prelude.{ℕ, ◌≡◌}
 use Rattle.hip_runs.specs.Entry.{IsAtEntry}
 use Rattle.hip_runs.specs.Seen.{Seen}
 
--- the steps of the same run up to the first state with n entries are taken
+-- The steps of the same run up to the first state with n entries are taken.
 pub record Reaches (old new : Seen) (entry : ℕ) : Type 0 where
   pub program : new.program ≡ old.program
   pub input : new.input ≡ old.input

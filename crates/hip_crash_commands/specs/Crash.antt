@@ -24,11 +24,11 @@ pub record HasCrashed (P : Program) (I : Input) (entry : ℕ) (picks : List Pick
   pub image : HasImage P I entry picks content
   pub recorded : GivesTrace P (begun_with I content) answer
 
--- what the answer has, by the program and the input of the traced run; the findings of that run play no part
+-- What the answer has, by the program and the input of the traced run; the findings of that run play no part.
 abbrev pub CrashTexts : ℕ → List Pick → Program → Input → Findings → Answer → Type 0
 CrashTexts entry picks P I found answer = IsUnpicked P I entry picks answer ⊎ HasCrashed P I entry picks answer
 
--- the answers of `crash`: no program, no trace of a run of it, no image at the entry, or the trace of the run from it
+-- The answers of `crash`: no program, no trace of a run of it, no image at the entry, or the trace of the run from it.
 abbrev pub CrashAnswers : CabinetState → CabinetState → List ℕ → List ℕ → ℕ → List Pick → Answer
     → Type 0
 CrashAnswers old new program_name trace_name entry picks answer =

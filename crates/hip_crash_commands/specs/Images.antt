@@ -22,18 +22,18 @@ use Rattle.hip_trace.specs.declared.entry.Entry.{Entry}
 
 -- ---- entries
 
--- the trace of the run has n entries
+-- The trace of the run has n entries.
 pub record HasEntries (P : Program) (I : Input) (entries : ℕ) : Type 0 where
   pub trace : List Entry
   pub is_trace : IsTrace P I trace
   pub many : entries ≡ length trace
 
--- the trace of the run has `entries` entries, and none of that number, counted from 1
+-- The trace of the run has `entries` entries, and none of that number, counted from 1.
 pub record LacksEntry (P : Program) (I : Input) (entry entries : ℕ) : Type 0 where
   pub counted : HasEntries P I entries
   pub outside : (entry ≡ 0) ⊎ (entries < entry)
 
--- the trace of the run has an entry of that number, counted from 1
+-- The trace of the run has an entry of that number, counted from 1.
 pub record HasEntry (P : Program) (I : Input) (entry : ℕ) : Type 0 where
   pub entries : ℕ
   pub counted : HasEntries P I entries
@@ -50,7 +50,7 @@ pub record StandsAt (P : Program) (I : Input) (entry : ℕ) (s : State) : Type 0
 
 -- ---- images
 
--- the input, with other initial bytes of the region
+-- The input, with other initial bytes of the region.
 abbrev pub begun_with : Input → List ℕ → Input
 begun_with I content = record I { image = content }
 
@@ -63,36 +63,36 @@ pub record HasImage (P : Program) (I : Input) (entry : ℕ) (ps : List Pick) (co
   pub image : IsCrashImage I state content
   pub valid : IsValid P (begun_with I content)
 
--- at the entry, the first pick that fails does so in this way
+-- At the entry, the first pick that fails does so in this way.
 pub record LacksPick (P : Program) (I : Input) (entry : ℕ) (ps : List Pick) (why : PickRefusal) : Type 0 where
   pub state : State
   pub at : StandsAt P I entry state
   pub failure : first_failure state ps ≡ Some why
 
--- why there is no image: the trace has no such entry, else a pick fails
+-- Why there is no image: the trace has no such entry, else a pick fails.
 abbrev pub HasNoImage : Program → Input → ℕ → List Pick → ImageRefusal → Type 0
 HasNoImage P I entry ps (images.NoEntry entries) = LacksEntry P I entry entries
 HasNoImage P I entry ps (images.BadPick why) = LacksPick P I entry ps why
 
 -- ---- what is answered
 
--- the status that says why there is no image
+-- The status that says why there is no image.
 abbrev pub status_of_refusal : ImageRefusal → Status
 status_of_refusal (images.NoEntry entries) = statuses.NoEntry entries
 status_of_refusal (images.BadPick why) = statuses.BadPick why
 
--- the same, or a fault that is no refusal; picking never gives a read fault
+-- The same, or a fault that is no refusal; picking never gives a read fault.
 abbrev pub status_of_image : Failure ImageRefusal → Status
 status_of_image (failures.Refused why) = status_of_refusal why
 status_of_image failures.ReadFault = statuses.ReadFault
 status_of_image failures.NoMemory = statuses.NoMemory
 
--- a refusal of picks, which may be out of memory
+-- A refusal of picks, which may be out of memory.
 abbrev pub failure_of_picks : PickRefusal → Failure ImageRefusal
 failure_of_picks picks.NoMemory = failures.NoMemory
 failure_of_picks why = failures.Refused (images.BadPick why)
 
--- what picking an image at an entry answers; out of memory may come anywhere
+-- What picking an image at an entry answers; out of memory may come anywhere.
 abbrev pub PicksImage : Program → Input → ℕ → List Pick → Result (List ℕ) (Failure ImageRefusal) → Type 0
 PicksImage P I entry ps (Ok content) = HasImage P I entry ps content
 PicksImage P I entry ps (Err (failures.Refused why)) = HasNoImage P I entry ps why

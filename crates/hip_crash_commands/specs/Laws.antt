@@ -13,17 +13,17 @@ use Rattle.hip_answers.specs.RunLaws.{FaultsHideNone, GivesOne}
 use Rattle.hip_answers.specs.TraceFiles.{IsTraceFile}
 use Rattle.hip_runs.specs.declared.input.Input.{Input}
 
--- where the files are known, two answers on them are the same, unless one of them is a read fault
+-- Where the files are known, two answers on them are the same, unless one of them is a read fault.
 abbrev pub CrashesAreOne : Type 0
 CrashesAreOne = (entry : ℕ) → (picks : List Pick) → GivesOne (CrashTexts entry picks)
 
--- where the trace's file is current after a read fault, and is not the program's, the bytes that were taken from it
--- show no misfit
+-- Where the trace's file is current after a read fault, and is not the program's, the bytes that were taken from it
+-- show no misfit.
 abbrev pub CrashFaultsHideNone : Type 0
 CrashFaultsHideNone = (entry : ℕ) → (picks : List Pick) → FaultsHideNone (CrashTexts entry picks)
 
--- where one file has a program and the other is the trace of a run of it, and no file is missing and no read fails,
--- there is an answer, which is no read fault
+-- Where one file has a program and the other is the trace of a run of it, and no file is missing and no read fails,
+-- there is an answer, which is no read fault.
 abbrev pub CrashesAreAnswered : Type 0
 CrashesAreAnswered =
     (files : List NamedFile) → (old new : CabinetState) → (p t : List ℕ) → (P : Program) → (I : Input)

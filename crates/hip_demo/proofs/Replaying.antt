@@ -28,14 +28,14 @@ NoMisfits =
     (P : Program) → (bytes : List ℕ) → (I : Input) → (e : ℕ) → (k : MisfitKind) → IsTraceOf P bytes I
     → IsMisfit P bytes true e k → ⊥
 
--- the files of a cabinet with the one file `trace`
+-- The files of a cabinet with the one file `trace`.
 abbrev pub one_file : List ℕ → List NamedFile
 one_file text = record { name = codes "trace"; bytes = text } ∷ []
 
 found_there : (text : List ℕ) → file_of (one_file text) (codes "trace") ≡ Some text
 found_there text = refl
 
--- and its whole text is ahead
+-- And its whole text is ahead.
 pub ahead_is : (files : List NamedFile) (text : List ℕ) (new : CabinetState) → files ≡ one_file text
     → IsFirstFile files (codes "trace") new → new.rest ≡ Some text
 ahead_is files text new same h =

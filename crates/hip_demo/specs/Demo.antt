@@ -23,12 +23,12 @@ use Rattle.hip_types.specs.declared.limits.TheConstants.{LOWEST_BASE}
 
 -- ---- the text
 
--- `seed D size Z`, on a line
+-- `seed D size Z`, on a line.
 abbrev pub first_line : ℕ → ℕ → List ℕ
 first_line seed size = codes "seed " ++ decimal seed ++ codes " size " ++ decimal size ++ codes "\n"
 
--- the seed and the size; the entries of the run's trace; the five counts of its repair; the entries of the repaired
--- program's trace; and the reports of its run
+-- The seed and the size; the entries of the run's trace; the five counts of its repair; the entries of the repaired
+-- program's trace; and the reports of its run.
 abbrev pub demo_text : ℕ → ℕ → Shown → List ℕ
 demo_text seed size shown =
     first_line seed size ++ count_line (codes "entries") shown.entries
@@ -59,7 +59,7 @@ pub record HasShown (P : Program) (I : Input) (shown : Shown) : Type 0 where
     after = length after.reports;
   }
 
--- the input of a run that begins with the initialisers' bytes, and is given no numbers, base or limit
+-- The input of a run that begins with the initialisers' bytes, and is given no numbers, base or limit.
 abbrev pub demo_input : ℕ → ℕ → Input
 demo_input seed size = first_input (generated_program seed size) LOWEST_BASE DEFAULT_LIMIT []
 
@@ -74,6 +74,6 @@ pub record HasDemonstrated (seed size : ℕ) (old new : CabinetState) (answer : 
   pub out_is : answer.out ≡ demo_text seed size shown
   pub notes_is : answer.notes ≡ []
 
--- the answers of `demo`; none is a refusal, since it reads no file
+-- The answers of `demo`; none is a refusal, since it reads no file.
 abbrev pub DemoAnswers : ℕ → ℕ → CabinetState → CabinetState → Answer → Type 0
 DemoAnswers = HasDemonstrated

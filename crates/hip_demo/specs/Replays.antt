@@ -10,7 +10,7 @@ use Rattle.hip_runs.specs.declared.input.Input.{Input}
 use Rattle.hip_trace.specs.Texts.{lines_of}
 use Rattle.hip_trace.specs.declared.entry.Entry.{Entry}
 
--- the text is the trace of the run, and what the run found and how many entries it has is known
+-- The text is the trace of the run, and what the run found and how many entries it has is known.
 pub record HasKept (P : Program) (I : Input) (kept : Kept) : Type 0 where
   pub trace : List Entry
   pub is_trace : IsTrace P I trace
@@ -18,13 +18,13 @@ pub record HasKept (P : Program) (I : Input) (kept : Kept) : Type 0 where
   pub entries : kept.recorded.entries ≡ length trace
   pub found : IsFound P I kept.recorded.findings
 
--- the text is the trace of the run on this input, which found this
+-- The text is the trace of the run on this input, which found this.
 pub record HasReplayed (P : Program) (text : List ℕ) (replayed : Replayed) : Type 0 where
   pub traced : IsTraceOf P text replayed.input
   pub found : IsFound P replayed.input replayed.findings
   pub entries : replayed.entries ≡ length traced.trace
 
--- the run on the input was recorded and replayed, and found this
+-- The run on the input was recorded and replayed, and found this.
 pub record HasFound (P : Program) (I : Input) (replayed : Replayed) : Type 0 where
   pub input_is : replayed.input ≡ I
   pub found : IsFound P I replayed.findings

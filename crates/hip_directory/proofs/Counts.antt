@@ -4,7 +4,7 @@ use Rattle.hip_directory.specs.declared.directory.Directory.{Directory}
 use Rattle.hip_directory.specs.Directories.{number_at, NoneSet}
 use Rattle.hip_directory.specs.Tables.{number_in, set_once, count_set}
 
--- the number that was read
+-- The number that was read.
 pub index-read : (xs : List ℕ) (i x : ℕ) → i < length xs → x ≡ get_or xs i x → x ≡ slice_index xs i
 index-read [] i x h e = absurd (omega (arith, h))
 index-read (y ∷ xs) zero x h e = e
@@ -42,7 +42,7 @@ none-there : (n : ℕ) → (0 < n → ⊥) → n ≡ 0
 none-there zero h = refl
 none-there (suc n) h = absurd (h (omega arith))
 
--- where no entry is set no key is
+-- Where no entry is set no key is.
 pub none-set : (d : Directory) (from to : ℕ) → count_set d.entries.items ≡ 0 → NoneSet d from to
 unfolding number_at number_in
 none-set d from to e j low high = none-there (slice_index d.entries.items (64 * slice_index d.groups.items (j / 64) + j % 64)) (λ p. let c = count-there d.entries.items (64 * slice_index d.groups.items (j / 64) + j % 64) p in omega (arith, c, e))

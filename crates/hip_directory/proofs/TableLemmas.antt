@@ -23,7 +23,7 @@ table-same gs gs' es h f = record {
 
 -- ---- a group is made
 
--- the places of groups after one is made
+-- The places of groups after one is made.
 made : (gs : List ℕ) (at c i : ℕ) → at < length gs → ((i ≡ at) × (slice_index (slice_set gs at c) i ≡ c)) ⊎ ((i ≢ at) × (slice_index (slice_set gs at c) i ≡ slice_index gs i))
 made gs at c i lt = go (equal_or_not i at)
   where

@@ -2,11 +2,11 @@
 use Rattle.std.specs.Prelude.{◌≡◌, ◌≢◌, ℕ, zero, suc, ◌+◌, ◌*◌, ◌/◌, ◌%◌, ◌<◌, ◌≤◌, List, [], ◌∷◌, length, slice_index}
 use Rattle.hip_directory.specs.declared.TheConstants.{GROUP_SIZE}
 
--- the entry of a key; the first group, of zeros, has the entries of all keys whose group was not made
+-- The entry of a key; the first group, of zeros, has the entries of all keys whose group was not made.
 unfoldable pub number_in : List ℕ → List ℕ → ℕ → ℕ
 number_in groups entries k = slice_index entries (GROUP_SIZE * slice_index groups (k / GROUP_SIZE) + k % GROUP_SIZE)
 
--- the entries are whole groups; the first group is zeros, and each other group belongs to one group of keys
+-- The entries are whole groups; the first group is zeros, and each other group belongs to one group of keys.
 pub record IsTable (groups entries : List ℕ) : Type 0 where
   pub whole : length entries % GROUP_SIZE ≡ 0
   pub within : (i : ℕ) → GROUP_SIZE * slice_index groups i + GROUP_SIZE ≤ length entries
@@ -18,7 +18,7 @@ abbrev pub set_once : ℕ → ℕ
 set_once zero = 0
 set_once (suc n) = 1
 
--- how many numbers of a list are not 0
+-- How many numbers of a list are not 0.
 abbrev pub count_set : List ℕ → ℕ
 count_set [] = 0
 count_set (x ∷ xs) = set_once x + count_set xs

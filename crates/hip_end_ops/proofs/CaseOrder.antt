@@ -30,7 +30,7 @@ abbrev head_edge : List Case → ℕ → ℕ
 head_edge [] other = other
 head_edge (c ∷ cs) other = c.edge
 
--- the first of the cases with a value is the first of those that tie with it
+-- The first of the cases with a value is the first of those that tie with it.
 by_ties : (v other : ℕ) (cs : List Case) → case_edge v cs other ≡ head_edge (filter (ties below (record { value = v; edge = 0 })) cs) other
 by_ties v other [] = refl
 by_ties v other (c ∷ cs) =

@@ -131,7 +131,7 @@ moves_all s t u from ps k le m = subst (Moves s t u from) (all ps k le) m
     all (x ∷ xs) zero le = absurd (let q : ⊥ = omega (arith, le) in q)
     all (x ∷ xs) (suc k) le = ap (λ l. x ∷ l) (all xs k (omega (arith, le)))
 
--- what is known of the phi at a place
+-- What is known of the phi at a place.
 pub phi_at : (ps : List Phi) (k : ℕ) (p : Phi) → k < length ps → p ≡ get_or ps k p → slice_get ps k ≡ Some p
 phi_at ps k p lt is = slice_get-get_or ps k p lt ∙ ap Some (sym is)
 
@@ -232,7 +232,7 @@ block_here s d b block h = subst (λ o. slice_get (blocks_in o) b ≡ Some block
 pub is_at : (s : Scope) → Describes s → (b : ℕ) (block : Block) → block_at s.program.now s.number b ≡ Some block → IsBlockAt s.program.now s.number b s.function.now block
 is_at s d b block h = record { function = d.function; block_is = block_here s d b block h }
 
--- the label that an end names is that of a block
+-- The label that an end names is that of a block.
 pub label_known : (s : Scope) → Describes s → (source : Source) → IsSource s source → (label : List ℕ) → IsAmong (end_labels source.block.now.«end») label → IsAmong (map (λ b. b.label) (blocks_of s.program.now s.number)) label
 label_known s d source src label h =
     subst (λ o. IsAmong (map (λ b. b.label) (blocks_in o)) label) (sym d.function)

@@ -14,11 +14,11 @@ use Rattle.hip_scope.specs.Scopes.{names_of}
 use Rattle.hip_end_ops.specs.declared.edges.Source.{Source}
 use Rattle.hip_scope.specs.declared.scope.Scope.{Scope}
 
--- the moves are those of phis of the function, for control from a label, one for each phi
+-- The moves are those of phis of the function, for control from a label, one for each phi.
 abbrev pub moves_of : Scope → Tables → List ℕ → List Move → List Phi → Type 0
 moves_of s t from ms ps = are_moves s.program.now.globals s.base (names_of s) t.constants from ms ps
 
--- moves for phis are put into the table; no edge and no case is
+-- Moves for phis are put into the table; no edge and no case is.
 pub record Moves (s : Scope) (t u : Tables) (from : List ℕ) (ps : List Phi) : Type 0 where
   pub moves : List Move
   pub are : u.moves ≡ t.moves ++ moves
@@ -26,7 +26,7 @@ pub record Moves (s : Scope) (t u : Tables) (from : List ℕ) (ps : List Phi) : 
   pub edges : u.edges ≡ t.edges
   pub cases : u.cases ≡ t.cases
 
--- the edge of that number leads from a block of the function to another
+-- The edge of that number leads from a block of the function to another.
 pub record Leads (s : Scope) (t : Tables) (b number target : ℕ) : Type 0 where
   pub edge : Edge
   pub here : slice_get t.edges number ≡ Some edge
@@ -36,28 +36,28 @@ pub record Leads (s : Scope) (t : Tables) (b number target : ℕ) : Type 0 where
   pub moves : moves_of s t (label_of (block_at s.program.now s.number b)) (entries_of edge.moves t.moves)
       (phis_of (block_at s.program.now s.number target))
 
--- each edge from that number on leads from the block
+-- Each edge from that number on leads from the block.
 pub record LeadFrom (s : Scope) (b first : ℕ) (t : Tables) : Type 0 where
   pub at : (k : ℕ) (e : Edge) → first ≤ k → slice_get t.edges k ≡ Some e → (u : Tables) → Grows t u
       → Leads s u b k e.block
 
--- the edge of that number leads to the block with a label
+-- The edge of that number leads to the block with a label.
 pub record LeadsTo (s : Scope) (t : Tables) (b number : ℕ) (label : List ℕ) : Type 0 where
   pub target : ℕ
   pub numbered : block_number (blocks_of s.program.now s.number) label ≡ Some target
   pub leads : Leads s t b number target
 
--- the block of that number ends with labels of blocks, and has operands for the phis of these
+-- The block of that number ends with labels of blocks, and has operands for the phis of these.
 pub record IsSource (s : Scope) (source : Source) : Type 0 where
   pub here : block_at s.program.now s.number source.number ≡ Some source.block.now
 
--- control may go to the block of that number
+-- Control may go to the block of that number.
 pub record IsTarget (s : Scope) (source : Source) (target : ℕ) : Type 0 where
   pub block : Block
   pub here : block_at s.program.now s.number target ≡ Some block
   pub known : PhisKnown (names_of s) source.block.now.label block.phis
 
--- an edge is put at the end of the table
+-- An edge is put at the end of the table.
 pub record NewEdge (s : Scope) (t u : Tables) (b number target : ℕ) : Type 0 where
   pub edge : Edge
   pub number_is : number ≡ length t.edges
@@ -66,13 +66,13 @@ pub record NewEdge (s : Scope) (t u : Tables) (b number target : ℕ) : Type 0 w
   pub cases : u.cases ≡ t.cases
   pub makes : Makes t u (λ v. Leads s v b number target)
 
--- there is an edge to the block with a label
+-- There is an edge to the block with a label.
 pub record HasEdge (s : Scope) (t u : Tables) (source : Source) (number : ℕ) (label : List ℕ) : Type 0 where
   pub lead : LeadFrom s source.number source.first u
   pub cases : u.cases ≡ t.cases
   pub makes : Makes t u (λ v. LeadsTo s v source.number number label)
 
--- an edge from the block to this target was put into the table earlier
+-- An edge from the block to this target was put into the table earlier.
 pub record Earlier (t : Tables) (first target number : ℕ) : Type 0 where
   pub edge : Edge
   pub from : first ≤ number

@@ -15,31 +15,31 @@ use Rattle.hip_scope.specs.Scopes.{Ends}
 use Rattle.hip_end_ops.specs.declared.edges.Source.{Source}
 use Rattle.hip_scope.specs.declared.scope.Scope.{Scope}
 
--- the op resolves the end of a block
+-- The op resolves the end of a block.
 pub record EndsHere (s : Scope) (t u : Tables) (source : Source) (o : Op) : Type 0 where
   pub end_is : is_end o ≡ true
   pub makes : Makes t u (λ v. Ends s.program.now s.base s.number source.number v o source.block.now.«end»)
 
--- the cases are those of the program, in its order, each with its value and an edge that leads to its label
+-- The cases are those of the program, in its order, each with its value and an edge that leads to its label.
 abbrev pub are_cases : (ℕ → List ℕ → Type 0) → List Case → List named_case.Case → Type 0
 are_cases Leads [] [] = Unit {0}
 are_cases Leads [] (d ∷ ds) = ⊥
 are_cases Leads (c ∷ cs) [] = ⊥
 are_cases Leads (c ∷ cs) (d ∷ ds) = (c.value ≡ d.value.value) × Leads c.edge d.label × are_cases Leads cs ds
 
--- each case has an edge
+-- Each case has an edge.
 pub record HasCases (s : Scope) (t u : Tables) (source : Source) (cs : List Case)
     (ds : List named_case.Case) : Type 0 where
   pub makes : Makes t u (λ v. are_cases (LeadsTo s v source.number) cs ds)
   pub lead : LeadFrom s source.number source.first u
 
--- the same cases in ascending order of value; of those with the same value the first one stays the first
+-- The same cases in ascending order of value; of those with the same value the first one stays the first.
 pub record IsSorted (cs sorted : List Case) : Type 0 where
   pub ascend : IsNonDecreasingBy (λ c. c.value) sorted
   pub same : IsPermutation cs sorted
   pub first : (v other : ℕ) → case_edge v sorted other ≡ case_edge v cs other
 
--- the cases are put at the end of the table, in ascending order of value
+-- The cases are put at the end of the table, in ascending order of value.
 pub record PutsCases (t u : Tables) (cs : List Case) (span : Span) : Type 0 where
   pub sorted : List Case
   pub is : IsSorted cs sorted
@@ -47,7 +47,7 @@ pub record PutsCases (t u : Tables) (cs : List Case) (span : Span) : Type 0 wher
   pub from : span.from ≡ length t.cases
   pub count : span.count ≡ length sorted
 
--- the block's end names the labels of the cases
+-- The block's end names the labels of the cases.
 pub record CasesNamed (source : Source) (ds : List named_case.Case) : Type 0 where
   pub at : (k : ℕ) (d : named_case.Case) → slice_get ds k ≡ Some d
       → IsAmong (end_labels source.block.now.«end») d.label

@@ -19,7 +19,7 @@ use Rattle.hip_engine.proofs.Runs.{ending_are}
 
 -- ---- steps
 
--- a step without an event at such an op is plain
+-- A step without an event at such an op is plain.
 pub plain_here : {P : Program} {I : Input} {code : Code} {core : Core} → IsOnItsWay P I code core → core.ending ≡ None → (o : Op) → slice_get code.ops.items core.top.place ≡ Some o → is_plain_op o ≡ true
     → event P I (run P I core.taken) ≡ events.Quiet → IsPlain (seen_of P I core)
 plain_here r going o here plain quiet = record {
@@ -30,14 +30,14 @@ plain_here r going o here plain quiet = record {
 
 -- ---- passes
 
--- no step
+-- No step.
 pub passes_none : (m : Seen) → PassesPlainly m 0 m
 passes_none m = record {
   is = ap (λ n. record m { taken = n }) (let e : m.taken ≡ m.taken + 0 = omega arith in e);
   plain = λ n lt. absurd (let z : ⊥ = omega (arith, lt) in z);
 }
 
--- a step more
+-- A step more.
 pub passes_next : (old mid : Seen) (k : ℕ) → PassesPlainly old k mid → IsPlain mid → PassesPlainly old (k + 1) (record mid { taken = mid.taken + 1 })
 passes_next old mid k p next = record {
   is = ap (λ (m : Seen). record m { taken = m.taken + 1 }) p.is ∙ ap (λ n. record old { taken = n }) (let e : old.taken + k + 1 ≡ old.taken + (k + 1) = omega arith in e);
@@ -51,13 +51,13 @@ passes_next old mid k p next = record {
     by n lt (inl below) = p.plain n below
     by n lt (inr past) = subst (λ i. IsPlain (after_steps old i)) (let e : k ≡ n = omega (arith, lt, past) in e) (subst IsPlain p.is next)
 
--- plain steps have no event
+-- Plain steps have no event.
 pub passes_quietly : (old new : Seen) (k : ℕ) → PassesPlainly old k new → GoesQuietly old new
 passes_quietly old new k p = record { steps = k; is = p.is; quiet = λ n lt. (p.plain n lt).quiet }
 
 -- ---- turns
 
--- a plain op is a turn
+-- A plain op is a turn.
 pub plain_turn : (o : Op) → is_plain_op o ≡ true → op_turn o ≡ true
 plain_turn (ops.Value dest value) e = refl
 plain_turn (ops.Memory (memories.Load dest width align addr)) e = refl

@@ -11,24 +11,24 @@ use Rattle.hip_engine.specs.declared.here.Here.{Here}
 use Rattle.hip_engine.specs.declared.reach.Reach.{Reach}
 use Rattle.hip_engine.specs.declared.reach.Reach.TheVariants as reaches
 
--- no event is out of reach
+-- No event is out of reach.
 pub quiet_allowed : (reach : Reach) → allows reach events.Quiet
 quiet_allowed reaches.Plain = refl
 quiet_allowed reaches.Quiet = refl
 quiet_allowed reaches.Silent = refl
 
--- none that is within reach prints or ends the run
+-- None that is within reach prints or ends the run.
 pub allowed_silent : (reach : Reach) (e : Event) → allows reach e → is_silent e ≡ true
 allowed_silent reaches.Plain e a = ap is_silent a
 allowed_silent reaches.Quiet e a = ap is_silent a
 allowed_silent reaches.Silent e a = a
 
--- one of two silent events is silent
+-- One of two silent events is silent.
 pub silent_either : (b : Bool) (x y : Event) → is_silent x ≡ true → is_silent y ≡ true → is_silent (cond b x y) ≡ true
 silent_either true x y p q = p
 silent_either false x y p q = q
 
--- a plain step is within any reach
+-- A plain step is within any reach.
 pub plain_within : {code : Code} {old new : Core} {from to : Here} (reach : Reach) → StepsWithin reaches.Plain code old from new to → StepsWithin reach code old from new to
 plain_within {code} {old} {new} {from} {to} reach s = record {
   op = s.op;

@@ -12,18 +12,18 @@ use Rattle.hip_externs.specs.declared.call.ExternCall.TheVariants as calls
 use Rattle.hip_externs.specs.declared.call.LineEffect.{LineEffect}
 use Rattle.hip_externs.specs.declared.call.LineEffect.TheVariants as effects
 
--- what is known of an external function before it runs
+-- What is known of an external function before it runs.
 pub record ExternFunction : Type 0 where
   pub name : List ℕ
   pub ret : Option Scalar
   pub params : List Scalar
   pub effect : LineEffect
 
--- a row of the table: a name, the result if there is one, the parameters, and what it does to cache lines
+-- A row of the table: a name, the result if there is one, the parameters, and what it does to cache lines.
 abbrev external : List ℕ → Option Scalar → List Scalar → LineEffect → ExternFunction
 external name ret params effect = record { name = name; ret = ret; params = params; effect = effect }
 
--- a row of the table for a function without a result
+-- A row of the table for a function without a result.
 abbrev procedure : List ℕ → List Scalar → LineEffect → ExternFunction
 procedure name params effect = external name None params effect
 
@@ -42,50 +42,50 @@ row_of calls.PmemFlush = procedure (codes "pmem_flush") (Ptr ∷ Int W64 ∷ [])
 row_of calls.PmemPersist = procedure (codes "pmem_persist") (Ptr ∷ Int W64 ∷ []) effects.FlushAndFence
 row_of calls.PmemDrain = procedure (codes "pmem_drain") [] effects.Fence
 
--- the external function of that name
+-- The external function of that name.
 abbrev pub call_of : List ℕ → Option ExternCall
 call_of name = find (λ c. bytes_eq (row_of c).name name) CALLS
 
--- whether some external function has the name
+-- Whether some external function has the name.
 abbrev pub is_extern_name : List ℕ → Bool
 is_extern_name name = is_some (call_of name)
 
 -- ---- signatures
 
--- the type of a function's result, if it has one, and those of its parameters in order
+-- The type of a function's result, if it has one, and those of its parameters in order.
 pub record Signature : Type 0 where
   pub ret : Option Scalar
   pub params : List Scalar
 
--- the signature of an external function, by the table
+-- The signature of an external function, by the table.
 abbrev pub signature : ExternCall → Signature
 signature c = record { ret = (row_of c).ret; params = (row_of c).params }
 
--- the signature that the table has for a name; none if no external function has that name
+-- The signature that the table has for a name; none if no external function has that name.
 abbrev pub known_signature : List ℕ → Option Signature
 known_signature name = option_map signature (call_of name)
 
 -- ---- flushes, fences and turns
 
--- whether the effect flushes cache lines, with a fence after it or without
+-- Whether the effect flushes cache lines, with a fence after it or without.
 abbrev has_flush : LineEffect → Bool
 has_flush effects.Nothing = false
 has_flush effects.Flush = true
 has_flush effects.Fence = false
 has_flush effects.FlushAndFence = true
 
--- whether the effect takes a fence, after a flush or alone
+-- Whether the effect takes a fence, after a flush or alone.
 abbrev has_fence : LineEffect → Bool
 has_fence effects.Nothing = false
 has_fence effects.Flush = false
 has_fence effects.Fence = true
 has_fence effects.FlushAndFence = true
 
--- it flushes cache lines
+-- It flushes cache lines.
 abbrev pub is_flush : ExternCall → Bool
 is_flush c = has_flush (row_of c).effect
 
--- it takes a fence
+-- It takes a fence.
 abbrev pub is_fence : ExternCall → Bool
 is_fence c = has_fence (row_of c).effect
 

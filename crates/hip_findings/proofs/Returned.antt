@@ -7,7 +7,7 @@ none_stands : (levels : List Level) → length levels ≡ closed_by [] levels
 none_stands [] = refl
 none_stands (l ∷ ls) = ap suc (none_stands ls)
 
--- as no birth of a call that stands is given
+-- As no birth of a call that stands is given.
 no_births : (births : List ℕ) (levels : List Level) → length births ≡ 0 → length levels ≡ closed_by births levels
 no_births [] levels h = none_stands levels
 no_births (b ∷ bs) levels h = absurd (omega (arith, h))

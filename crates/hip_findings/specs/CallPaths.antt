@@ -5,21 +5,21 @@ use Rattle.hip_runs.specs.State.{Level}
 use Rattle.hip_findings.specs.declared.call_path.Link.{Link}
 use Rattle.hip_findings.specs.declared.call_path.Link.TheVariants.{End, Call}
 
--- the calls from a node outward, the innermost one first; none at the end
+-- The calls from a node outward, the innermost one first; none at the end.
 abbrev pub levels_in : Link → List Level
 levels_in End = []
 levels_in (Call site birth count outer) = record { call = site; birth = birth } ∷ outer.value
 
--- the innermost call of the path has the number of calls of the path
+-- The innermost call of the path has the number of calls of the path.
 abbrev pub HasCount : Link → Type 0
 HasCount End = Unit {0}
 HasCount (Call site birth count outer) = count ≡ length outer.value + 1
 
--- the sites of calls
+-- The sites of calls.
 abbrev pub call_sites : List Level → List Site
 call_sites levels = map (λ l. l.call) levels
 
--- whether the call that stands at a depth has this birth; false if there is none
+-- Whether the call that stands at a depth has this birth; false if there is none.
 abbrev pub is_birth : ℕ → Option ℕ → Bool
 is_birth birth None = false
 is_birth birth (Some b) = nat_eq b birth

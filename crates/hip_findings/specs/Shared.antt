@@ -6,7 +6,7 @@ use Rattle.hip_runs.specs.declared.report.Report.{Report}
 use Rattle.hip_findings.specs.declared.reports.CheckReports.{CheckReports}
 use Rattle.hip_findings.specs.declared.store_report.StoreReport.{StoreReport}
 
--- the report of a store at the check whose entry has that number
+-- The report of a store at the check whose entry has that number.
 abbrev pub report_at : ℕ → StoreReport → Report
 report_at check store =
     record {
@@ -18,15 +18,15 @@ report_at check store =
       closed = store.closed;
     }
 
--- the reports of checks, in their order
+-- The reports of checks, in their order.
 abbrev pub reports_of : List CheckReports → List Report
 reports_of checks = flat_map (λ c. map (report_at c.check_entry) c.stores.value) checks
 
--- the reports that are left where a check has these stores left, and these checks come after it
+-- The reports that are left where a check has these stores left, and these checks come after it.
 abbrev pub reports_left : ℕ → List StoreReport → List CheckReports → List Report
 reports_left check stores checks = map (report_at check) stores ++ reports_of checks
 
--- the sites that are left of a path: that of the store, if it was not given yet, and those of calls
+-- The sites that are left of a path: that of the store, if it was not given yet, and those of calls.
 abbrev pub sites_left : Option Site → List Site → List Site
 sites_left None calls = calls
 sites_left (Some store) calls = store ∷ calls

@@ -81,7 +81,7 @@ module _ (P : Program) where
   abbrev volatile : List (List ℕ)
   volatile = met bytes_eq [] (volatile_names P.globals)
 
-  -- each function is searched by the test of the function of its number
+  -- Each function is searched by the test of the function of its number.
   functions_tested : (f : ℕ) (xs : List Function) → ((j : ℕ) → slice_get xs j ≡ slice_get P.functions (f + j)) →
       direct_in_functions volatile f xs ≡ passing_in_functions (λ g i. stores_outside P (blocks_of P g) (Some i)) f xs
   functions_tested f [] at = refl
@@ -99,6 +99,6 @@ module _ (P : Program) where
       functions_tested 0 P.functions (λ j. ap (slice_get P.functions) (let q : j ≡ 0 + j = omega arith in q))
       ∙ walk_filtered P (λ f o. stores_outside P (blocks_of P f) o)
 
--- a site is found exactly where a direct store stands
+-- A site is found exactly where a direct store stands.
 pub found_direct : (P : Program) (s : Site) → has_site (filter (direct P) (sites_of P)) s ≡ direct P s
 found_direct P = listed P (direct P) (λ s e. ap (stores_outside P (blocks_of P s.function)) e)

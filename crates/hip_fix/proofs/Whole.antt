@@ -1,4 +1,5 @@
--- The program that one walk makes is the repaired program: the calls that the walk noted are those that inserted calls need.
+-- The program that one walk makes is the repaired program: the calls that the walk noted are those that inserted
+-- calls need.
 use Rattle.std.proofs.Common.{ℕ, suc, ◌≡◌, ◌||◌, ◌&&◌, Bool, true, false, List, [], ◌∷◌, ◌++◌, Option, Some, None, length, map, refl, ap, ◌∙◌}
 use Rattle.std.specs.Prelude.{slice_get}
 use Rattle.std.specs.List.{list_any}

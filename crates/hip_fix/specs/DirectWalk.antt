@@ -19,45 +19,45 @@ use Rattle.hip_tree.specs.declared.site.Site.{Site}
 use Rattle.hip_names.specs.Names.{is_among}
 use Rattle.hip_sites.specs.Passing.{passing_in_blocks}
 
--- the names of the volatile globals, in their order
+-- The names of the volatile globals, in their order.
 abbrev pub volatile_names : List GlobalVar → List (List ℕ)
 volatile_names [] = []
 volatile_names (g ∷ gs) = cond g.persistent (volatile_names gs) (g.name ∷ volatile_names gs)
 
--- the register that an `alloca` assigns
+-- The register that an `alloca` assigns.
 abbrev pub allocated : Instr → List (List ℕ)
 allocated (Alloca dest ty align) = dest ∷ []
 allocated _ = []
 
--- the registers that the `alloca` of a body assign, in their order
+-- The registers that the `alloca` of a body assign, in their order.
 abbrev pub body_allocas : List Instr → List (List ℕ)
 body_allocas is = flat_map allocated is
 
--- the registers that the `alloca` of blocks assign, in their order
+-- The registers that the `alloca` of blocks assign, in their order.
 abbrev pub alloca_names : List Block → List (List ℕ)
 alloca_names blocks = flat_map (λ b. body_allocas b.body) blocks
 
--- the constant is the name of one of these globals, and no `getelementptr`
+-- The constant is the name of one of these globals, and no `getelementptr`.
 abbrev pub names_one_of : List (List ℕ) → Const-F Const ConstGep TypedConst → Bool
 names_one_of volatile (Const-F.Address name) = is_among volatile name
 names_one_of volatile _ = false
 
--- an address is one of these registers, or the name of one of these globals
+-- An address is one of these registers, or the name of one of these globals.
 abbrev pub lies_by : List (List ℕ) → List (List ℕ) → Operand → Bool
 lies_by volatile registers (Reg name) = is_among registers name
 lies_by volatile registers (Fixed value) = names_one_of volatile (out-Const value)
 
--- the instruction is a store whose address is one of these registers or globals
+-- The instruction is a store whose address is one of these registers or globals.
 abbrev pub stores_by : List (List ℕ) → List (List ℕ) → Instr → Bool
 stores_by volatile registers (Store ty value addr align) = lies_by volatile registers addr
 stores_by volatile registers _ = false
 
--- the sites of such stores of function f, by the registers that its own `alloca` assign
+-- The sites of such stores of function f, by the registers that its own `alloca` assign.
 abbrev pub direct_in_function : List (List ℕ) → ℕ → Function → List Site
 direct_in_function volatile f x =
     passing_in_blocks (stores_by volatile (met bytes_eq [] (alloca_names x.blocks))) f 0 x.blocks
 
--- the same for a list of functions, the first of which has number f
+-- The same for a list of functions, the first of which has number f.
 abbrev pub direct_in_functions : List (List ℕ) → ℕ → List Function → List Site
 direct_in_functions volatile f [] = []
 direct_in_functions volatile f (x ∷ xs) =

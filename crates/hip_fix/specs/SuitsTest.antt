@@ -11,33 +11,33 @@ use Rattle.hip_runs.specs.Sites.{is_flush_call, is_store}
 use Rattle.hip_repairs.specs.Suits.{site_before, is_ascending}
 use Rattle.hip_repairs.specs.declared.plan.Plan.{Plan}
 
--- the site is before the first of the list, or the list is empty
+-- The site is before the first of the list, or the list is empty.
 abbrev pub is_before_first : Site → List Site → Bool
 is_before_first s [] = true
 is_before_first s (x ∷ xs) = site_before s x
 
--- what is left of the sites without the first ones, which are before a site
+-- What is left of the sites without the first ones, which are before a site.
 abbrev pub not_before : Site → List Site → List Site
 not_before s [] = []
 not_before s (x ∷ xs) = cond (site_before x s) (not_before s xs) (x ∷ xs)
 
--- the first site of the list is this one
+-- The first site of the list is this one.
 abbrev pub begins_with : List Site → Site → Bool
 begins_with [] s = false
 begins_with (x ∷ xs) s = same_site s x
 
--- a call of a function that is not external; in a sound program that function is defined
+-- A call of a function that is not external; in a sound program that function is defined.
 abbrev pub calls_defined : Option Instr → Bool
 calls_defined (Some (Call dest ret callee args)) = is_none (call_of callee)
 calls_defined _ = false
 
--- each fenced site is a flush call or a flushed site; both lists ascend
+-- Each fenced site is a flush call or a flushed site; both lists ascend.
 abbrev pub fences_pass : Program → List Site → List Site → Bool
 fences_pass P flushes [] = true
 fences_pass P flushes (s ∷ ss) =
     (is_flush_call (instr_of P s) || begins_with (not_before s flushes) s) && fences_pass P (not_before s flushes) ss
 
--- each of the three lists of a plan ascends
+-- Each of the three lists of a plan ascends.
 abbrev pub ascend : Plan → Bool
 ascend plan = is_ascending plan.flush_after && is_ascending plan.fence_after && is_ascending plan.hoist
 

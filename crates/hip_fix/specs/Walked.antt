@@ -4,7 +4,7 @@ use Rattle.hip_tree.specs.declared.program.Program.{Program}
 use Rattle.hip_repairs.specs.Repaired.{Clone, Wanted, repaired_functions, clone_functions}
 use Rattle.hip_insertions.specs.Walk.{none_needed, noted, added, marked_functions, marked_clones}
 
--- the program with clones of the functions of these numbers after all functions, under these names
+-- The program with clones of the functions of these numbers after all functions, under these names.
 abbrev pub walked : Program → List Clone → Wanted → List ℕ → List (List ℕ) → Program
 walked P clones w fs names =
     record {

@@ -19,7 +19,7 @@ pub trace_zero : (P : Program) (I : Input) → trace P I 0 ≡ header_of I
 unfolding trace
 trace_zero P I = refl
 
--- after the header no step was taken
+-- After the header no step was taken.
 pub begins_in_step : (P : Program) (start : CabinetState) (r : ReaderState) (s : CabinetState) (begun : Begun) → HasHeader P start r s begun → IsInStep P begun.input start 0 r s begun.lockstep
 begins_in_step P start r s begun h = record {
   valid = h.valid;
@@ -29,7 +29,7 @@ begins_in_step P start r s begun h = record {
   header = h.header;
 }
 
--- a run that was followed to its end was replayed
+-- A run that was followed to its end was replayed.
 pub replayed_by : (P : Program) (start : CabinetState) (r0 r : ReaderState) (s0 s : CabinetState) (begun : Begun) (followed : Followed) → HasHeader P start r0 s0 begun → HasFound P begun.input start r s followed → HasReplayed P r start s (record { input = begun.input; findings = followed.findings; ending = followed.ending; entries = followed.entries })
 replayed_by P start r0 r s0 s begun followed h f = record {
   reading = f.over.reading;
@@ -45,6 +45,6 @@ replayed_by P start r0 r s0 s begun followed h f = record {
   progress = f.over.progress;
 }
 
--- memory ran out, after the file was read to its end
+-- Memory ran out, after the file was read to its end.
 pub stopped_over : (P : Program) (I : Input) (start : CabinetState) (n : ℕ) (r : ReaderState) (s : CabinetState) (entries : ℕ) (ending : Ending) → HasFollowed P I start n r s entries ending → HasStoppedReplay start s
 stopped_over P I start n r s entries ending h = record { reading = h.reading }

@@ -16,7 +16,7 @@ use Rattle.hip_runs.specs.declared.event.Event.{Event}
 use Rattle.hip_runs.specs.declared.input.Input.{Input}
 use Rattle.hip_trace.specs.Reads.{ReaderState}
 
--- a machine comes to its next event
+-- A machine comes to its next event.
 module _ {P : Program} {I : Input} {old new : Seen} {e : Event} (stated : IsStated P I) (is : IsGoing P I old) (c : ComesTo old new e) where
   before : IsGoing P I c.before
   before = goes_quietly is c.quiet.steps c.quiet.is c.quiet.quiet
@@ -24,7 +24,7 @@ module _ {P : Program} {I : Input} {old new : Seen} {e : Event} (stated : IsStat
   trace_there : trace P I c.before.taken ≡ trace P I old.taken
   trace_there = same_trace is c.quiet.steps c.quiet.is c.quiet.quiet
 
-  -- the event is that of the run's step there
+  -- The event is that of the run's step there.
   pub event_there : event P I (run P I c.before.taken) ≡ e
   event_there = here stated before e c.is
 
@@ -46,7 +46,7 @@ module _ {P : Program} {I : Input} {old new : Seen} {e : Event} (stated : IsStat
   pub input_there : new.input ≡ I
   input_there = ap (λ (m : Seen). m.input) c.step ∙ before.input
 
-  -- where the run goes on, fewer steps are left
+  -- Where the run goes on, fewer steps are left.
   pub nearer : (run P I (suc c.before.taken)).world.ending ≡ None → steps_ahead P I new.taken < steps_ahead P I old.taken
   nearer going =
       let less = fewer_if stated before going in
@@ -54,6 +54,6 @@ module _ {P : Program} {I : Input} {old new : Seen} {e : Event} (stated : IsStat
       let taken = taken_is is c.quiet.steps c.quiet.is c.quiet.quiet in
       omega (arith, less, next, taken)
 
-  -- where it has ended there, the machine has ended
+  -- Where it has ended there, the machine has ended.
   pub over_there : (ending : Ending) → (run P I (suc c.before.taken)).world.ending ≡ Some ending → has_ended (state_of new) ≡ true
   over_there ending ends = ap (λ (m : Seen). has_ended (state_of m)) c.step ∙ over_if stated before ending ends

@@ -33,7 +33,7 @@ pub record HasReplayed (P : Program) (r : ReaderState) (old new : CabinetState) 
   pub count : r.count ≡ length trace
   pub progress : r.progress ≡ progresses.Ended
 
--- what is known of a run whose steps were compared with the trace, from a state of the cabinet on
+-- What is known of a run whose steps were compared with the trace, from a state of the cabinet on.
 abbrev pub FollowsSteps : Program → Input → CabinetState → ReaderState → CabinetState
     → Result Ended ReplayRefusal
     → Type 0
@@ -47,15 +47,15 @@ pub record HasFound (P : Program) (I : Input) (start : CabinetState) (r : Reader
   pub over : HasFollowed P I start steps r s followed.entries followed.ending
   pub found : IsFound P I followed.findings
 
--- what is known of a run whose steps were compared with the trace and noted, from a state of the cabinet on; at the end
--- of the run also what it found
+-- What is known of a run whose steps were compared with the trace and noted, from a state of the cabinet on; at the end
+-- of the run also what it found.
 abbrev pub Follows : Program → Input → CabinetState → ReaderState → CabinetState
     → Result Followed ReplayRefusal
     → Type 0
 Follows P I start r s (Ok followed) = HasFound P I start r s followed
 Follows P I start r s (Err refusal) = Refuses P r start s refusal
 
--- what a replay of the rest of the current file does, by its answer
+-- What a replay of the rest of the current file does, by its answer.
 abbrev pub Replays : Program → ReaderState → CabinetState → CabinetState → Result Replayed ReplayRefusal
     → Type 0
 Replays P r old new (Ok replayed) = HasReplayed P r old new replayed

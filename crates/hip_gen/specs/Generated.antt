@@ -23,7 +23,7 @@ use Rattle.hip_gen.specs.Kinds.{kind}
 
 -- ---- arrays
 
--- `[LENGTH x i64]`
+-- `[LENGTH x i64]`.
 abbrev pub array_of : ℕ → Ty
 array_of length = types.Array length (types.Int W64)
 
@@ -39,7 +39,7 @@ zeroed_array name length persistent =
       align = None;
     }
 
--- `getelementptr ([LENGTH x i64], ptr @NAME, i64 0, i64 INDEX)`
+-- `getelementptr ([LENGTH x i64], ptr @NAME, i64 0, i64 INDEX)`.
 abbrev pub element : List ℕ → ℕ → ℕ → Const
 element name length index =
     consts.Gep (record {
@@ -49,25 +49,25 @@ element name length index =
       indices = bits W64 0 ∷ bits W64 index ∷ [];
     })
 
--- the element of `@data` that a group stores into: the one of its number
+-- The element of `@data` that a group stores into: the one of its number.
 abbrev pub persistent_element : ℕ → ℕ → Const
 persistent_element size group = element (codes "data") size group
 
--- the element of `@temp` that a group stores into: the one of its number modulo the length
+-- The element of `@temp` that a group stores into: the one of its number modulo the length.
 abbrev pub volatile_element : ℕ → Const
 volatile_element group = element (codes "temp") VOLATILE_LENGTH (group % VOLATILE_LENGTH)
 
 -- ---- instructions
 
--- `store i64 VALUE, ptr ELEMENT`
+-- `store i64 VALUE, ptr ELEMENT`.
 abbrev pub store : Const → ℕ → Instr
 store element value = Store (Int W64) (Fixed (consts.Int (bits W64 value))) (Fixed element) None
 
--- `call void @llvm.x86.clwb(ptr ELEMENT)`
+-- `call void @llvm.x86.clwb(ptr ELEMENT)`.
 abbrev pub flush : Const → Instr
 flush element = Call None None (codes "llvm.x86.clwb") (record { ty = Ptr; value = Fixed element } ∷ [])
 
--- `call void @put(ptr ELEMENT, i64 VALUE)`
+-- `call void @put(ptr ELEMENT, i64 VALUE)`.
 abbrev pub put : Const → ℕ → Instr
 put element value =
     Call None None (codes "put")
@@ -75,7 +75,7 @@ put element value =
     ∷ record { ty = Int W64; value = Fixed (consts.Int (bits W64 value)) }
     ∷ [])
 
--- the instructions of a group, by its kind
+-- The instructions of a group, by its kind.
 abbrev pub group_instrs : ℕ → ℕ → Kind → List Instr
 group_instrs size group kinds.Store = store (persistent_element size group) (group + 1) ∷ []
 group_instrs size group kinds.FlushedStore =
@@ -83,14 +83,14 @@ group_instrs size group kinds.FlushedStore =
 group_instrs size group kinds.PersistentCall = put (persistent_element size group) (group + 1) ∷ []
 group_instrs size group kinds.VolatileCall = put (volatile_element group) (group + 1) ∷ []
 
--- the instructions of the groups before one
+-- The instructions of the groups before one.
 abbrev pub instrs_before : ℕ → ℕ → ℕ → List Instr
 instrs_before seed size zero = []
 instrs_before seed size (suc group) = instrs_before seed size group ++ group_instrs size group (kind seed group)
 
 -- ---- functions
 
--- `define void @put(ptr %p, i64 %v) { entry: store i64 %v, ptr %p ret void }`
+-- `define void @put(ptr %p, i64 %v) { entry: store i64 %v, ptr %p ret void }`.
 abbrev pub define_put : Function
 define_put =
     record {
@@ -107,7 +107,7 @@ define_put =
           ∷ [];
     }
 
--- the one block of `main`: BODY and `ret i32 0`
+-- The one block of `main`: BODY and `ret i32 0`.
 abbrev pub main_block : List Instr → Block
 main_block body =
     record {
@@ -117,16 +117,16 @@ main_block body =
       end = Ret (Some (record { ty = Int W32; value = Fixed (consts.Int (bits W32 0)) }));
     }
 
--- `define i32 @main() { entry: BODY ret i32 0 }`
+-- `define i32 @main() { entry: BODY ret i32 0 }`.
 abbrev pub define_main : List Instr → Function
 define_main body =
     record { ret = Some (Int W32); name = codes "main"; params = []; blocks = main_block body ∷ [] }
 
--- `declare void @llvm.x86.clwb(ptr)`
+-- `declare void @llvm.x86.clwb(ptr)`.
 abbrev pub declare_clwb : Extern
 declare_clwb = record { ret = None; name = codes "llvm.x86.clwb"; params = Ptr ∷ [] }
 
--- the program of these instructions
+-- The program of these instructions.
 abbrev pub program_of : ℕ → List Instr → Program
 program_of size body =
     record {
@@ -135,6 +135,6 @@ program_of size body =
       functions = define_put ∷ define_main body ∷ [];
     }
 
--- the program for a seed and a size
+-- The program for a seed and a size.
 abbrev pub generated_program : ℕ → ℕ → Program
 generated_program seed size = program_of size (instrs_before seed size size)

@@ -5,16 +5,16 @@ use Rattle.hip_gen.specs.declared.kinds.Kind.{Kind}
 use Rattle.hip_gen.specs.declared.kinds.Kind.TheVariants.{Store, FlushedStore, PersistentCall, VolatileCall}
 use Rattle.hip_gen.specs.declared.limits.TheConstants.{SEED_END}
 
--- the number that is drawn after another one
+-- The number that is drawn after another one.
 abbrev pub next_draw : ℕ → ℕ
 next_draw draw = (1103515245 * draw + 12345) % SEED_END
 
--- the number that is drawn after n others; the seed is the first
+-- The number that is drawn after n others; the seed is the first.
 abbrev pub draw : ℕ → ℕ → ℕ
 draw seed zero = seed
 draw seed (suc n) = next_draw (draw seed n)
 
--- the kind of that number, of four
+-- The kind of that number, of four.
 abbrev pub kind_numbered : ℕ → Kind
 kind_numbered n =
     if n == 0 then Store
@@ -22,10 +22,10 @@ kind_numbered n =
     else (if n == 2 then PersistentCall
     else VolatileCall))
 
--- the lowest two bits of a draw that is shifted right by 16
+-- The lowest two bits of a draw that is shifted right by 16.
 abbrev pub kind_by : ℕ → Kind
 kind_by draw = kind_numbered (draw / 65536 % 4)
 
--- the kind of the group of that number
+-- The kind of the group of that number.
 abbrev pub kind : ℕ → ℕ → Kind
 kind seed group = kind_by (draw seed (suc group))

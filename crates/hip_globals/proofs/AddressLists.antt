@@ -10,7 +10,7 @@ use Rattle.hip_names.specs.Tables.{Gains}
 use Rattle.hip_names.specs.Tables.{Entry, StandsFor}
 use Rattle.hip_globals.proofs.AddressLemmas.{end_of-ge, end_of-next}
 
--- the table has the first globals, and the others are laid from these ends on
+-- The table has the first globals, and the others are laid from these ends on.
 pub record IsLaid (ns : List (List ℕ)) (vs : List ℕ) (base start persistent volatile : ℕ) (globals : List GlobalVar) (index : ℕ) : Type 0 where
   pub before : List (Entry ℕ)
   pub stands : StandsFor ns vs before
@@ -25,7 +25,7 @@ one_longer : (before rest : List (Entry ℕ)) (e : Entry ℕ) → (before ++ e �
 one_longer before rest e = append_assoc before (e ∷ []) rest
 
 module _ {ns ms : List (List ℕ)} {vs us : List ℕ} (base start p v : ℕ) (gs : List GlobalVar) (i : ℕ) (g : GlobalVar) where
-  -- a persistent global more
+  -- A persistent global more.
   pub laid_persistent : IsLaid ns vs base start p v gs i → i < length gs → g ≡ get_or gs i g → g.persistent ≡ true → Gains ns vs ms us (address_entry g.name (global_start p g) ∷ []) → IsLaid ms us base start (global_start p g + size_of g.ty) v gs (i + 1)
   laid_persistent is within here kind gains =
       let e : Entry ℕ = address_entry g.name (global_start p g) in
@@ -57,7 +57,7 @@ module _ {ns ms : List (List ℕ)} {vs us : List ℕ} (base start p v : ℕ) (gs
       }
 
 module _ {ns : List (List ℕ)} {vs : List ℕ} (base start p v : ℕ) (gs : List GlobalVar) (i : ℕ) (g : GlobalVar) where
-  -- it ends within the end of all
+  -- It ends within the end of all.
   pub persistent_within : IsLaid ns vs base start p v gs i → i < length gs → g ≡ get_or gs i g → g.persistent ≡ true → end_of true base gs < 2 ^ 64 → global_start p g + size_of g.ty < 2 ^ 64
   persistent_within is within here kind low =
       let next = global_start p g + size_of g.ty in

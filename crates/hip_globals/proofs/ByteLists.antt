@@ -12,7 +12,7 @@ use Rattle.hip_globals.specs.InitialSeen.{AllFit}
 use Rattle.hip_globals.specs.Values.{Piece, aligned, sized, placed}
 use Rattle.hip_globals.proofs.Lists.{joined-push, take_one}
 
--- a number's lowest byte, and the bytes of the rest
+-- A number's lowest byte, and the bytes of the rest.
 pub byte_more : (before after : List ℕ) (count i rest : ℕ) → i < count → before ++ bytes_of (count - i) rest ≡ after → (before ++ rest % 256 ∷ []) ++ bytes_of (count - (i + 1)) (rest / 256) ≡ after
 byte_more before after count i rest low e =
     let n : count - i ≡ suc (count - (i + 1)) = omega arith in

@@ -16,7 +16,7 @@ use Rattle.hip_globals.specs.Values.{global_address, aligned, constant_bytes}
 use Rattle.hip_globals.specs.Held.{HoldsAt, HoldsGlobals}
 use Rattle.hip_globals.proofs.InitialLemmas.{length-aligned, length_more}
 
--- what is laid goes on from the bytes so far
+-- What is laid goes on from the bytes so far.
 record GoesOn (whole front : List ℕ) : Type 0 where
   pub rest : List ℕ
   pub is : whole ≡ front ++ rest
@@ -35,7 +35,7 @@ laid_goes_on a k start so_far (g ∷ gs) =
     let more = next_front (same_truth g.persistent k) a start so_far g in
     goes_further (laid_bytes a k start next gs) so_far more.0 (subst (λ (front : List ℕ). GoesOn (laid_bytes a k start next gs) front) more.1 (laid_goes_on a k start next gs))
 
--- bytes after others
+-- Bytes after others.
 held_past : (whole front bytes : List ℕ) → GoesOn whole (front ++ bytes) → HoldsAt whole (length front) bytes
 held_past whole front bytes g = record {
   is =

@@ -78,13 +78,13 @@ volatile_next p v g gs k kind = rw kind refl
 abbrev global_names : List GlobalVar → List (List ℕ)
 global_names gs = map (λ g. g.name) gs
 
--- what a number denotes: 0 is the first, and the others are those of the rest
+-- What a number denotes: 0 is the first, and the others are those of the rest.
 first_or_later : (b : Bool) (all rest : ℕ → ℕ) (first : ℕ) (o : Option ℕ) → first ≡ all 0 → ((k : ℕ) → all (suc k) ≡ rest k) → (if b then Some first else option_map rest o) ≡ option_map all (cond b (Some 0) (option_map suc o))
 first_or_later true all rest first o e h = ap Some e
 first_or_later false all rest first None e h = refl
 first_or_later false all rest first (Some k) e h = ap Some (sym (h k))
 
--- the entry of a name is the address of the global of its number
+-- The entry of a name is the address of the global of its number.
 laid_at : (p v : ℕ) (gs : List GlobalVar) (name : List ℕ) → value_of (laid_entries p v gs) name ≡ option_map (place p v gs) (number_of (global_names gs) name)
 laid_at p v [] name = refl
 laid_at p v (g ∷ gs) name = by_kind g.persistent refl (λ p' v'. laid_at p' v' gs name) ∙ ap (option_map (place p v (g ∷ gs))) (sym (number_of-cons g.name (global_names gs) name))
@@ -106,7 +106,7 @@ laid_at p v (g ∷ gs) name = by_kind g.persistent refl (λ p' v'. laid_at p' v'
         ∙ ap (λ o. if bytes_eq name g.name then Some (global_start v g) else o) (rest p next)
         ∙ first_or_later (bytes_eq name g.name) (place p v (g ∷ gs)) (place p next gs) (global_start v g) (number_of (global_names gs) name) first (λ k. volatile_next p v g gs k kind)
 
--- the table has the program's addresses
+-- The table has the program's addresses.
 pub addresses_alike : (globals : List GlobalVar) (base : ℕ) (table : NameTable ℕ) → StandsFor table.names table.values (laid_entries base volatile_start globals) → address_beside table ≡ global_address globals base
 addresses_alike globals base table stands = fun_ext (λ name. ap (λ o. unwrap_or o 0) (stands.finds name ∙ laid_at base volatile_start globals name))
 
@@ -146,7 +146,7 @@ length-region P base =
     let zero_more : 0 + length (region_bytes P base) ≡ length (region_bytes P base) = omega arith in
     sym zero_more ∙ length-aligned 0 64 laid ∙ ap (λ n. next_multiple_of n 64) end
 
--- by the table and by the program
+-- By the table and by the program.
 pub laid_alike : (P : Program) (base : ℕ) (table : NameTable ℕ) (gs : List GlobalVar) (persistent : Bool) (start : ℕ) → StandsFor table.names table.values (laid_entries base volatile_start gs) → gs ≡ P.globals →
     laid_bytes (address_beside table) persistent start [] gs ≡ laid_bytes (global_address P.globals base) persistent start [] P.globals
 laid_alike P base table gs persistent start stands e =

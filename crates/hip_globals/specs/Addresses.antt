@@ -10,7 +10,7 @@ use Rattle.hip_types.specs.declared.areas.TheConstants.{LINE_SIZE}
 use Rattle.hip_types.specs.Areas.{volatile_start}
 use Rattle.hip_globals.specs.Constants.{types_in}
 
--- whether two truth values are equal
+-- Whether two truth values are equal.
 abbrev pub same_truth : Bool → Bool → Bool
 same_truth true b = b
 same_truth false true = false
@@ -22,31 +22,31 @@ pub record IsBase (base : ℕ) : Type 0 where
   pub low : LOWEST_BASE ≤ base
   pub high : base ≤ HIGHEST_BASE
 
--- whether the number is such a base
+-- Whether the number is such a base.
 abbrev pub is_base : ℕ → Bool
 is_base base = (base % BASE_ALIGNMENT == 0) && (nat_le LOWEST_BASE base && nat_le base HIGHEST_BASE)
 
--- the greater of a type's alignment and the written one, if one is written
+-- The greater of a type's alignment and the written one, if one is written.
 abbrev with_own : Option ℕ → ℕ → ℕ
 with_own None natural = natural
 with_own (Some n) natural = max n natural
 
--- the alignment of a global: the greater of its type's and the one that is written, if one is
+-- The alignment of a global: the greater of its type's and the one that is written, if one is.
 abbrev pub global_align : GlobalVar → ℕ
 global_align g = with_own g.align (shape g.ty).align
 
--- where a global begins that is laid from `at` on: at the next multiple of its alignment
+-- Where a global begins that is laid from `at` on: at the next multiple of its alignment.
 abbrev pub global_start : ℕ → GlobalVar → ℕ
 global_start at g = next_multiple_of at (global_align g)
 
--- where these globals end that are persistent, or those that are not, if they are laid from `at` on
+-- Where these globals end that are persistent, or those that are not, if they are laid from `at` on.
 abbrev pub end_of : Bool → ℕ → List GlobalVar → ℕ
 end_of persistent at [] = at
 end_of persistent at (g ∷ gs) =
     end_of persistent (if same_truth g.persistent persistent then global_start at g + (shape g.ty).size else at) gs
 
--- where the global of that number, counted from 0 among all, begins, if the persistent ones before it, or the others,
--- are laid from `at` on; where these end if no global has the number
+-- Where the global of that number, counted from 0 among all, begins, if the persistent ones before it, or the others,
+-- are laid from `at` on; where these end if no global has the number.
 abbrev pub start_of : Bool → ℕ → List GlobalVar → ℕ → ℕ
 start_of persistent at [] number = at
 start_of persistent at (g ∷ gs) zero = global_start at g
@@ -54,23 +54,23 @@ start_of persistent at (g ∷ gs) (suc number) =
     start_of persistent
     (if same_truth g.persistent persistent then global_start at g + (shape g.ty).size else at) gs number
 
--- whether the global of that number is persistent; false if no global has it
+-- Whether the global of that number is persistent; false if no global has it.
 abbrev pub is_persistent : List GlobalVar → ℕ → Bool
 is_persistent [] number = false
 is_persistent (g ∷ gs) zero = g.persistent
 is_persistent (g ∷ gs) (suc number) = is_persistent gs number
 
--- the address of the global of that number
+-- The address of the global of that number.
 abbrev pub address_in : List GlobalVar → ℕ → ℕ → ℕ
 address_in globals base number =
     if is_persistent globals number then start_of true base globals number
     else start_of false volatile_start globals number
 
--- the address of a program's global of that number, where the region begins at a base
+-- The address of a program's global of that number, where the region begins at a base.
 abbrev pub address : Program → ℕ → ℕ → ℕ
 address P base number = address_in P.globals base number
 
--- the end of the last volatile global, 65,536 if there is none
+-- The end of the last volatile global, 65,536 if there is none.
 abbrev pub volatile_end : Program → ℕ
 volatile_end P = end_of false volatile_start P.globals
 
@@ -79,20 +79,20 @@ volatile_end P = end_of false volatile_start P.globals
 abbrev pub region_size : Program → ℕ
 region_size P = next_multiple_of (end_of true 0 P.globals) LINE_SIZE
 
--- the type of each global fits, whatever types its initialiser has
+-- The type of each global fits, whatever types its initialiser has.
 abbrev pub OwnTypesFit : List GlobalVar → Type 0
 OwnTypesFit globals = All (λ g. Fits g.ty) globals
 
--- the type of the global fits, and those in its initialiser
+-- The type of the global fits, and those in its initialiser.
 abbrev pub TypesFitIn : GlobalVar → Type 0
 TypesFitIn g = All Fits (g.ty ∷ types_in g.init)
 
--- the alignment of each global divides the largest one that can be written, and so each base
+-- The alignment of each global divides the largest one that can be written, and so each base.
 abbrev pub AllDivide : List GlobalVar → Type 0
 AllDivide [] = Unit {0}
 AllDivide (g ∷ gs) = (LARGEST_ALIGNMENT % global_align g ≡ 0) × AllDivide gs
 
--- the region and the volatile globals are within the limits of their sizes
+-- The region and the volatile globals are within the limits of their sizes.
 abbrev pub are_within_limits : List GlobalVar → Bool
 are_within_limits globals =
     nat_le (next_multiple_of (end_of true 0 globals) LINE_SIZE) LARGEST_REGION

@@ -6,11 +6,11 @@ use Rattle.hip_globals.specs.Addresses.{global_start}
 use Rattle.hip_names.specs.Tables.{Entry, value_beside}
 use Rattle.hip_names.specs.declared.table.NameTable.{NameTable}
 
--- a name with its address
+-- A name with its address.
 abbrev pub address_entry : List ℕ → ℕ → Entry ℕ
 address_entry name value = record { name = name; value = value }
 
--- each name with its address, where persistent globals are laid from one place on and the others from another
+-- Each name with its address, where persistent globals are laid from one place on and the others from another.
 abbrev pub laid_entries : ℕ → ℕ → List GlobalVar → List (Entry ℕ)
 laid_entries persistent volatile [] = []
 laid_entries persistent volatile (g ∷ gs) =
@@ -22,6 +22,6 @@ laid_entries persistent volatile (g ∷ gs) =
     (address_entry g.name (global_start volatile g)
     ∷ laid_entries persistent (global_start volatile g + size_of g.ty) gs)
 
--- the address that a table has for a name; 0 if it does not have the name
+-- The address that a table has for a name; 0 if it does not have the name.
 abbrev pub address_beside : NameTable ℕ → List ℕ → ℕ
 address_beside table name = unwrap_or (value_beside table.names table.values name) 0

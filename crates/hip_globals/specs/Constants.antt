@@ -10,39 +10,39 @@ use Rattle.hip_tree.specs.declared.constant.ConstGep.{ConstGep}
 use Rattle.hip_tree.specs.declared.constant.TypedConst.{TypedConst}
 use Rattle.hip_tree.specs.declared.constant.Const.TheFolds.{fold-Const, fold-ConstGep, fold-TypedConst}
 
--- the items of all these lists, list by list
+-- The items of all these lists, list by list.
 abbrev pub joined : {A : Type 0} → List (List A) → List A
 joined [] = []
 joined (xs ∷ rest) = xs ++ joined rest
 
--- the types that are written in a constant, by those of the constants inside
+-- The types that are written in a constant, by those of the constants inside.
 abbrev pub types_step : Const-F (List Ty) (List Ty) (List Ty) → List Ty
 types_step (Const-F.Gep types) = types
 types_step (Const-F.Array items) = joined items
 types_step (Const-F.Struct items) = joined items
 types_step _ = []
 
--- those in a constant `getelementptr`: the type that its indices enter, and then those of its base
+-- Those in a constant `getelementptr`: the type that its indices enter, and then those of its base.
 abbrev pub gep_types_step : ConstGep-F (List Ty) (List Ty) (List Ty) → List Ty
 gep_types_step gep = gep.ty ∷ gep.base
 
--- those in an item of a constant list: its own type, and then those of its value
+-- Those in an item of a constant list: its own type, and then those of its value.
 abbrev pub item_types_step : TypedConst-F (List Ty) (List Ty) (List Ty) → List Ty
 item_types_step item = item.ty ∷ item.value
 
--- the types that are written in a constant, in the order of its text: those of its items and of its `getelementptr`s;
--- none in an integer, a name, `null` and `zeroinitializer`
+-- The types that are written in a constant, in the order of its text: those of its items and of its `getelementptr`s;
+-- none in an integer, a name, `null` and `zeroinitializer`.
 abbrev pub types_in : Const → List Ty
 types_in = fold-Const (List Ty) (List Ty) (List Ty) types_step gep_types_step item_types_step
 
--- the types that are written in a constant `getelementptr`
+-- The types that are written in a constant `getelementptr`.
 abbrev pub gep_types : ConstGep → List Ty
 gep_types = fold-ConstGep (List Ty) (List Ty) (List Ty) types_step gep_types_step item_types_step
 
--- the types that are written in an item of a constant list, its own the first one
+-- The types that are written in an item of a constant list, its own the first one.
 abbrev pub item_types : TypedConst → List Ty
 item_types = fold-TypedConst (List Ty) (List Ty) (List Ty) types_step gep_types_step item_types_step
 
--- an index, sign-extended to 64 bits
+-- An index, sign-extended to 64 bits.
 abbrev pub index_of : Bits → ℕ
 index_of b = wrapped W64 (signed b.width b.value)

@@ -5,7 +5,7 @@ use Rattle.hip_tree.specs.declared.program.Program.{Program}
 use Rattle.hip_globals.specs.Addresses.{same_truth, start_of}
 use Rattle.hip_globals.specs.Values.{global_address, constant_bytes}
 
--- these bytes are at a place among others
+-- These bytes are at a place among others.
 pub record HoldsAt (whole : List ℕ) (place : ℕ) (bytes : List ℕ) : Type 0 where
   pub is : take (length bytes) (drop place whole) ≡ bytes
 

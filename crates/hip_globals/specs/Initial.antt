@@ -8,7 +8,7 @@ use Rattle.hip_types.specs.Areas.{volatile_start}
 use Rattle.hip_globals.specs.Addresses.{global_align, same_truth}
 use Rattle.hip_globals.specs.Values.{global_address, aligned, constant_bytes}
 
--- the persistent ones, or the others, after the bytes so far, whose first byte lies at a place
+-- The persistent ones, or the others, after the bytes so far, whose first byte lies at a place.
 abbrev pub laid_bytes : (List ℕ → ℕ) → Bool → ℕ → List ℕ → List GlobalVar → List ℕ
 laid_bytes address_of persistent start so_far [] = so_far
 laid_bytes address_of persistent start so_far (g ∷ gs) =
@@ -16,10 +16,10 @@ laid_bytes address_of persistent start so_far (g ∷ gs) =
     (if same_truth g.persistent persistent
     then aligned start (global_align g) so_far ++ constant_bytes address_of g.init g.ty else so_far) gs
 
--- the bytes of the volatile globals, from the first one's place to the end of the last one
+-- The bytes of the volatile globals, from the first one's place to the end of the last one.
 abbrev pub volatile_bytes : Program → ℕ → List ℕ
 volatile_bytes P base = laid_bytes (global_address P.globals base) false volatile_start [] P.globals
 
--- the bytes of the region, with zeros after the last persistent global up to a whole cache line
+-- The bytes of the region, with zeros after the last persistent global up to a whole cache line.
 abbrev pub region_bytes : Program → ℕ → List ℕ
 region_bytes P base = aligned 0 LINE_SIZE (laid_bytes (global_address P.globals base) true 0 [] P.globals)

@@ -8,15 +8,15 @@ use Rattle.hip_tree.specs.declared.program.GlobalVar.{GlobalVar}
 use Rattle.hip_globals.specs.Constants.{types_in}
 use Rattle.hip_globals.specs.Values.{Written, Piece, written_step, gep_step, item_step}
 
--- an item's bytes, with its alignment
+-- An item's bytes, with its alignment.
 abbrev pub item_piece : (List ℕ → ℕ) → TypedConst → Piece
 item_piece address_of = fold-TypedConst Written ℕ Piece (written_step address_of) gep_step item_step
 
--- each of these types fits
+-- Each of these types fits.
 pub record AllFit (types : List Ty) : Type 0 where
   pub fit : All Fits types
 
--- the types of globals and those in their initialisers fit
+-- The types of globals and those in their initialisers fit.
 pub record GlobalsFit (globals : List GlobalVar) : Type 0 where
   pub fit : (k : ℕ) (d : GlobalVar) → k < length globals →
       AllFit ((get_or globals k d).ty ∷ types_in (get_or globals k d).init)

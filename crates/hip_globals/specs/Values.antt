@@ -15,7 +15,7 @@ use Rattle.hip_names.specs.Names.{number_of}
 
 -- ---- values
 
--- the address of the first global of that name, if the region begins at a base; 0 if none has it
+-- The address of the first global of that name, if the region begins at a base; 0 if none has it.
 abbrev pub global_address : List GlobalVar → ℕ → List ℕ → ℕ
 global_address globals base name =
     unwrap_or (option_map (address_in globals base) (number_of (map (λ g. g.name) globals) name)) 0
@@ -35,28 +35,28 @@ value_step address_of _ = 0
 
 -- ---- bytes one after another
 
--- zeros after them up to the next multiple of the alignment, if the first byte lies at a place
+-- Zeros after them up to the next multiple of the alignment, if the first byte lies at a place.
 abbrev pub aligned : ℕ → ℕ → List ℕ → List ℕ
 aligned start align bytes =
     bytes ++ replicate (next_multiple_of (start + length bytes) align - (start + length bytes)) 0
 
--- exactly as many bytes as the size: the first ones, or all with zeros after them
+-- Exactly as many bytes as the size: the first ones, or all with zeros after them.
 abbrev pub sized : ℕ → List ℕ → List ℕ
 sized size bytes = take size bytes ++ replicate (size - length bytes) 0
 
--- the bytes of an item, with the alignment of its type
+-- The bytes of an item, with the alignment of its type.
 pub record Piece : Type 0 where
   pub align : ℕ
   pub bytes : List ℕ
 
--- the pieces after the bytes so far, each at a multiple of its alignment
+-- The pieces after the bytes so far, each at a multiple of its alignment.
 abbrev pub placed : List ℕ → List Piece → List ℕ
 placed so_far [] = so_far
 placed so_far (p ∷ ps) = placed (aligned 0 p.align so_far ++ p.bytes) ps
 
 -- ---- constants
 
--- a constant's value, and its bytes before they are cut or filled up to the size of its type
+-- A constant's value, and its bytes before they are cut or filled up to the size of its type.
 pub record Written : Type 0 where
   pub value : ℕ
   pub bytes : List ℕ
@@ -68,30 +68,30 @@ bytes_step value (Const-F.Array items) = joined (map (λ p. p.bytes) items)
 bytes_step value (Const-F.Struct items) = placed [] items
 bytes_step value _ = bytes_of 8 value
 
--- the value and the bytes of a constant, by those of the constants inside, where names have these addresses
+-- The value and the bytes of a constant, by those of the constants inside, where names have these addresses.
 abbrev pub written_step : (List ℕ → ℕ) → Const-F Written ℕ Piece → Written
 written_step address_of c = record { value = value_step address_of c; bytes = bytes_step (value_step address_of c) c }
 
--- the element that the indices lead to from the base, each index sign-extended to 64 bits
+-- The element that the indices lead to from the base, each index sign-extended to 64 bits.
 abbrev pub gep_step : ConstGep-F Written ℕ Piece → ℕ
 gep_step gep = element_address gep.base.value gep.ty (map index_of gep.indices)
 
--- an item has as many bytes as its type's size
+-- An item has as many bytes as its type's size.
 abbrev pub item_step : TypedConst-F Written ℕ Piece → Piece
 item_step item = record { align = align_of item.ty; bytes = sized (size_of item.ty) item.value.bytes }
 
--- what a constant is, where names have these addresses
+-- What a constant is, where names have these addresses.
 abbrev pub written : (List ℕ → ℕ) → Const → Written
 written address_of = fold-Const Written ℕ Piece (written_step address_of) gep_step item_step
 
--- the address that a constant `getelementptr` gives, where names have these addresses
+-- The address that a constant `getelementptr` gives, where names have these addresses.
 abbrev pub gep_address : (List ℕ → ℕ) → ConstGep → ℕ
 gep_address address_of = fold-ConstGep Written ℕ Piece (written_step address_of) gep_step item_step
 
--- the value of a constant under an integer type or `ptr`, where the region begins at a base
+-- The value of a constant under an integer type or `ptr`, where the region begins at a base.
 abbrev pub const_value : List GlobalVar → ℕ → Const → ℕ
 const_value globals base value = (written (global_address globals base) value).value
 
--- the bytes of a constant under a type; the size of the type is their number
+-- The bytes of a constant under a type; the size of the type is their number.
 abbrev pub constant_bytes : (List ℕ → ℕ) → Const → Ty → List ℕ
 constant_bytes address_of value ty = sized (size_of ty) (written address_of value).bytes

@@ -44,7 +44,7 @@ maybe_align = optional comma align
 
 -- ---- phis
 
--- LOCAL "="
+-- LOCAL "=".
 unfoldable pub assigned : Part Fault (List ℕ)
 assigned = do
   name ← token a_local
@@ -77,11 +77,11 @@ phi dest = do
 
 -- ---- instructions, those that assign a register after LOCAL "="
 
--- no flag is set
+-- No flag is set.
 abbrev pub no_flags : Flags
 no_flags = record { nuw = false; nsw = false; exact = false }
 
--- these flags and one more; a flag that is set stays set
+-- These flags and one more; a flag that is set stays set.
 abbrev pub with_flag : Flags → Flag → Flags
 with_flag f Nuw = record f { nuw = true }
 with_flag f Nsw = record f { nsw = true }
@@ -144,7 +144,7 @@ to_int = do
   _ ← word (codes "to")
   int
 
--- ("zext" | "sext" | "trunc") int operand "to" int
+-- ("zext" | "sext" | "trunc") int operand "to" int.
 unfoldable pub int_cast : List ℕ → Part Fault Instr
 int_cast dest = do
   op ← token (a_word_of int_cast_word)
@@ -237,7 +237,7 @@ store = do
   written ← aligned_address
   gives (instrs.Store s value written.0 written.1)
 
--- the instructions on memory, and calls
+-- The instructions on memory, and calls.
 unfoldable pub memory_instr : List ℕ → Part Fault Instr
 memory_instr dest =
     either (is_word (codes "alloca")) (alloca dest)
@@ -245,7 +245,7 @@ memory_instr dest =
     (either (is_word (codes "getelementptr")) (gep dest)
     (call (Some dest))))
 
--- a conversion, or what `memory_instr` reads
+-- A conversion, or what `memory_instr` reads.
 unfoldable pub cast_instr : List ℕ → Part Fault Instr
 cast_instr dest =
     either (is_word_of int_cast_word) (int_cast dest)
@@ -253,7 +253,7 @@ cast_instr dest =
     (either (is_word (cast_text casts.Inttoptr)) (inttoptr dest)
     (memory_instr dest)))
 
--- an instruction after LOCAL "="
+-- An instruction after LOCAL "=".
 unfoldable pub value_instr : List ℕ → Part Fault Instr
 value_instr dest =
     either (is_word_of binary_word) (binary dest)
@@ -261,7 +261,7 @@ value_instr dest =
     (either (is_word (codes "select")) (select dest)
     (cast_instr dest)))
 
--- an instruction that assigns no register
+-- An instruction that assigns no register.
 unfoldable pub effect_instr : Part Fault Instr
 effect_instr = either (is_word (codes "store")) store (call None)
 
@@ -275,11 +275,11 @@ assigning_instr = do
 unfoldable pub instr : Part Fault Instr
 instr = either is_local assigning_instr effect_instr
 
--- the first tokens of instructions without a register
+-- The first tokens of instructions without a register.
 abbrev pub begins_effect : Tok → Bool
 begins_effect t = is_word (codes "store") t || (is_word (codes "tail") t || is_word (codes "call") t)
 
--- the first tokens of instructions
+-- The first tokens of instructions.
 abbrev pub begins_instr : Tok → Bool
 begins_instr t = is_local t || begins_effect t
 
@@ -344,7 +344,7 @@ ret_void = do
   _ ← word (codes "void")
   gives (ends.Ret None)
 
--- scalar operand, after "ret"
+-- `scalar operand`, after `ret`.
 unfoldable pub ret_arg : Part Fault End
 ret_arg = do
   value ← arg
@@ -370,7 +370,7 @@ end =
 
 -- ---- blocks
 
--- end, after the label, the phis and the instructions of its block
+-- `end`, after the label, the phis and the instructions of its block.
 unfoldable pub closing : List ℕ → List Phi → List Instr → Part Fault Block
 closing label phis body = do
   last ← end
@@ -382,25 +382,25 @@ instrs_and_end label phis = do
   body ← repeated begins_instr instr
   closing label phis body
 
--- the same after a first instruction
+-- The same after a first instruction.
 unfoldable pub after_first : List ℕ → List Phi → Instr → Part Fault Block
 after_first label phis first = do
   body ← repeated begins_instr instr
   closing label phis (first ∷ body)
 
--- the rest of a block after a LOCAL "=" that no phi follows: its first instruction assigns that register
+-- The rest of a block after a LOCAL "=" that no phi follows: its first instruction assigns that register.
 unfoldable pub after_name : List ℕ → List Phi → List ℕ → Part Fault Block
 after_name label phis dest = do
   first ← value_instr dest
   after_first label phis first
 
--- the rest of a block whose first instruction assigns no register
+-- The rest of a block whose first instruction assigns no register.
 unfoldable pub from_effect : List ℕ → List Phi → Part Fault Block
 from_effect label phis = do
   first ← effect_instr
   after_first label phis first
 
--- the rest of a block with no LOCAL after its phis
+-- The rest of a block with no LOCAL after its phis.
 unfoldable pub after_phis : List ℕ → List Phi → Part Fault Block
 after_phis label phis = either begins_effect (from_effect label phis) (closing label phis [])
 

@@ -23,11 +23,11 @@ use Rattle.hip_tree.specs.declared.instr.Operand.TheVariants as operands
 use Rattle.hip_grammar.specs.Words.{is_word, is_mark, is_local, comma, a_local, too_deep, a_word_of, width_word, width_text, scalar_word, scalar_text, type_word}
 use Rattle.hip_grammar.specs.Numbers.{a_literal, an_int_const, a_count}
 
--- this word, this mark
+-- This word, this mark.
 abbrev pub word : List ℕ → Part Fault (Unit {0})
 word w = passing (is_word w)
 
--- a mark, by its byte
+-- A mark, by its byte.
 abbrev pub mark : ℕ → Part Fault (Unit {0})
 mark b = passing (is_mark b)
 
@@ -47,11 +47,11 @@ int = token (a_word_of width_word)
 abbrev pub scalar : Part Fault Scalar
 scalar = token (a_word_of scalar_word)
 
--- the type that was there before, once more
+-- The type that was there before, once more.
 abbrev pub is_width : Width → Tok → Bool
 is_width w = is_word (width_text w)
 
--- the same for any scalar type, as before the second value of a `select`
+-- The same for any scalar type, as before the second value of a `select`.
 abbrev pub is_scalar : Scalar → Tok → Bool
 is_scalar s = is_word (scalar_text s)
 
@@ -77,12 +77,12 @@ unfoldable pub type_by : Part Fault Ty → Part Fault Ty → Part Fault Ty
 type_by array struct =
     either (is_mark (byte "[")) array (either (is_mark (byte "{")) struct (token (a_word_of type_word)))
 
--- a type nested at most n levels deep: where no level is left, an opening bracket or brace is too deep
+-- A type nested at most n levels deep: where no level is left, an opening bracket or brace is too deep.
 unfoldable pub type_within : ℕ → Part Fault Ty
 type_within zero = type_by (token (too_deep (byte "["))) (token (too_deep (byte "{")))
 type_within (suc n) = type_by (array_type (type_within n)) (struct_type (type_within n))
 
--- a type, with arrays and structs nested at most `DEEPEST_NESTING` deep, where `{}` is one level
+-- A type, with arrays and structs nested at most `DEEPEST_NESTING` deep, where `{}` is one level.
 abbrev pub type : Part Fault Ty
 type = type_within DEEPEST_NESTING
 
@@ -123,16 +123,16 @@ gep_const inside = do
   inbounds ← maybe_word (codes "inbounds")
   inside inbounds
 
--- a constant under `ptr`
+-- A constant under `ptr`.
 unfoldable pub pointer_by : (Bool → Part Fault Const) → Part Fault Const
 pointer_by inside = either (is_word (codes "getelementptr")) (gep_const inside) (token a_pointer)
 
--- at most n nested `getelementptr`: if no level is left, the parenthesis is too deep
+-- At most n nested `getelementptr`: if no level is left, the parenthesis is too deep.
 unfoldable pub pointer_within : ℕ → Part Fault Const
 pointer_within zero = pointer_by (λ inbounds. token (too_deep (byte "(")))
 pointer_within (suc n) = pointer_by (gep_inside (pointer_within n))
 
--- a constant under `ptr`, with at most `DEEPEST_NESTING` `getelementptr` in one another
+-- A constant under `ptr`, with at most `DEEPEST_NESTING` `getelementptr` in one another.
 abbrev pub pointer_const : Part Fault Const
 pointer_const = pointer_within DEEPEST_NESTING
 
@@ -140,7 +140,7 @@ pointer_const = pointer_within DEEPEST_NESTING
 abbrev pub zero_const : Tok → Verdict Fault Const
 zero_const t = if is_word (codes "zeroinitializer") t then Yes consts.Zero else No
 
--- type const
+-- `type const`.
 unfoldable pub typed_const : (Ty → Part Fault Const) → Part Fault TypedConst
 typed_const value = do
   ty ← type
@@ -153,26 +153,26 @@ const_list open_mark close_mark value = do
   _ ← mark open_mark
   listed comma (is_mark close_mark) (typed_const value)
 
--- a bracketed list, as the constant of an array
+-- A bracketed list, as the constant of an array.
 unfoldable pub array_const : Part Fault (List TypedConst) → Part Fault Const
 array_const items = do
   elements ← items
   gives (consts.Array elements)
 
--- a braced list, as the constant of a struct
+-- A braced list, as the constant of a struct.
 unfoldable pub struct_const : Part Fault (List TypedConst) → Part Fault Const
 struct_const items = do
   fields ← items
   gives (consts.Struct fields)
 
--- const, by the type before it
+-- `const`, by the type before it.
 unfoldable pub const_by : Part Fault (List TypedConst) → Part Fault (List TypedConst) → Ty-F Ty → Part Fault Const
 const_by elements fields (Ty-F.Int w) = token (an_int_const w)
 const_by elements fields Ty-F.Ptr = pointer_const
 const_by elements fields (Ty-F.Array n e) = either (is_mark (byte "[")) (array_const elements) (token zero_const)
 const_by elements fields (Ty-F.Struct fs) = either (is_mark (byte "{")) (struct_const fields) (token zero_const)
 
--- bracketed and braced constants nested at most n levels deep
+-- Bracketed and braced constants nested at most n levels deep.
 unfoldable pub const_within : ℕ → Ty → Part Fault Const
 const_within zero ty = const_by (token (too_deep (byte "["))) (token (too_deep (byte "{"))) (out-Ty ty)
 const_within (suc n) ty =
@@ -181,24 +181,24 @@ const_within (suc n) ty =
     (const_list (byte "{") (byte "}") (const_within n))
     (out-Ty ty)
 
--- const, by the type before it, with lists nested at most `DEEPEST_NESTING` deep
+-- `const`, by the type before it, with lists nested at most `DEEPEST_NESTING` deep.
 abbrev pub const : Ty → Part Fault Const
 const = const_within DEEPEST_NESTING
 
 -- ---- operands
 
--- const under an integer type or `ptr`, which is no list
+-- `const` under an integer type or `ptr`, which is no list.
 unfoldable pub scalar_const : Scalar → Part Fault Const
 scalar_const (scalars.Int w) = token (an_int_const w)
 scalar_const scalars.Ptr = pointer_const
 
--- LOCAL, as an operand
+-- LOCAL, as an operand.
 unfoldable pub register : Part Fault Operand
 register = do
   name ← token a_local
   gives (operands.Reg name)
 
--- const under the scalar type, as an operand
+-- `const` under the scalar type, as an operand.
 unfoldable pub fixed_operand : Scalar → Part Fault Operand
 fixed_operand s = do
   value ← scalar_const s

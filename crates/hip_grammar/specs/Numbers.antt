@@ -16,22 +16,22 @@ use Rattle.hip_types.specs.Numbers.{bits}
 use Rattle.hip_types.specs.declared.limits.TheConstants.{LARGEST_ALIGNMENT, LARGEST_COUNT}
 use Rattle.hip_grammar.specs.Words.{or_no, is_word}
 
--- the value of digits after others
+-- The value of digits after others.
 abbrev pub digits_from : ℕ → List ℕ → ℕ
 digits_from n [] = n
 digits_from n (d ∷ ds) = digits_from (10 * n + (d - byte "0")) ds
 
--- whether a number's text begins with `-`, as `-0` does too
+-- Whether a number's text begins with `-`, as `-0` does too.
 abbrev pub is_negative : List ℕ → Bool
 is_negative [] = false
 is_negative (d ∷ ds) = d == byte "-"
 
--- the value of a number's digits, without its sign
+-- The value of a number's digits, without its sign.
 abbrev pub magnitude : List ℕ → ℕ
 magnitude [] = 0
 magnitude (d ∷ ds) = if d == byte "-" then digits_from 0 ds else digits_from 0 (d ∷ ds)
 
--- the number, or a refusal as out of range if there is none
+-- The number, or a refusal as out of range if there is none.
 abbrev pub or_range : {A : Type 0} → Option A → Verdict Fault A
 or_range (Some n) = Yes n
 or_range None = Because Range
@@ -44,16 +44,16 @@ below limit n = if nat_lt n limit then Some n else None
 abbrev pub negated : Width → ℕ → Option ℕ
 negated w n = if n == 0 then Some 0 else (if nat_le n (2 ^ (bits_of w - 1)) then Some (2 ^ bits_of w - n) else None)
 
--- a number from -2^(w-1) to 2^w - 1, modulo 2^w
+-- A number from -2^(w-1) to 2^w - 1, modulo 2^w.
 abbrev pub value_of : Width → List ℕ → Option ℕ
 value_of w t = if is_negative t then negated w (magnitude t) else below (2 ^ bits_of w) (magnitude t)
 
--- the number as an integer of the width, or a refusal as out of range if there is none
+-- The number as an integer of the width, or a refusal as out of range if there is none.
 abbrev pub bits_in_range : Width → Option ℕ → Verdict Fault Bits
 bits_in_range w (Some n) = Yes (bits w n)
 bits_in_range w None = Because Range
 
--- `true` and `false`, which are of one bit
+-- `true` and `false`, which are of one bit.
 abbrev pub truth_word : Width → List ℕ → Option Bits
 truth_word W1 t =
     if bytes_eq t (codes "true") then Some (bits W1 1)
@@ -64,40 +64,40 @@ truth_word W16 t = None
 truth_word W32 t = None
 truth_word W64 t = None
 
--- a literal under an integer type
+-- A literal under an integer type.
 abbrev pub a_literal : Width → Tok → Verdict Fault Bits
 a_literal w (Num t) = bits_in_range w (value_of w t)
 a_literal w (Word t) = or_no (truth_word w t)
 a_literal w _ = No
 
--- the literal as a constant; a refusal stays what it is
+-- The literal as a constant; a refusal stays what it is.
 abbrev pub as_const : Verdict Fault Bits → Verdict Fault Const
 as_const (Yes b) = Yes (consts.Int b)
 as_const (Because why) = Because why
 as_const No = No
 
--- a constant under an integer type: a literal or `zeroinitializer`
+-- A constant under an integer type: a literal or `zeroinitializer`.
 abbrev pub an_int_const : Width → Tok → Verdict Fault Const
 an_int_const w t = if is_word (codes "zeroinitializer") t then Yes consts.Zero else as_const (a_literal w t)
 
--- the count of an array, from 0 on
+-- The count of an array, from 0 on.
 abbrev pub count_of : List ℕ → Option ℕ
 count_of t = if is_negative t && not (magnitude t == 0) then None else below (LARGEST_COUNT + 1) (magnitude t)
 
--- a NUM that is the count of an array, out of range if it is below 0 or above `LARGEST_COUNT`
+-- A NUM that is the count of an array, out of range if it is below 0 or above `LARGEST_COUNT`.
 abbrev pub a_count : Tok → Verdict Fault ℕ
 a_count (Num t) = or_range (count_of t)
 a_count _ = No
 
--- a power of two up to the largest alignment, which is one itself: its divisors
+-- A power of two up to the largest alignment, which is one itself: its divisors.
 abbrev pub is_alignment : ℕ → Bool
 is_alignment n = not (n == 0) && (LARGEST_ALIGNMENT % n == 0)
 
--- the alignment in bytes that a number gives; none after a `-`, and if the number is no alignment
+-- The alignment in bytes that a number gives; none after a `-`, and if the number is no alignment.
 abbrev pub alignment_of : List ℕ → Option ℕ
 alignment_of t = if not (is_negative t) && is_alignment (magnitude t) then Some (magnitude t) else None
 
--- a NUM that is an alignment in bytes, out of range if it is none
+-- A NUM that is an alignment in bytes, out of range if it is none.
 abbrev pub an_alignment : Tok → Verdict Fault ℕ
 an_alignment (Num t) = or_range (alignment_of t)
 an_alignment _ = No

@@ -19,19 +19,19 @@ pub record IsRefusedAt (ts : List At) (why : Fault) (rest : List At) : Type 0 wh
   pub here : Later ts rest
   pub viable : (m : List At) → Later ts m → Later m rest → text.rule.Front ts m
   pub no_further : (m : List At) → text.rule.Front ts m → length rest ≤ length m
-  -- a reason of the token's place goes before the usual one
+  -- A reason of the token's place goes before the usual one.
   pub own : (w : Fault) → text.rule.Refuses w ts rest → why ≡ w
   pub other : ((w : Fault) → text.rule.Refuses w ts rest → ⊥) → why ≡ usual rest
 
--- the line of the refused token, or of the text's last byte
+-- The line of the refused token, or of the text's last byte.
 abbrev pub line_at : List ℕ → List At → ℕ
 line_at bytes [] = last_line bytes
 line_at bytes (t ∷ ts) = t.line
 
--- the text is refused for this fault, on this line
+-- The text is refused for this fault, on this line.
 abbrev pub IsRefusal : List ℕ → Fault → ℕ → Type 0
 IsRefusal bytes why line = (rest : List At) × IsRefusedAt (tokens bytes) why rest × (line ≡ line_at bytes rest)
 
--- the program is the one that its canonical text reads as
+-- The program is the one that its canonical text reads as.
 abbrev pub IsSpelled : Program → Type 0
 IsSpelled program = Reads (show program) program

@@ -7,7 +7,7 @@ use Rattle.hip_grammar.specs.Reading.{IsRefusal}
 use Rattle.hip_grammar.specs.declared.refusal.ParseRefusal.{ParseRefusal}
 use Rattle.hip_grammar.specs.declared.refusal.ParseRefusal.TheVariants as refusals
 
--- out of memory has no cause in the text
+-- Out of memory has no cause in the text.
 abbrev pub IsCause : List ℕ → ParseRefusal → Type 0
 IsCause text (refusals.Syntax line) = IsRefusal text faults.Syntax line
 IsCause text (refusals.Unsupported line) = IsRefusal text faults.Unsupported line
@@ -15,7 +15,7 @@ IsCause text (refusals.Range line) = IsRefusal text faults.Range line
 IsCause text (refusals.TooDeep line) = IsRefusal text faults.TooDeep line
 IsCause text refusals.NoMemory = Unit {0}
 
--- the answer is this program, or out of memory
+-- The answer is this program, or out of memory.
 abbrev pub GivesProgram : Result Program ParseRefusal → Program → Type 0
 GivesProgram (Ok found) program = found ≡ program
 GivesProgram (Err refusals.NoMemory) program = Unit {0}
@@ -24,7 +24,7 @@ GivesProgram (Err (refusals.Unsupported line)) program = ⊥
 GivesProgram (Err (refusals.Range line)) program = ⊥
 GivesProgram (Err (refusals.TooDeep line)) program = ⊥
 
--- the refusal for a fault on that line
+-- The refusal for a fault on that line.
 abbrev pub refusal_of : Fault → ℕ → ParseRefusal
 refusal_of faults.Syntax line = refusals.Syntax line
 refusal_of faults.Unsupported line = refusals.Unsupported line

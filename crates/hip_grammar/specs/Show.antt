@@ -36,53 +36,53 @@ use Rattle.hip_grammar.specs.Words.{width_text, scalar_text, ret_text, binary_te
 
 -- ---- lists
 
--- each with a comma before it
+-- Each with a comma before it.
 abbrev pub after_commas : List (List ℕ) → List ℕ
 after_commas [] = []
 after_commas (t ∷ ts) = codes ", " ++ (t ++ after_commas ts)
 
--- a comma between each two
+-- A comma between each two.
 abbrev pub commas : List (List ℕ) → List ℕ
 commas [] = []
 commas (t ∷ ts) = t ++ after_commas ts
 
--- `[a, b]`, and `[]` of nothing
+-- `[a, b]`, and `[]` of nothing.
 abbrev pub bracketed : List (List ℕ) → List ℕ
 bracketed ts = codes "[" ++ (commas ts ++ codes "]")
 
--- `{ a, b }`, and `{}` of nothing
+-- `{ a, b }`, and `{}` of nothing.
 abbrev pub braced : List (List ℕ) → List ℕ
 braced [] = codes "{}"
 braced (t ∷ ts) = codes "{ " ++ (commas (t ∷ ts) ++ codes " }")
 
--- `(a, b)`, and `()` of nothing
+-- `(a, b)`, and `()` of nothing.
 abbrev pub parenthesized : List (List ℕ) → List ℕ
 parenthesized ts = codes "(" ++ (commas ts ++ codes ")")
 
 -- ---- types
 
--- `[3 x i32]`, `{ i64, ptr }`, `{}`
+-- `[3 x i32]`, `{ i64, ptr }`, `{}`.
 abbrev pub type_step : Ty-F (List ℕ) → List ℕ
 type_step (Ty-F.Int w) = width_text w
 type_step Ty-F.Ptr = codes "ptr"
 type_step (Ty-F.Array n e) = codes "[" ++ (decimal n ++ (codes " x " ++ (e ++ codes "]")))
 type_step (Ty-F.Struct fs) = braced fs
 
--- the canonical text of a type (LLVM, "Type System")
+-- The canonical text of a type (LLVM, "Type System").
 abbrev pub type_text : Ty → List ℕ
 type_text = fold-Ty (List ℕ) type_step
 
 -- ---- constants
 
--- an integer of one bit: `false` for 0, else `true`
+-- An integer of one bit: `false` for 0, else `true`.
 abbrev pub truth_text : ℕ → List ℕ
 truth_text n = if n == 0 then codes "false" else codes "true"
 
--- the signed value of n below 2^w
+-- The signed value of n below 2^w.
 abbrev pub signed_text : ℕ → ℕ → List ℕ
 signed_text w n = if nat_lt n (2 ^ (w - 1)) then decimal n else codes "-" ++ decimal (2 ^ w - n)
 
--- signed decimal, and `true` and `false` of one bit
+-- Signed decimal, and `true` and `false` of one bit.
 abbrev pub number_text : Width → ℕ → List ℕ
 number_text W1 n = truth_text n
 number_text W8 n = signed_text 8 n
@@ -90,20 +90,20 @@ number_text W16 n = signed_text 16 n
 number_text W32 n = signed_text 32 n
 number_text W64 n = signed_text 64 n
 
--- an integer by its own width, without its type
+-- An integer by its own width, without its type.
 abbrev pub literal_text : Bits → List ℕ
 literal_text b = number_text b.width b.value
 
--- `i64 5`
+-- `i64 5`.
 abbrev pub index_text : Bits → List ℕ
 index_text b = width_text b.width ++ (codes " " ++ literal_text b)
 
--- `inbounds ` if it is set, else nothing
+-- `inbounds ` if it is set, else nothing.
 abbrev pub inbounds_text : Bool → List ℕ
 inbounds_text true = codes "inbounds "
 inbounds_text false = []
 
--- a constant without its type, by the texts of its items or of its `getelementptr`
+-- A constant without its type, by the texts of its items or of its `getelementptr`.
 abbrev pub const_step : Const-F (List ℕ) (List ℕ) (List ℕ) → List ℕ
 const_step (Const-F.Int b) = literal_text b
 const_step Const-F.Null = codes "null"
@@ -113,65 +113,65 @@ const_step (Const-F.Gep gep) = gep
 const_step (Const-F.Array items) = bracketed items
 const_step (Const-F.Struct items) = braced items
 
--- `getelementptr inbounds (T, ptr C, i64 0, i32 1)`
+-- `getelementptr inbounds (T, ptr C, i64 0, i32 1)`.
 abbrev pub gep_step : ConstGep-F (List ℕ) (List ℕ) (List ℕ) → List ℕ
 gep_step gep =
     codes "getelementptr " ++ (inbounds_text gep.inbounds ++ (codes "(" ++ (type_text gep.ty ++ (codes ", ptr "
     ++ (gep.base ++ (after_commas (map index_text gep.indices) ++ codes ")"))))))
 
--- `i64 5`, an item of a list: its type and its constant
+-- `i64 5`, an item of a list: its type and its constant.
 abbrev pub typed_step : TypedConst-F (List ℕ) (List ℕ) (List ℕ) → List ℕ
 typed_step item = type_text item.ty ++ (codes " " ++ item.value)
 
--- the canonical text of a constant, without the type before it (LLVM, "Constants")
+-- The canonical text of a constant, without the type before it (LLVM, "Constants").
 abbrev pub const_text : Const → List ℕ
 const_text = fold-Const (List ℕ) (List ℕ) (List ℕ) const_step gep_step typed_step
 
--- the text of a constant `getelementptr`
+-- The text of a constant `getelementptr`.
 abbrev pub gep_text : ConstGep → List ℕ
 gep_text = fold-ConstGep (List ℕ) (List ℕ) (List ℕ) const_step gep_step typed_step
 
--- the text of an item of a list: its type and its constant
+-- The text of an item of a list: its type and its constant.
 abbrev pub item_text : TypedConst → List ℕ
 item_text = fold-TypedConst (List ℕ) (List ℕ) (List ℕ) const_step gep_step typed_step
 
 -- ---- operands
 
--- `%x`, or a constant without its type
+-- `%x`, or a constant without its type.
 abbrev pub operand_text : Operand → List ℕ
 operand_text (operands.Reg name) = codes "%" ++ name
 operand_text (operands.Fixed value) = const_text value
 
--- `i64 %x`, an operand after its type
+-- `i64 %x`, an operand after its type.
 abbrev pub arg_text : Arg → List ℕ
 arg_text arg = scalar_text arg.ty ++ (codes " " ++ operand_text arg.value)
 
--- `, align 8`, in bytes, or nothing if no alignment is written
+-- `, align 8`, in bytes, or nothing if no alignment is written.
 abbrev pub align_text : Option ℕ → List ℕ
 align_text None = []
 align_text (Some n) = codes ", align " ++ decimal n
 
 -- ---- instructions
 
--- a flag and a space if it is set
+-- A flag and a space if it is set.
 abbrev pub flag_if : Flag → Bool → List ℕ
 flag_if flag true = flag_text flag ++ codes " "
 flag_if flag false = []
 
--- `nuw ` before `nsw `, and `exact `
+-- `nuw ` before `nsw `, and `exact `.
 abbrev pub flags_text : Flags → List ℕ
 flags_text flags = flag_if Nuw flags.nuw ++ (flag_if Nsw flags.nsw ++ flag_if Exact flags.exact)
 
--- `%x = `
+-- `%x = `.
 abbrev pub assigned_text : List ℕ → List ℕ
 assigned_text dest = codes "%" ++ (dest ++ codes " = ")
 
--- `%x = ` before a call whose result goes into a register, else nothing
+-- `%x = ` before a call whose result goes into a register, else nothing.
 abbrev pub result_text : Option (List ℕ) → List ℕ
 result_text None = []
 result_text (Some dest) = assigned_text dest
 
--- an instruction, without its line feed; `tail` is never written before `call` (LLVM, "Instruction Reference")
+-- An instruction, without its line feed; `tail` is never written before `call` (LLVM, "Instruction Reference").
 abbrev pub instr_text : Instr → List ℕ
 instr_text (instrs.Binary dest op flags w a b) =
     assigned_text dest ++ (binary_text op ++ (codes " " ++ (flags_text flags ++ (width_text w ++ (codes " "
@@ -200,20 +200,20 @@ instr_text (instrs.Call dest ret callee args) =
 
 -- ---- blocks
 
--- `[ 0, %entry ]`
+-- `[ 0, %entry ]`.
 abbrev pub edge_text : Edge → List ℕ
 edge_text edge = codes "[ " ++ (operand_text edge.value ++ (codes ", %" ++ (edge.label ++ codes " ]")))
 
--- `%x = phi i64 [ 0, %entry ], [ %y, %loop ]`
+-- `%x = phi i64 [ 0, %entry ], [ %y, %loop ]`.
 abbrev pub phi_text : Phi → List ℕ
 phi_text phi =
     assigned_text phi.dest ++ (codes "phi " ++ (scalar_text phi.ty ++ (codes " " ++ commas (map edge_text phi.edges))))
 
--- `i64 1, label %a `
+-- `i64 1, label %a `.
 abbrev pub case_text : Case → List ℕ
 case_text case = index_text case.value ++ (codes ", label %" ++ (case.label ++ codes " "))
 
--- the instruction that ends a block, a `switch` with all its cases on one line (LLVM, "Terminator Instructions")
+-- The instruction that ends a block, a `switch` with all its cases on one line (LLVM, "Terminator Instructions").
 abbrev pub end_text : End → List ℕ
 end_text (ends.Br label) = codes "br label %" ++ label
 end_text (ends.CondBr cond yes_label no_label) =
@@ -225,19 +225,19 @@ end_text (ends.Ret None) = codes "ret void"
 end_text (ends.Ret (Some arg)) = codes "ret " ++ arg_text arg
 end_text ends.Unreachable = codes "unreachable"
 
--- two spaces, and a line feed at the end
+-- Two spaces, and a line feed at the end.
 abbrev pub line_of : List ℕ → List ℕ
 line_of t = codes "  " ++ (t ++ codes "\n")
 
--- a phi on its line
+-- A phi on its line.
 abbrev pub phi_line : Phi → List ℕ
 phi_line p = line_of (phi_text p)
 
--- an instruction on its line
+-- An instruction on its line.
 abbrev pub instr_line : Instr → List ℕ
 instr_line i = line_of (instr_text i)
 
--- `entry:` on a line, then a line each for the phis, the instructions and the end
+-- `entry:` on a line, then a line each for the phis, the instructions and the end.
 abbrev pub block_text : Block → List ℕ
 block_text block =
     block.label ++ (codes ":\n" ++ (flat_map phi_line block.phis
@@ -245,12 +245,12 @@ block_text block =
 
 -- ---- programs
 
--- `, section ".pm"` of a persistent global, nothing of a volatile one
+-- `, section ".pm"` of a persistent global, nothing of a volatile one.
 abbrev pub section_text : Bool → List ℕ
 section_text true = codes ", section \".pm\""
 section_text false = []
 
--- `constant ` if the global is one, else `global `
+-- `constant ` if the global is one, else `global `.
 abbrev pub fixed_text : Bool → List ℕ
 fixed_text true = codes "constant "
 fixed_text false = codes "global "
@@ -261,22 +261,22 @@ global_text g =
     codes "@" ++ (g.name ++ (codes " = " ++ (fixed_text g.fixed ++ (type_text g.ty ++ (codes " " ++ (const_text g.init
     ++ (section_text g.persistent ++ (align_text g.align ++ codes "\n"))))))))
 
--- `declare i64 @f(ptr, i64)` and a line feed
+-- `declare i64 @f(ptr, i64)` and a line feed.
 abbrev pub extern_text : Extern → List ℕ
 extern_text e =
     codes "declare " ++ (ret_text e.ret ++ (codes " @" ++ (e.name ++ (parenthesized (map scalar_text e.params)
     ++ codes "\n"))))
 
--- `i64 %x`, a parameter by its type and its name
+-- `i64 %x`, a parameter by its type and its name.
 abbrev pub param_text : Param → List ℕ
 param_text p = scalar_text p.ty ++ (codes " %" ++ p.name)
 
--- `define i64 @f(i64 %x) {`, its blocks and `}`, the first and the last on a line each
+-- `define i64 @f(i64 %x) {`, its blocks and `}`, the first and the last on a line each.
 abbrev pub function_text : Function → List ℕ
 function_text f =
     codes "define " ++ (ret_text f.ret ++ (codes " @" ++ (f.name ++ (parenthesized (map param_text f.params)
     ++ (codes " {\n" ++ (flat_map block_text f.blocks ++ codes "}\n"))))))
 
--- the globals, then the externs, then the functions
+-- The globals, then the externs, then the functions.
 abbrev pub show : Program → List ℕ
 show p = flat_map global_text p.globals ++ (flat_map extern_text p.externs ++ flat_map function_text p.functions)

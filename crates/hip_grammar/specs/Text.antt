@@ -16,7 +16,7 @@ use Rattle.hip_grammar.specs.Numbers.{an_alignment}
 use Rattle.hip_grammar.specs.Grammar.{word, mark, scalar, type, const}
 use Rattle.hip_grammar.specs.Bodies.{ret, maybe_align, block}
 
--- the items of which a text is a list; `source_filename` and `target` are read and dropped
+-- The items of which a text is a list; `source_filename` and `target` are read and dropped.
 pub data Item : Type 0 where
   GlobalItem : GlobalVar → Item
   ExternItem : Extern → Item
@@ -71,7 +71,7 @@ placement = do
   _ ← mark (byte ",")
   either (is_word (codes "section")) section only_align
 
--- persistence and alignment as they are written; volatile and without an alignment if nothing is
+-- Persistence and alignment as they are written; volatile and without an alignment if nothing is.
 abbrev pub placed : Option (Bool × Option ℕ) → Bool × Option ℕ
 placed (Some p) = p
 placed None = (false, None)
@@ -125,7 +125,7 @@ param = do
   name ← token a_local
   gives (record { ty = s; name = name })
 
--- block { block }
+-- `block { block }`.
 unfoldable pub blocks : Part Fault (List Block)
 blocks = do
   first ← block
@@ -149,7 +149,7 @@ function = do
 
 -- ---- texts
 
--- global | extern | function | dropped
+-- `global | extern | function | dropped`.
 unfoldable pub item : Part Fault Item
 item =
     either is_global global
@@ -158,17 +158,17 @@ item =
     (either (is_word (codes "source_filename")) source_filename
     target_item)))
 
--- whether the token begins a global, an extern, a function, or what is dropped
+-- Whether the token begins a global, an extern, a function, or what is dropped.
 abbrev pub begins_item : Tok → Bool
 begins_item t =
     is_global t || (is_word (codes "declare") t || (is_word (codes "define") t || (is_word (codes "source_filename") t
     || is_word (codes "target") t)))
 
--- the program of a text without items
+-- The program of a text without items.
 abbrev pub no_items : Program
 no_items = record { globals = []; externs = []; functions = [] }
 
--- each item goes to the end of its list
+-- Each item goes to the end of its list.
 abbrev pub with_item : Program → Item → Program
 with_item p (GlobalItem g) = record p { globals = p.globals ++ g ∷ [] }
 with_item p (ExternItem e) = record p { externs = p.externs ++ e ∷ [] }

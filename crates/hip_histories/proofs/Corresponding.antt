@@ -56,12 +56,12 @@ reached f first onward (suc m) k le =
 
 -- ---- the frames of matching states have the same activations
 
--- the function of this number; 0 where there is none
+-- The function of this number; 0 where there is none.
 number_or : Option ℕ → ℕ
 number_or None = 0
 number_or (Some f) = f
 
--- the original of a function of the repaired program: the function itself, or the one that it is a clone of
+-- The original of a function of the repaired program: the function itself, or the one that it is a clone of.
 abbrev original_in : ℕ → List ℕ → ℕ → ℕ
 original_in functions copied f =
     cond (nat_lt f functions) f (number_or (slice_get copied (f - functions)))
@@ -115,7 +115,7 @@ module _ (P : Program) (plan : Plan) (skip : Site → Bool) where
   same_frames I n s s' (related t r b a kept le) =
       ap₂ (λ (x : Activation) (xs : List Activation). x ∷ xs) (same_activation t) (same_below b)
 
-  -- each function of the repaired program has an original in the program
+  -- Each function of the repaired program has an original in the program.
   from_origin : (f : ℕ) (fn : Function) → Origin P plan skip f fn → original f < length P.functions
   from_origin f fn o = by o.clone refl
     where
@@ -195,7 +195,7 @@ valid_back P Q d I v = record {
   limit = v.limit;
 }
 
--- the activation of the original of its function
+-- The activation of the original of its function.
 relabelled : (ℕ → ℕ) → Activation → Activation
 relabelled original a =
     record {
@@ -212,7 +212,7 @@ unfolding relabelled
 originals o p [] = refl
 originals o p (f ∷ fs) = ap (λ xs. activation (λ f. o (p f)) f ∷ xs) (originals o p fs)
 
--- a report of the third program has one of the first, of the same store
+-- A report of the third program has one of the first, of the same store.
 report_both : (P Q R : Program) (I : Input) (f g : ℕ → ℕ) (n : ℕ) (range : Range) (r : Report)
     → HasReportOf Q R I g n range r
     → ((r' : Report) → In r' (check_reports (run Q I (g n)) (Some range)) → HasReportOf P Q I f (g n) range r')

@@ -53,7 +53,7 @@ all_clean P (r ∷ rs) s I v clean =
     all_clean (repaired P r.plan r.skip) rs (repaired_is_sound P r.plan r.skip s) I (valid_again P r.plan r.skip I v)
     (stays_clean P r.plan r.skip s I v clean)
 
--- what was found after some repairs is mended by the next, and stays mended
+-- What was found after some repairs is mended by the next, and stays mended.
 pub all_mended : (P : Program) (before : List Repair) (r : Repair) (after : List Repair) → IsSound P → (I : Input)
     → (found : Findings) → IsValid P I → IsQuiet (repaired_on P before) r.skip
     → IsFound (repaired_on P before) I found → Contains r.plan (plan_for (repaired_on P before) found)
@@ -65,14 +65,14 @@ all_mended P (b ∷ before) r after s I found v quiet is has =
     all_mended (repaired P b.plan b.skip) before r after (repaired_is_sound P b.plan b.skip s) I found
     (valid_again P b.plan b.skip I v) quiet is has
 
--- the calls that a repair hoisted stay covered after any further repairs
+-- The calls that a repair hoisted stay covered after any further repairs.
 pub all_covered : (P : Program) (r : Repair) (later : List Repair) → IsSound P → IsQuiet P r.skip
     → StaysCovered P (repaired P r.plan r.skip) (repaired_on (repaired P r.plan r.skip) later)
 all_covered P r later s quiet =
     stays_covered P (repaired P r.plan r.skip) (repaired_on (repaired P r.plan r.skip) later)
     (repair_does_no_harm P r.plan r.skip s) (hoisted_calls_are_covered P r.plan r.skip s quiet)
 
--- what every chain of repairs keeps
+-- What every chain of repairs keeps.
 pub all_kept : (P : Program) (rs : List Repair) → IsSound P → KeepsProgram P (repaired_on P rs)
 all_kept P rs s =
     let harmless = all_harmless P rs s in

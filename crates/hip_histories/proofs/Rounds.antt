@@ -21,7 +21,7 @@ use Rattle.hip_histories.specs.NoHarm.{Mirrors, GoesAlong, DoesNoHarm}
 use Rattle.hip_histories.specs.WholeRuns.{EndAlike}
 use Rattle.hip_histories.proofs.Corresponding.{valid_back, valid_there}
 
--- working memory by a program's globals
+-- Working memory by a program's globals.
 abbrev memory_with : Input → World → List GlobalVar → Memory
 memory_with I w gs =
     record {
@@ -58,7 +58,7 @@ module _ (P Q : Program) (d : DoesNoHarm P Q) where
             (ap (λ (w : World). w.ending) (sym m.world)) rest.ended;
       }
 
-  -- the same world is the same working memory
+  -- The same world is the same working memory.
   same_memory : (I : Input) (w : World) → memory_of Q I w ≡ memory_of P I w
   same_memory I w = ap (memory_with I w) d.globals
 

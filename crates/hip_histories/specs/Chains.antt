@@ -21,12 +21,12 @@ use Rattle.hip_histories.specs.Histories.{AddsNoHistory, KeepsLosslessHistories}
 use Rattle.hip_histories.specs.NoHarm.{DoesNoHarm, GoesAlong}
 use Rattle.hip_histories.specs.WholeRuns.{EndAlike}
 
--- a repair: its plan, and the stores that its clones do not flush
+-- A repair: its plan, and the stores that its clones do not flush.
 pub record Repair : Type 0 where
   pub plan : Plan
   pub skip : Site → Bool
 
--- the program after these repairs, the first one first
+-- The program after these repairs, the first one first.
 abbrev pub repaired_on : Program → List Repair → Program
 repaired_on P [] = P
 repaired_on P (r ∷ rs) = repaired_on (repaired P r.plan r.skip) rs
@@ -63,7 +63,7 @@ pub record KeepsProgram (P Q : Program) : Type 0 where
   pub lossless : KeepsLosslessHistories P Q
   pub endings : (I : Input) → IsValid P I → EndAlike P Q I
 
--- a repair that was made for a trace: the input of the traced run, what that run found, and the repair
+-- A repair that was made for a trace: the input of the traced run, what that run found, and the repair.
 pub record TraceRepair : Type 0 where
   pub input : Input
   pub findings : Findings
@@ -77,16 +77,16 @@ pub record IsMadeFor (P : Program) (r : TraceRepair) : Type 0 where
   pub planned : Contains r.repair.plan (plan_for P r.findings)
   pub quiet : IsQuiet P r.repair.skip
 
--- each repair is made for a run of the program that the repairs before it left
+-- Each repair is made for a run of the program that the repairs before it left.
 abbrev pub AreMadeInTurn : Program → List TraceRepair → Type 0
 AreMadeInTurn P [] = Unit {0}
 AreMadeInTurn P (r ∷ rs) = IsMadeFor P r × AreMadeInTurn (repaired P r.repair.plan r.repair.skip) rs
 
--- the program after these repairs, the first one first
+-- The program after these repairs, the first one first.
 abbrev pub mended : Program → List TraceRepair → Program
 mended P rs = repaired_on P (map (λ r. r.repair) rs)
 
--- the calls that each of these repairs hoisted stay covered in R
+-- The calls that each of these repairs hoisted stay covered in R.
 abbrev pub AllStayCovered : Program → List TraceRepair → Program → Type 0
 AllStayCovered P [] R = Unit {0}
 AllStayCovered P (r ∷ rs) R = StaysCovered P (repaired P r.repair.plan r.repair.skip) R

@@ -19,11 +19,11 @@ pub record Round : Type 0 where
   pub steps : ℕ
   pub image : List ℕ
 
--- the input of a round whose run begins with these bytes in the region
+-- The input of a round whose run begins with these bytes in the region.
 abbrev pub input_of : List ℕ → Round → Input
 input_of bytes r = record { base = r.base; image = bytes; numbers = r.numbers; limit = r.limit }
 
--- the state of the round in which the crash comes
+-- The state of the round in which the crash comes.
 abbrev pub state_of : Program → List ℕ → Round → State
 state_of P bytes r = run P (input_of bytes r) r.steps
 
@@ -38,12 +38,12 @@ abbrev pub IsHistory : Program → List ℕ → List Round → Type 0
 IsHistory P bytes [] = Unit {0}
 IsHistory P bytes (r ∷ rs) = IsRound P bytes r × IsHistory P r.image rs
 
--- the output of a history: what each round had printed when its crash came
+-- The output of a history: what each round had printed when its crash came.
 abbrev pub outputs : Program → List ℕ → List Round → List (List ℕ)
 outputs P bytes [] = []
 outputs P bytes (r ∷ rs) = (state_of P bytes r).world.output ∷ outputs P r.image rs
 
--- how each round had ended when its crash came; none where it was still running
+-- How each round had ended when its crash came; none where it was still running.
 abbrev pub endings : Program → List ℕ → List Round → List (Option Ending)
 endings P bytes [] = []
 endings P bytes (r ∷ rs) = (state_of P bytes r).world.ending ∷ endings P r.image rs
@@ -55,7 +55,7 @@ pub record IsSameRound (r r' : Round) : Type 0 where
   pub limit : r'.limit ≡ r.limit
   pub image : r'.image ≡ r.image
 
--- there are as many rounds in both lists, and rounds at the same place are the same
+-- There are as many rounds in both lists, and rounds at the same place are the same.
 abbrev pub AreSameRounds : List Round → List Round → Type 0
 AreSameRounds [] [] = Unit {0}
 AreSameRounds (r ∷ rs) (r' ∷ rs') = IsSameRound r r' × AreSameRounds rs rs'

@@ -12,8 +12,8 @@ use Rattle.hip_repairs.specs.Harmless.{Extent, contents, extents}
 use Rattle.hip_survival.specs.Survival.{IsLooseAt}
 use Rattle.hip_repair_survival.specs.Kept.{IsAsDurable, IsNoWorse}
 
--- what a frame has besides its place in its block: the function, the block, the registers, the stack mark at its call
--- and its blocks on the stack
+-- What a frame has besides its place in its block: the function, the block, the registers, the stack mark at its call
+-- and its blocks on the stack.
 pub record Activation : Type 0 where
   pub function : ℕ
   pub block : ℕ
@@ -21,7 +21,7 @@ pub record Activation : Type 0 where
   pub mark : ℕ
   pub slots : List Extent
 
--- the activation of a frame, with the original of its function in place of the function
+-- The activation of a frame, with the original of its function in place of the function.
 abbrev pub activation : (ℕ → ℕ) → Frame → Activation
 activation original f =
     record {

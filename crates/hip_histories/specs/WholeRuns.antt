@@ -15,7 +15,7 @@ pub record HasEnded (P : Program) (I : Input) (n : ℕ) (ending : Ending) (outpu
   pub printed : (run P I n).world.output ≡ output
   pub working : memory_of P I (run P I n).world ≡ memory
 
--- after some number of steps the run has ended in this way
+-- After some number of steps the run has ended in this way.
 abbrev pub EndsSo : Program → Input → Ending → List ℕ → Memory → Type 0
 EndsSo P I ending output memory = (n : ℕ) × HasEnded P I n ending output memory
 

@@ -5,7 +5,7 @@ use Rattle.std.proofs.lemmas.List.{ext_get_or, get_or-take, get_or-drop, get_or_
 below_or_not : (m n : ℕ) → (m < n) ⊎ (n ≤ m)
 below_or_not m n = grind arith
 
--- zeros at the end do not show
+-- Zeros at the end do not show.
 pub index-zeros : (xs : List ℕ) (n i : ℕ) → slice_index xs i ≡ slice_index (xs ++ replicate n 0) i
 index-zeros xs n i = go (below_or_not i (length xs)) (below_or_not (i - length xs) n)
   where
@@ -14,7 +14,7 @@ index-zeros xs n i = go (below_or_not i (length xs)) (below_or_not (i - length x
     go (inr l) (inl m) = get_or_past xs i 0 l ∙ sym (get_or-append_right xs (replicate n 0) (length xs) i 0 refl l ∙ get_or-replicate n (i - length xs) 0 0 m)
     go (inr l) (inr m) = get_or_past xs i 0 l ∙ sym (get_or-append_right xs (replicate n 0) (length xs) i 0 refl l ∙ get_or_past (replicate n 0) (i - length xs) 0 (omega (arith, m, length-replicate {A = ℕ} n 0)))
 
--- a part of a list in front of zeros
+-- A part of a list in front of zeros.
 pub index-front : (xs bytes : List ℕ) (start from to i : ℕ) → from ≡ min start (length xs) → to ≡ min (length xs) (from + 64)
     → ((j : ℕ) → j < length (slice_range xs from to) → slice_index bytes j ≡ slice_index (slice_range xs from to) j)
     → ((j : ℕ) → length (slice_range xs from to) ≤ j → slice_index bytes j ≡ slice_index (replicate 64 0) j)
@@ -31,7 +31,7 @@ index-front xs bytes start from to i f t low high h = go (below_or_not (start + 
         low i (omega (arith, len, within)) ∙ get_or-take (to - from) (drop from xs) i 0 within ∙ get_or-drop from xs i 0 ∙ ap (λ n. slice_index xs (n + i)) same
     go (inr l) = high i (omega (arith, len, f, t, l)) ∙ get_or-replicate 64 i 0 0 h ∙ sym (get_or_past xs (start + i) 0 l)
 
--- a line of a list that ends with zeros
+-- A line of a list that ends with zeros.
 pub line-is : (xs bytes : List ℕ) (n at : ℕ) → length bytes ≡ 64 → at + 64 ≤ length (xs ++ replicate n 0)
     → ((i : ℕ) → i < 64 → slice_index bytes i ≡ slice_index xs (at + i)) → bytes ≡ take 64 (drop at (xs ++ replicate n 0))
 line-is xs bytes n at len h f =

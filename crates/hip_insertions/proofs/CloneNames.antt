@@ -11,7 +11,7 @@ use Rattle.hip_calls.specs.Fresh.{name_of}
 use Rattle.hip_names.specs.Numbered.{Numbers}
 use Rattle.hip_repairs.specs.Repaired.{clone_name, clones_from}
 
--- the name at a number, if there is one; else another
+-- The name at a number, if there is one; else another.
 abbrev pub named : List (List ℕ) → Option ℕ → List ℕ → List ℕ
 named names o other = unwrap_or (option_and_then (slice_get names) o) other
 

@@ -14,7 +14,7 @@ use Rattle.hip_insertions.specs.declared.body.Needed.{Needed}
 use Rattle.hip_insertions.specs.declared.repair.Made.{Made}
 use Rattle.hip_insertions.proofs.Grows.{grown-append, noted-append}
 
--- an item stands before the rest
+-- An item stands before the rest.
 pub ahead : {A : Type 0} (xs : List A) (k : ℕ) (x d : A) → k < length xs → x ≡ get_or xs k d → x ∷ drop (k + 1) xs ≡ drop k xs
 ahead xs k x d h e = ap (λ z. z ∷ drop (k + 1) xs) e ∙ sym (drop_more xs k d h)
 
@@ -22,7 +22,7 @@ next : (k : ℕ) → k + 1 ≡ suc k
 next k = omega arith
 
 module _ (clones : List Clone) (w : Wanted) where
-  -- an instruction with what is inserted after it
+  -- An instruction with what is inserted after it.
   pub added_at : (clone : Bool) (s : Site) (i j : Instr) (body first second : Body) (to flush fence : Bool) →
       to ≡ (clone || w.hoist s) → j ≡ renamed clones i to → first ≡ grown body ((j, false) ∷ []) →
       flush ≡ (w.flush_after s || (clone && not (w.skip s))) → second ≡ grown first (added_flush i flush) → fence ≡ (w.fence_after s || w.hoist s) →

@@ -16,7 +16,7 @@ use Rattle.hip_insertions.specs.declared.body.Needed.{Needed}
 use Rattle.hip_insertions.specs.declared.repair.Made.{Made}
 use Rattle.hip_insertions.specs.declared.repair.Repair.{Repair}
 
--- where a repair inserts, as sets of sites
+-- Where a repair inserts, as sets of sites.
 abbrev pub wanted_in : Repair → Wanted
 wanted_in r =
     record {
@@ -26,11 +26,11 @@ wanted_in r =
       skip = has_site r.skip;
     }
 
--- no function is named by an inserted call yet
+-- No function is named by an inserted call yet.
 abbrev pub none_needed : Needed
 none_needed = record { clwb = false; sfence = false; pmem_flush = false }
 
--- the functions that inserted calls name, after these instructions were added
+-- The functions that inserted calls name, after these instructions were added.
 abbrev pub noted : Needed → List Marked → Needed
 noted n ms =
     record {
@@ -39,46 +39,46 @@ noted n ms =
       pmem_flush = n.pmem_flush || inserts pmem_flush_name ms;
     }
 
--- a body after these instructions were added
+-- A body after these instructions were added.
 abbrev pub grown : Body → List Marked → Body
 grown body ms = record { instrs = body.instrs ++ instrs_of ms; needed = noted body.needed ms }
 
--- no function is made yet
+-- No function is made yet.
 abbrev pub none_made : Made
 none_made = record { functions = []; needed = none_needed }
 
--- what is made after these functions, which have these instructions, were added
+-- What is made after these functions, which have these instructions, were added.
 abbrev pub with_functions : Made → List Function → List Marked → Made
 with_functions made functions ms = record { functions = made.functions ++ functions; needed = noted made.needed ms }
 
--- the repaired instruction of a site, and what is inserted after it
+-- The repaired instruction of a site, and what is inserted after it.
 abbrev pub repaired_at : List Clone → Wanted → Bool → Site → Instr → List Marked
 repaired_at clones w clone s i = (renamed clones i (clone || w.hoist s), false) ∷ inserted_after w clone s i
 
--- the repaired bodies of blocks in order, the first of which has number b
+-- The repaired bodies of blocks in order, the first of which has number b.
 abbrev pub marked_blocks : List Clone → Wanted → Bool → ℕ → ℕ → List Block → List Marked
 marked_blocks clones w clone f b [] = []
 marked_blocks clones w clone f b (x ∷ xs) =
     repaired_body clones w clone f b 0 x.body ++ marked_blocks clones w clone f (suc b) xs
 
--- the same for functions, the first of which has number f
+-- The same for functions, the first of which has number f.
 abbrev pub marked_functions : List Clone → Wanted → ℕ → List Function → List Marked
 marked_functions clones w f [] = []
 marked_functions clones w f (x ∷ xs) =
     marked_blocks clones w false f 0 x.blocks ++ marked_functions clones w (suc f) xs
 
--- the repaired bodies of the clone of function f, block by block; none where there is no such function
+-- The repaired bodies of the clone of function f, block by block; none where there is no such function.
 abbrev pub marked_clone : List Clone → Wanted → ℕ → Option Function → List Marked
 marked_clone clones w f None = []
 marked_clone clones w f (Some x) = marked_blocks clones w true f 0 x.blocks
 
--- the same for the clones of these functions
+-- The same for the clones of these functions.
 abbrev pub marked_clones : Program → List Clone → Wanted → List ℕ → List Marked
 marked_clones P clones w fs = flat_map (λ f. marked_clone clones w f (slice_get P.functions f)) fs
 
 -- ---- declarations
 
--- the declarations that inserted calls need and that are absent
+-- The declarations that inserted calls need and that are absent.
 abbrev pub added : List Extern → Needed → List Extern
 added externs n =
     declared_if n.clwb externs clwb_name (Ptr ∷ [])

@@ -146,17 +146,17 @@ module _ (s : Scope) (t u v : Tables) (dest : Option (List ℕ)) (ret : Option S
         pointed = pointed;
       }
 
--- the number that the callee's name has
+-- The number that the callee's name has.
 pub number_is : (s : Scope) (callee : List ℕ) (args : List Arg) (number : ℕ) → Describes s → (c : Calls s.program.now callee args) → number_of s.functions.now callee ≡ Some number → number ≡ c.number
 number_is s callee args number d c e = same_Some number c.number (sym e ∙ ap (λ ns. number_of ns callee) d.functions ∙ c.named)
 
--- the number that stands in a table of functions
+-- The number that stands in a table of functions.
 pub number_given : (P : Program) (numbers : List ℕ) (f : ℕ → ℕ) (k number found : ℕ) → k ≡ number → OfFunctions P numbers f → number < length P.functions → slice_get numbers k ≡ Some found → found ≡ f number
 number_given P numbers f k number found e o lt h = same_Some found (f number) (sym h ∙ ap (slice_get numbers) e ∙ o.at number lt)
 
 -- ---- what a call names
 
--- no function has the name of an external function
+-- No function has the name of an external function.
 function_free : (P : Program) → IsSound P → (callee : List ℕ) (ret : Option Scalar) (args : List Arg) → CallsFunction P callee ret args → call_of callee ≡ None
 function_free P s callee ret args c =
     let free : call_of c.function.name ≡ None = all-at (λ f. IsFree f.name) P.functions c.number c.function s.externs.functions c.here in

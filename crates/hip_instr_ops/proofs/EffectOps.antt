@@ -21,7 +21,7 @@ use Rattle.hip_scope.specs.Known.{ArgsKnown, OperandKnown}
 use Rattle.hip_scope.specs.Scopes.{Does, names_of}
 use Rattle.hip_scope.specs.declared.scope.Scope.{Scope}
 
--- an argument that is there
+-- An argument that is there.
 pub arg_known : (names : List (List ℕ)) (args : List Arg) (k : ℕ) (x : Arg) → ArgsKnown names args → k < length args → x ≡ get_or args k x → OperandKnown names x.value
 arg_known names args k x h lt e =
     subst (λ (a : Arg). OperandKnown names a.value) (sym e) (all-at (λ a. OperandKnown names a.value) args k (get_or args k x) h (slice_get-get_or args k x lt))
@@ -41,7 +41,7 @@ both_taken s t [] a b le h k = absurd (let q : ⊥ = omega (arith, le) in q)
 both_taken s t (x ∷ []) a b le h k = absurd (let q : ⊥ = omega (arith, le) in q)
 both_taken s t (x ∷ y ∷ ys) a b le h k = (h x refl, k y refl)
 
--- the operands are those that a function with these parameters takes
+-- The operands are those that a function with these parameters takes.
 passed : (s : Scope) (t : Tables) (params : List Scalar) (args : List Arg) (a b : Operand) → length args ≡ length params → StandsForArg s t a args 0 → StandsForArg s t b args 1 →
     are_passed s.program.now.globals s.base (names_of s) t.constants params args a b
 passed s t [] args a b l h k = tt
@@ -56,7 +56,7 @@ taken_on : (globals : List GlobalVar) (base other : ℕ) (names : List (List ℕ
     are_taken globals base names constants call args a b → are_taken globals other names constants call args a b
 taken_on globals base other names constants call args a b e h = subst (λ r. are_taken globals r names constants call args a b) (sym e) h
 
--- the op of a call does what the call does
+-- The op of a call does what the call does.
 pub does_extern : (s : Scope) (t : Tables) (dest : Option (List ℕ)) (slot : Option ℕ) (ret : Option Scalar) (callee : List ℕ) (args : List Arg) (call : ExternCall) (a b : Operand) →
     call_of callee ≡ Some call → is_result (names_of s) slot dest → length args ≡ length (row_of call).params → StandsForArg s t a args 0 → StandsForArg s t b args 1 →
     Does s.program.now s.base s.number t (ops.Memory (memories.Effect (extern_op call slot a b))) (instrs.Call dest ret callee args)

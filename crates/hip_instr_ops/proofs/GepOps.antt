@@ -30,7 +30,7 @@ module _ (s : Scope) (t : Tables) (name : List ℕ) (dest : ℕ) (ty : Ty) (x : 
   offset_is : path.offset < 2 ^ 64 → (l : Leads s ty args path) → path.offset ≡ l.whole % 2 ^ 64
   offset_is small l = sym (mod-eq_of_lt small) ∙ l.offset
 
-  -- the indices lead as far on each input whose region begins at the base
+  -- The indices lead as far on each input whose region begins at the base.
   led : (l : Leads s ty args path) (terms : List Term) → path.terms ≡ terms → (I : Input) → I.base ≡ s.base → IsGep s.program.now.globals I.base (names_of s) t.constants ty args l.whole terms
   led l terms e I q =
       subst (λ ts. IsGep s.program.now.globals I.base (names_of s) t.constants ty args l.whole ts) e
@@ -52,7 +52,7 @@ module _ (s : Scope) (t : Tables) (name : List ℕ) (dest : ℕ) (ty : Ty) (x : 
         (led l _ (sym a.is.3) I q) (a.is.1 ∙ offset_is small l);
   }
 
--- the terms of an address are put into the table
+-- The terms of an address are put into the table.
 pub makes_terms : (t : Tables) (base : Operand) (offset from count : ℕ) (terms new : List Term) → new ≡ t.terms ++ terms → from ≡ length t.terms → count ≡ length terms →
     Makes t (record t { terms = new }) (λ w. IsAddress w base offset terms (geps.Terms base offset (record { from = from; count = count })))
 makes_terms t base offset from count terms new e f n = record {

@@ -108,7 +108,7 @@ enters_array s t a n e size old new is sized steps = record {
       (subst (λ z. is_over s constants a z steps.far steps.more) sized (steps.over constants)) h;
 }
 
--- the value of a literal index
+-- The value of a literal index.
 literal_is : (globals : List GlobalVar) (base : ℕ) (a : Arg) (b : Bits) → a.value ≡ Fixed (consts.Int b) → spelled_index a ≡ true → index_value a.ty (const_value globals base (consts.Int b)) ≡ index_of b
 literal_is globals base a b is spelled =
     ap (index_value a.ty) (int_value globals base b)
@@ -178,7 +178,7 @@ rest_is_suc [] k a lt is = absurd (let q : ⊥ = omega (arith, lt) in q)
 rest_is_suc (x ∷ args) zero a lt is = ap (λ y. y ∷ args) (sym is)
 rest_is_suc (x ∷ args) (suc k) a lt is = rest_is_suc args k a (omega (arith, lt)) is
 
--- the rest begins with the index
+-- The rest begins with the index.
 pub rest_is : (args : List Arg) (k : ℕ) (a : Arg) → k < length args → a ≡ get_or args k a → drop k args ≡ a ∷ drop (k + 1) args
 rest_is args k a lt is = rw add-one (rest_is_suc args k a lt is)
 
@@ -219,7 +219,7 @@ struct_field fs x t is h = by_option (named_field fs x) refl (subst (λ u. IsSom
     by_option None e h = absurd (let q : ⊥ = cc in q)
     by_option (Some u) e h = record { ty = u; is = e }
 
--- the field of a literal's number is there
+-- The field of a literal's number is there.
 pub field_there : (fs : List Ty) (x : Operand) (number : ℕ) → IsField fs x → IsLiteral x number → (t : Ty) × (slice_get fs number ≡ Some t) × (named_field fs x ≡ Some t)
 field_there fs x number f l =
     (f.ty, ap (slice_get fs) (sym l.number_is) ∙ ap (literal_field fs) (sym (out_int l.bits)) ∙ ap (named_field fs) (sym l.is) ∙ f.is, f.is)
@@ -231,11 +231,11 @@ pub field_fits : (fs : List Ty) (number : ℕ) (t u : Ty) → t ≡ Struct fs �
 field_fits fs number t u is here fits =
     subst Fits (get_or_from_slice_get fs number u Ptr here) (Fits-Struct fs number (slice_get_within fs number u here) (subst Fits is fits))
 
--- the entered type
+-- The entered type.
 pub entered_field : (fs : List Ty) (x : Operand) (t u : Ty) → t ≡ Struct fs → named_field fs x ≡ Some u → entered_by x (out-Ty t) ≡ Some u
 entered_field fs x t u is e = ap (entered_by x) (ap out-Ty is ∙ out_struct fs) ∙ e
 
--- the indices that are left enter
+-- The indices that are left enter.
 pub goes_on : (args : List Arg) (k : ℕ) (a : Arg) (t u : Ty) → drop k args ≡ a ∷ drop (k + 1) args → args_enter (drop k args) t ≡ true → entered_by a.value (out-Ty t) ≡ Some u → args_enter (drop (k + 1) args) u ≡ true
 goes_on args k a t u rest h e = ap (goes_in (args_enter (drop (k + 1) args))) (sym e) ∙ ap (λ xs. args_enter xs t) (sym rest) ∙ h
 
@@ -246,7 +246,7 @@ goes_somewhere args k a t rest h = by_option (entered_by a.value (out-Ty t)) (ap
     by_option None e = absurd (let q : ⊥ = cc in q)
     by_option (Some u) e = search rules
 
--- there is a first index, and the others enter the type
+-- There is a first index, and the others enter the type.
 pub first_agrees : (args : List Arg) (t : Ty) → gep_agrees args t ≡ true → (0 < length args) × (args_enter (drop 1 args) t ≡ true)
 first_agrees [] t h = absurd (let q : ⊥ = cc in q)
 first_agrees (x ∷ args) t h = (omega arith, h)

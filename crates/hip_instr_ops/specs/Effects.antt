@@ -6,6 +6,6 @@ use Rattle.hip_code.specs.declared.op.Operand.{Operand}
 use Rattle.hip_scope.specs.Scopes.{StandsFor}
 use Rattle.hip_scope.specs.declared.scope.Scope.{Scope}
 
--- the operand resolves the argument at that place
+-- The operand resolves the argument at that place.
 abbrev pub StandsForArg : Scope → Tables → Operand → List Arg → ℕ → Type 0
 StandsForArg s t o args k = (x : Arg) → slice_get args k ≡ Some x → StandsFor s t o x.value

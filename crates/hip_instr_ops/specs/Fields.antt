@@ -8,12 +8,12 @@ use Rattle.hip_tree.specs.declared.instr.Operand.TheVariants.{Fixed}
 use Rattle.hip_globals.specs.Constants.{index_of}
 use Rattle.hip_sound.specs.Places.{named_field}
 
--- the index names a field
+-- The index names a field.
 pub record IsField (fields : List Ty) (index : Operand) : Type 0 where
   pub ty : Ty
   pub is : named_field fields index ≡ Some ty
 
--- the index is the literal of that number
+-- The index is the literal of that number.
 pub record IsLiteral (index : Operand) (number : ℕ) : Type 0 where
   pub bits : Bits
   pub is : index ≡ Fixed (Int bits)

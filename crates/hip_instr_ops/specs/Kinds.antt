@@ -2,7 +2,7 @@
 use Rattle.hip_tree.specs.declared.instr.Instr.{Instr}
 use Rattle.hip_tree.specs.declared.instr.Instr.TheVariants as instrs
 
--- the instruction computes a value from those of its operands, and does nothing else
+-- The instruction computes a value from those of its operands, and does nothing else.
 abbrev pub IsValue : Instr → Type 0
 IsValue (instrs.Binary dest op flags width a b) = Unit {0}
 IsValue (instrs.Compare dest pred ty a b) = Unit {0}

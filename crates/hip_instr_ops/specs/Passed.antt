@@ -11,7 +11,7 @@ use Rattle.hip_scope.specs.Growth.{Makes}
 use Rattle.hip_scope.specs.Scopes.{StandsFor}
 use Rattle.hip_scope.specs.declared.scope.Scope.{Scope}
 
--- the moves are those of arguments into slots that follow one another
+-- The moves are those of arguments into slots that follow one another.
 abbrev pub are_passed : Scope → Tables → ℕ → List Move → List Arg → Type 0
 are_passed s t slot [] [] = Unit {0}
 are_passed s t slot [] (x ∷ xs) = ⊥
@@ -19,13 +19,13 @@ are_passed s t slot (m ∷ ms) [] = ⊥
 are_passed s t slot (m ∷ ms) (x ∷ xs) =
     (m.dest ≡ slot) × StandsFor s t m.value x.value × are_passed s t (suc slot) ms xs
 
--- the moves of arguments are put into the table
+-- The moves of arguments are put into the table.
 pub record Passes (s : Scope) (t u : Tables) (args : List Arg) : Type 0 where
   pub moves : List Move
   pub are : u.moves ≡ t.moves ++ moves
   pub makes : Makes t u (λ v. are_passed s v 0 moves args)
 
--- the callee is a function that takes as many arguments as there are
+-- The callee is a function that takes as many arguments as there are.
 pub record Calls (P : Program) (callee : List ℕ) (args : List Arg) : Type 0 where
   pub number : ℕ
   pub function : Function

@@ -31,13 +31,13 @@ pub record ReadsAssigned (P : Program) (f : Frame) : Type 0 where
       All (IsAmong (assigned_names f.registers)) (used_registers (instr_uses i))
   pub last : (e : End) → code_at P f ≡ [] → end_at P f ≡ Some e →
       All (IsAmong (assigned_names f.registers)) (used_registers (end_uses e))
-  -- the same for the operands that the phis of a block have for control from the frame's block
+  -- The same for the operands that the phis of a block have for control from the frame's block.
   pub phis : (c j m : ℕ) (to : Block) (p : Phi) (e : Edge) → code_at P f ≡ []
       → block_at P f.function c ≡ Some to →
       slice_get to.phis j ≡ Some p → slice_get p.edges m ≡ Some e →
       e.label ≡ label_of (block_at P f.function f.block) →
       All (IsAmong (assigned_names f.registers)) (operand_registers e.value)
-  -- each of these phis has such an operand
+  -- Each of these phis has such an operand.
   pub edges : (e : End) (c j : ℕ) (to : Block) (p : Phi) → end_at P f ≡ Some e
       → block_at P f.function c ≡ Some to →
       IsAmong (end_labels e) to.label → slice_get to.phis j ≡ Some p →
@@ -50,7 +50,7 @@ pub record ReadsAssigned (P : Program) (f : Frame) : Type 0 where
 pub record IsNeverStuck (P : Program) (I : Input) (n : ℕ) : Type 0 where
   pub frame : (f : Frame) × (fs : List Frame) × ((run P I n).frames ≡ f ∷ fs)
   pub frames : frames_hold (top_is_reached P) (caller_is_reached P) (main_number P) (run P I n).frames
-  -- a register that each path to the place of the top frame assigns has a value
+  -- A register that each path to the place of the top frame assigns has a value.
   pub assigned : (f : Frame) (fs : List Frame) (fn : Function) (name : List ℕ) → IsTop (run P I n) f fs →
       slice_get P.functions f.function ≡ Some fn → IsAssigned fn f.block (Before f.place) name →
       IsAmong (assigned_names f.registers) name

@@ -10,16 +10,16 @@ use Rattle.hip_runs.specs.declared.event.Object.TheVariants as objects
 use Rattle.hip_runs.specs.Found.Objects.{object_at}
 use Rattle.hip_runs.specs.State.{Slot, Frame}
 
--- the blocks of all frames, the newest first
+-- The blocks of all frames, the newest first.
 abbrev pub slots_of : List Frame → List Slot
 slots_of frames = flat_map (λ f. f.slots) frames
 
--- the global of that number is there and contains the address
+-- The global of that number is there and contains the address.
 abbrev pub GlobalHas : Program → ℕ → ℕ → GlobalVar → ℕ → Type 0
 GlobalHas P base k g a = (slice_get P.globals k ≡ Some g)
     × (range_contains (address P base k) (shape g.ty).size a ≡ true)
 
--- block j of all frames, counted from the newest one as 0, is there and contains an address
+-- Block j of all frames, counted from the newest one as 0, is there and contains an address.
 abbrev pub SlotHas : List Frame → ℕ → Slot → ℕ → Type 0
 SlotHas frames j x a = (slice_get (slots_of frames) j ≡ Some x) × (range_contains x.addr x.size a ≡ true)
 

@@ -57,17 +57,17 @@ after_offset (Some t) offset =
 
 -- ---- constants
 
--- the level of the global of a number: none if it is persistent, else 0; 0 too if the name has no number
+-- The level of the global of a number: none if it is persistent, else 0; 0 too if the name has no number.
 abbrev pub number_level : List GlobalVar → Option ℕ → PointerLevel
 number_level globals None = Some 0
 number_level globals (Some k) = cond (is_persistent globals k) None (Some 0)
 
--- a volatile global has level 0, a persistent one none
+-- A volatile global has level 0, a persistent one none.
 abbrev pub global_level : List GlobalVar → List ℕ → PointerLevel
 global_level globals name = number_level globals (number_of (map (λ g. g.name) globals) name)
 
--- the level of a constant, from the levels of names and of its `getelementptr`: 0 for `null` and `zeroinitializer`,
--- none for an integer, an array and a struct
+-- The level of a constant, from the levels of names and of its `getelementptr`: 0 for `null` and `zeroinitializer`,
+-- none for an integer, an array and a struct.
 abbrev pub level_step : (List ℕ → PointerLevel) → Const-F PointerLevel PointerLevel PointerLevel → PointerLevel
 level_step names Const-F.Null = Some 0
 level_step names Const-F.Zero = Some 0
@@ -75,12 +75,12 @@ level_step names (Const-F.Address name) = names name
 level_step names (Const-F.Gep level) = level
 level_step names _ = None
 
--- the level of a constant `getelementptr`, from its base's: the level after its offset, which is 0 where there is no
--- such element
+-- The level of a constant `getelementptr`, from its base's: the level after its offset, which is 0 where there is no
+-- such element.
 abbrev pub gep_level_step : ConstGep-F PointerLevel PointerLevel PointerLevel → PointerLevel
 gep_level_step gep = after_offset gep.base (unwrap_or (gep_of gep.ty (map index_of gep.indices)) 0)
 
--- the level of an item of an array or a struct: that of its constant; no other level depends on it
+-- The level of an item of an array or a struct: that of its constant; no other level depends on it.
 abbrev pub item_level_step : TypedConst-F PointerLevel PointerLevel PointerLevel → PointerLevel
 item_level_step item = item.value
 
@@ -92,29 +92,29 @@ const_level globals =
 
 -- ---- rules
 
--- a level for each register of each function, by the function's number, and for each function's result
+-- A level for each register of each function, by the function's number, and for each function's result.
 pub record Levels : Type 0 where
   pub register : ℕ → List ℕ → PointerLevel
   pub result : ℕ → PointerLevel
 
--- the value of an index that is an integer constant or `zeroinitializer`, sign-extended to 64 bits; none of another
--- constant
+-- The value of an index that is an integer constant or `zeroinitializer`, sign-extended to 64 bits; none of another
+-- constant.
 abbrev pub constant_index : Scalar → Const-F Const ConstGep TypedConst → Option ℕ
 constant_index ty (Const-F.Int b) = Some (index_value ty b.value)
 constant_index ty Const-F.Zero = Some (index_value ty 0)
 constant_index ty _ = None
 
--- the value of an index that is such a constant; none of a register
+-- The value of an index that is such a constant; none of a register.
 abbrev pub known_index : Scalar → Operand → Option ℕ
 known_index ty (Reg name) = None
 known_index ty (Fixed c) = constant_index ty (out-Const c)
 
--- the value of an index before those of the indices after it, if all have one
+-- The value of an index before those of the indices after it, if all have one.
 abbrev pub both : Option ℕ → Option (List ℕ) → Option (List ℕ)
 both (Some i) (Some is) = Some (i ∷ is)
 both _ _ = None
 
--- the values of indices that are all such constants; none where one is a register or another constant
+-- The values of indices that are all such constants; none where one is a register or another constant.
 abbrev pub known_path : List Arg → Option (List ℕ)
 known_path [] = Some []
 known_path (a ∷ args) = both (known_index a.ty a.value) (known_path args)
@@ -125,17 +125,17 @@ gep_level a ty None = None
 gep_level a ty (Some path) = after_offset a (unwrap_or (gep_of ty path) 0)
 
 module _ (P : Program) (L : Levels) (g : ℕ) where
-  -- the level of an operand: that of its register or of its constant
+  -- The level of an operand: that of its register or of its constant.
   abbrev pub operand_level : Operand → PointerLevel
   operand_level (Reg name) = L.register g name
   operand_level (Fixed c) = const_level P.globals c
 
-  -- the register that a result goes into, if there is one, has at least this level
+  -- The register that a result goes into, if there is one, has at least this level.
   abbrev pub goes_into : PointerLevel → Option (List ℕ) → Type 0
   goes_into a None = Unit {0}
   goes_into a (Some dest) = is_at_most a (L.register g dest)
 
-  -- each parameter has at least the level of its argument
+  -- Each parameter has at least the level of its argument.
   abbrev pub args_are_at_most : ℕ → List Param → List Arg → Type 0
   args_are_at_most h (p ∷ ps) (a ∷ args) =
       is_at_most (operand_level a.value) (L.register h p.name) × args_are_at_most h ps args

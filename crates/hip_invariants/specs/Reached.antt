@@ -10,7 +10,7 @@ use Rattle.hip_sound.specs.declared.point.Point.TheVariants.{Before, AtEnd}
 use Rattle.hip_runs.specs.Places.{code_at, end_at}
 use Rattle.hip_runs.specs.State.{Registers, Frame}
 
--- the names of the registers that have values
+-- The names of the registers that have values.
 abbrev pub assigned_names : Registers → List (List ℕ)
 assigned_names rs = map (λ (r : List ℕ × ℕ). r.0) rs
 
@@ -37,10 +37,10 @@ abbrev pub StandsAtUnreachable : Program → Frame → Type 0
 StandsAtUnreachable P f = (code_at P f ≡ []) × (end_at P f ≡ Some ends.Unreachable)
 
 module _ (P : Program) where
-  -- the place of the frame on top
+  -- The place of the frame on top.
   abbrev pub top_is_reached : Frame → Type 0
   top_is_reached f = IsReached P None f.function f.block f.place f.registers
 
-  -- the place after the call that a frame waits for, whose result goes into a register
+  -- The place after the call that a frame waits for, whose result goes into a register.
   abbrev pub caller_is_reached : ℕ → Option (List ℕ) → Frame → Type 0
   caller_is_reached h dest f = IsReached P dest f.function f.block f.place f.registers

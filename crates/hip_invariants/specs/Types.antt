@@ -25,12 +25,12 @@ use Rattle.hip_runs.specs.Step.{run}
 use Rattle.hip_runs.specs.Laws.StepLaws.{IsTop}
 use Rattle.hip_invariants.specs.FrameFacts.{each_register}
 
--- the type of a register of a function
+-- The type of a register of a function.
 abbrev pub type_in : Option Function → List ℕ → Option (Option Scalar)
 type_in None name = None
 type_in (Some fn) name = find_register (registers_of fn) name
 
--- the type that the function of a number gives a register; none where it has no such register
+-- The type that the function of a number gives a register; none where it has no such register.
 abbrev pub register_type : Program → ℕ → List ℕ → Option (Option Scalar)
 register_type P g name = type_in (slice_get P.functions g) name
 
@@ -43,7 +43,7 @@ fits_type _ v = Unit {0}
 pub record FitsType (P : Program) (g : ℕ) (name : List ℕ) (v : ℕ) : Type 0 where
   pub is : fits_type (register_type P g name) v
 
--- the type of a function's result
+-- The type of a function's result.
 abbrev pub result_in : Option Function → Option (Option Scalar)
 result_in None = None
 result_in (Some fn) = Some fn.ret

@@ -18,7 +18,7 @@ keeps_prefix old new piece bytes later rose = record {
   rose = rose;
 }
 
--- the file at a place is the first of its name among those from there on
+-- The file at a place is the first of its name among those from there on.
 pub first_here : (files : List NamedFile) (at : ℕ) (f : NamedFile) (name : List ℕ) → at < length files → f ≡ get_or files at f → bytes_eq f.name name ≡ true → file_of (drop at files) name ≡ Some f.bytes
 first_here files at f name within is same =
     let here : file_of (get_or files at f ∷ drop (at + 1) files) name ≡ Some f.bytes = rw (← is, same) refl in

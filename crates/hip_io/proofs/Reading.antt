@@ -14,7 +14,7 @@ pub both_pieces : (xs ys : List ℕ) (old mid new : Option (List ℕ)) → old �
 both_pieces xs ys old mid None p q = p ∙ ap (option_map (λ rest. xs ++ rest)) q
 both_pieces xs ys old mid (Some rest) p q = p ∙ ap (option_map (λ rest. xs ++ rest)) q ∙ ap (λ (zs : List ℕ). Some zs) (sym (append_assoc xs ys rest))
 
--- memory ran out for the piece that came last
+-- Memory ran out for the piece that came last.
 pub stopped : (old mid new : CabinetState) (limit n : ℕ) (bytes buffer : List ℕ) → HasTakenAll old mid bytes → HasGot mid new buffer n → length bytes + n ≤ limit + 1 → HasStopped old new limit
 stopped old mid new limit n bytes buffer h k le = record {
   part = record {
@@ -26,7 +26,7 @@ stopped old mid new limit n bytes buffer h k le = record {
   faults = k.faults ∙ h.faults;
 }
 
--- a file that was fetched, and read in part
+-- A file that was fetched, and read in part.
 pub begun : (old mid new : CabinetState) (name : List ℕ) (limit : ℕ) → IsFetched old mid name → HasTakenPart mid new limit → HasBegun old new name limit
 begun old mid new name limit f p = record {
   current = p.stays.current;
@@ -108,7 +108,7 @@ too_much old mid new name limit f r = record {
     by_files None t = tt
     by_files (Some fs) t = file fs t
 
--- what is read after the fetch answers for the whole
+-- What is read after the fetch answers for the whole.
 pub read_on : (old mid new : CabinetState) (name : List ℕ) (limit : ℕ) (r : Result (List ℕ) ReadRefusal) → IsFetched old mid name → HasReadRest mid new limit r → HasRead old new name limit r
 read_on old mid new name limit (Ok bytes) f r = whole old mid new name limit bytes f r
 read_on old mid new name limit (Err refusals.Missing) f r = absurd r

@@ -19,16 +19,16 @@ pub record CabinetState : Type 0 where
   pub misses : ℕ
   pub faults : ℕ
 
--- where the files are known and one is current, so are its name and its rest
+-- Where the files are known and one is current, so are its name and its rest.
 abbrev pub IsStated : CabinetState → Type 0
 IsStated s = IfSome s.files (λ files. s.is_current ≡ true → (is_some s.name ≡ true) × (is_some s.rest ≡ true))
 
--- the bytes of the first file of that name
+-- The bytes of the first file of that name.
 abbrev pub file_of : List NamedFile → List ℕ → Option (List ℕ)
 file_of [] name = None
 file_of (file ∷ files) name = if bytes_eq file.name name then Some file.bytes else file_of files name
 
--- where the files are known, so are the name and the rest of the one that was fetched
+-- Where the files are known, so are the name and the rest of the one that was fetched.
 pub record IsFirstFile (files : List NamedFile) (name : List ℕ) (new : CabinetState) : Type 0 where
   pub bytes : List ℕ
   pub found : file_of files name ≡ Some bytes
@@ -64,13 +64,13 @@ pub record HasFailedFetch (old new : CabinetState) : Type 0 where
   pub rose : Rose old.faults new.faults
   pub current : new.is_current ≡ false
 
--- what a fetch of that name does, by its answer
+-- What a fetch of that name does, by its answer.
 abbrev pub HasFetched : CabinetState → CabinetState → List ℕ → Fetched → Type 0
 HasFetched old new name fetched.Ready = IsFetched old new name
 HasFetched old new name fetched.Missing = IsMissed old new name
 HasFetched old new name fetched.Failed = HasFailedFetch old new
 
--- what every `take` leaves as it is
+-- What every `take` leaves as it is.
 pub record StaysOpen (old new : CabinetState) : Type 0 where
   pub files : new.files ≡ old.files
   pub fetches : new.fetches ≡ old.fetches
@@ -100,7 +100,7 @@ pub record HasFailedTake (old new : CabinetState) : Type 0 where
   pub rose : Rose old.faults new.faults
   pub rest : new.rest ≡ old.rest
 
--- what a `take` does, by its answer; the buffer is the one after it
+-- What a `take` does, by its answer; the buffer is the one after it.
 abbrev pub HasTaken : CabinetState → CabinetState → List ℕ → Taken → Type 0
 HasTaken old new buffer (taken.Got n) = HasGot old new buffer n
 HasTaken old new buffer taken.End = IsAtEnd old new

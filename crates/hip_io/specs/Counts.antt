@@ -5,6 +5,6 @@ use Rattle.std.specs.Prelude.{ℕ, ◌+◌, ◌-◌, ◌^◌, ◌≤◌, min}
 abbrev pub Rose : ℕ → ℕ → Type 0
 Rose before after = min (before + 1) (2 ^ 64 - 1) ≤ after
 
--- one more, or the last value
+-- One more, or the last value.
 abbrev pub counted : ℕ → ℕ
 counted before = min (before + 1) (2 ^ 64 - 1)

@@ -11,7 +11,7 @@ use Rattle.hip_io.specs.declared.failing_cabinet.FailAt.{FailAt}
 use Rattle.hip_io.specs.declared.failing_cabinet.FailAt.TheVariants.{Fetch, Byte}
 use Rattle.hip_io.specs.declared.mem_cabinet.Place.{Place}
 
--- a file that is read: its name, and what is left of it
+-- A file that is read: its name, and what is left of it.
 pub record OpenFile : Type 0 where
   pub name : List ℕ
   pub rest : List ℕ
@@ -24,8 +24,8 @@ pub record MemFiles : Type 0 where
   pub fetches : ℕ
   pub misses : ℕ
 
--- what is known of a cabinet in memory: all its files, and the name and the rest of the current one; it counts no
--- faults
+-- What is known of a cabinet in memory: all its files, and the name and the rest of the current one; it counts no
+-- faults.
 abbrev pub mem_cabinet_state : MemFiles → CabinetState
 mem_cabinet_state m = record {
   files = Some m.files;
@@ -37,7 +37,7 @@ mem_cabinet_state m = record {
   faults = 0;
 }
 
--- the name and the rest of the current file are known
+-- The name and the rest of the current file are known.
 pub memory_stated : (m : MemFiles) → IsStated (mem_cabinet_state m)
 memory_stated m = by_file m.current
   where
@@ -53,7 +53,7 @@ pub record MemBytes : Type 0 where
   pub room : ℕ
   pub faults : ℕ
 
--- what is known of a sink in memory: all bytes that it was given, but not the room
+-- What is known of a sink in memory: all bytes that it was given, but not the room.
 abbrev pub mem_sink_state : MemBytes → SinkState
 mem_sink_state m = record { bytes = Some m.bytes; faults = m.faults }
 
@@ -65,14 +65,14 @@ open_file files place =
     (λ p. option_map (λ f. record { name = f.name; rest = drop p.taken f.bytes }) (slice_get files p.file))
     place
 
--- the file of that number is the first one of the name
+-- The file of that number is the first one of the name.
 pub record IsFirstAt (files : List NamedFile) (name : List ℕ) (at : ℕ) : Type 0 where
   pub file : NamedFile
   pub here : slice_get files at ≡ Some file
   pub named : file.name ≡ name
   pub first : file_of files name ≡ Some file.bytes
 
--- a `take` gave at most n bytes; at the end, and where it failed, it gave none
+-- A `take` gave at most n bytes; at the end, and where it failed, it gave none.
 abbrev pub GotAtMost : ℕ → Taken → Type 0
 GotAtMost most (Got n) = n ≤ most
 GotAtMost most End = Unit {0}
@@ -88,23 +88,23 @@ pub record FailingFiles : Type 0 where
   pub fetches : ℕ
   pub faults : ℕ
 
--- what is known of a cabinet that fails: what its files in memory do, with the fetches and faults that it has counted
+-- What is known of a cabinet that fails: what its files in memory do, with the fetches and faults that it has counted.
 abbrev pub failing_cabinet_state : FailingFiles → CabinetState
 failing_cabinet_state f = record (mem_cabinet_state f.inner) { fetches = f.fetches; faults = f.faults }
 
 pub failing_stated : (f : FailingFiles) → IsStated (failing_cabinet_state f)
 failing_stated f = memory_stated f.inner
 
--- how many bytes a file gives before it fails, if it does not fail at its fetch
+-- How many bytes a file gives before it fails, if it does not fail at its fetch.
 abbrev limit_of : FailAt → Option ℕ
 limit_of Fetch = None
 limit_of (Byte n) = Some n
 
--- how many bytes a file of this name gives once it is fetched, if it is the one that fails
+-- How many bytes a file of this name gives once it is fetched, if it is the one that fails.
 abbrev pub left_of : FailingFiles → List ℕ → Option ℕ
 left_of f name = if bytes_eq f.name name then limit_of f.at else None
 
--- how many bytes the file that fails still gives after a read
+-- How many bytes the file that fails still gives after a read.
 abbrev pub left_after : Option ℕ → Taken → Option ℕ
 left_after left (Got n) = option_map (λ l. l - n) left
 left_after left End = left

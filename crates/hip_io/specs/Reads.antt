@@ -80,7 +80,7 @@ pub record HasReadPart (old new : CabinetState) (name : List ℕ) (limit : ℕ) 
   pub faults : new.faults ≡ old.faults
   pub begun : HasBegun old new name limit
 
--- what `read_all` does, by its answer
+-- What `read_all` does, by its answer.
 abbrev pub HasRead : CabinetState → CabinetState → List ℕ → ℕ → Result (List ℕ) ReadRefusal → Type 0
 HasRead old new name limit (Ok bytes) = HasReadWhole old new name limit bytes
 HasRead old new name limit (Err refusals.Missing) = IsMissed old new name
@@ -88,19 +88,19 @@ HasRead old new name limit (Err refusals.ReadFault) = HasFailedRead old new name
 HasRead old new name limit (Err refusals.TooLarge) = HasReadTooMuch old new name limit
 HasRead old new name limit (Err refusals.NoMemory) = HasReadPart old new name limit
 
--- the whole rest of the current file was taken
+-- The whole rest of the current file was taken.
 pub record HasTakenRest (old new : CabinetState) (limit : ℕ) (bytes : List ℕ) : Type 0 where
   pub taken : HasTakenAll old new bytes
   pub fits : length bytes ≤ limit
   pub ended : IfSome new.rest (λ rest. rest ≡ [])
 
--- more than the limit was taken
+-- More than the limit was taken.
 pub record HasTakenTooMuch (old new : CabinetState) (limit : ℕ) : Type 0 where
   pub bytes : List ℕ
   pub taken : HasTakenAll old new bytes
   pub long : length bytes ≡ limit + 1
 
--- at most one byte more than the limit was taken
+-- At most one byte more than the limit was taken.
 pub record HasTakenPart (old new : CabinetState) (limit : ℕ) : Type 0 where
   pub bytes : List ℕ
   pub stays : StaysOpen old new
@@ -118,7 +118,7 @@ pub record HasStopped (old new : CabinetState) (limit : ℕ) : Type 0 where
   pub part : HasTakenPart old new limit
   pub faults : new.faults ≡ old.faults
 
--- what reading the rest of the current file does, by its answer, which is never that no file has the name
+-- What reading the rest of the current file does, by its answer, which is never that no file has the name.
 abbrev pub HasReadRest : CabinetState → CabinetState → ℕ → Result (List ℕ) ReadRefusal → Type 0
 HasReadRest old new limit (Ok bytes) = HasTakenRest old new limit bytes
 HasReadRest old new limit (Err refusals.Missing) = ⊥

@@ -23,12 +23,12 @@ pub record AppendsPrefix (old new : SinkState) (text : List ℕ) : Type 0 where
   pub later : old.faults ≤ new.faults
   pub rose : Rose old.faults new.faults
 
--- what a `put` of the text does, by its answer
+-- What a `put` of the text does, by its answer.
 abbrev pub HasPut : SinkState → SinkState → List ℕ → Put → Type 0
 HasPut old new text Done = AppendsAll old new text
 HasPut old new text Failed = AppendsPrefix old new text
 
--- what a writer of the text does, by its answer
+-- What a writer of the text does, by its answer.
 abbrev pub Wrote : {T E : Type 0} → SinkState → SinkState → List ℕ → Result T E → Type 0
 Wrote old new text (Ok _) = AppendsAll old new text
 Wrote old new text (Err _) = AppendsPrefix old new text
@@ -38,7 +38,7 @@ pub record StaysFailed (after : Put) (old new : SinkState) : Type 0 where
   pub answer : after ≡ Failed
   pub state : new ≡ old
 
--- what a stage does, by the outcome of those before it: a `put` of the text if none has failed, else nothing
+-- What a stage does, by the outcome of those before it: a `put` of the text if none has failed, else nothing.
 abbrev pub writes_from : Put → Put → SinkState → SinkState → List ℕ → Type 0
 writes_from Done after old new text = HasPut old new text after
 writes_from Failed after old new text = StaysFailed after old new

@@ -96,7 +96,7 @@ module _ (P : Program) where
   element_knows g (Reg name) ty (Some path) = tt
   element_knows g (Fixed c) ty (Some path) = past_is_level _ _ (const_is_level P.globals c)
 
-  -- the only rule of a list
+  -- The only rule of a list.
   only : (r s : Rule) → knows_level r.least → In s (r ∷ []) → KnowsLevel s
   only r s h (inl e) = subst KnowsLevel (sym e) (record { is = h })
   only r s h (inr i) = absurd i

@@ -10,7 +10,7 @@ use Rattle.hip_levels.proofs.LevelOrder.{at_most_same, at_most_next, at_most_bot
 
 -- ---- the levels that rules know
 
--- a level that is known is one
+-- A level that is known is one.
 abbrev pub knows_level : Bound → Type 0
 knows_level (Known a) = is_level a
 knows_level (AtOffset offset v) = Unit {0}
@@ -51,7 +51,7 @@ raised_below r A B met below v = go (same_variable r.variable v) refl
     go true e = greater_least (A v) _ (B v) (below v) (at_most_next _ _ _ (bound_more A B below r.least) (subst (λ w. is_at_most (bound_in B r.least) (B w)) (same_variable_is r.variable v e) met))
     go false e = below v
 
--- where a rule is met nothing is raised
+-- Where a rule is met nothing is raised.
 greater_same : (a b : PointerLevel) → is_at_most b a → greater a b ≡ a
 greater_same a b h = at_most_both _ _ (greater_least a b a (at_most_same a) h) (greater_first a b)
 
@@ -78,7 +78,7 @@ rank_most : (a : PointerLevel) → is_level a → rank a ≤ 33
 rank_most None p = omega arith
 rank_most (Some t) p = omega arith
 
--- a level is at most another, or ranks above it
+-- A level is at most another, or ranks above it.
 met_or_above : (a b : PointerLevel) → is_level b → is_at_most a b ⊎ (rank b < rank a)
 met_or_above a None p = inl tt
 met_or_above None (Some u) p = inr (omega arith)
@@ -114,7 +114,7 @@ weight_rises A B levels below (x ∷ rs) r (inr i) lt =
     let rest = weight_rises A B levels below rs r i lt in
     omega arith
 
--- a rule is met, or it raises its variable
+-- A rule is met, or it raises its variable.
 met_or_raised : (A : Assignment) → AreLevels A → (r : Rule) → knows_level r.least → IsMet A r ⊎ (rank (A r.variable) < rank (raised r A r.variable))
 met_or_raised A levels r h = ⊎_elim (λ met. inl met) (λ above. inr (up above)) (met_or_above (bound_in A r.least) (A r.variable) (levels r.variable))
   where
@@ -150,7 +150,7 @@ module _ (all : List Rule) (known : (r : Rule) → In r all → KnowsLevel r) wh
   round_below [] A B met below = below
   round_below (r ∷ rs) A B met below = round_below rs (raised r A) B (λ s i. met s (inr i)) (raised_below r A B (met r (inl refl)) below)
 
-  -- after a round all rules were met, or the levels have risen
+  -- After a round all rules were met, or the levels have risen.
   round_ends : (rs : List Rule) (A : Assignment) → AreRules rs → AreLevels A → AllMet A rs ⊎ (weight A all < weight (round rs A) all)
   unfolding round
   round_ends [] A are levels = inl (λ r i. absurd i)

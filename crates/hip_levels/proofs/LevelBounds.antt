@@ -81,7 +81,7 @@ module _ (P : Program) (s : IsSound P) (I : Input) (A : Assignment) where
 
   -- ---- instructions
 
-  -- a value within the bound of a rule for a register
+  -- A value within the bound of a rule for a register.
   ruled : (g : ℕ) (dest : List ℕ) (least : Bound) (v : ℕ) → IsMet A (rule P g dest least) → within_level (bound_in A least) v → IsWithin A g dest v
   ruled g dest least v met m = record { is = within_higher (bound_in A least) (A (Register g dest)) v met m }
 
@@ -142,7 +142,7 @@ module _ (P : Program) (s : IsSound P) (I : Input) (A : Assignment) where
   -- ---- runs
 
   module _ (closed : IsClosedUnder (level_rules P) A) where
-    -- in each frame at each step
+    -- In each frame at each step.
     levels_hold : (n : ℕ) → values_in_frames (IsWithin A) (ResultIsWithin A) (run P I n).frames
     levels_hold =
         fact_holds (IsWithin A) (ResultIsWithin A) P I
@@ -155,7 +155,7 @@ module _ (P : Program) (s : IsSound P) (I : Input) (A : Assignment) where
           result = λ f fn block arg h at e. record { is = result_within f.function f.registers h arg (λ r m. closed.met r (of_end P f.function f.block fn block at r (subst (λ (x : End). In r (end_rules P f.function x)) (sym e) m))) };
         })
 
-    -- an address of a level up to 32 lies below the region
+    -- An address of a level up to 32 lies below the region.
     pub low_address : IsValid P I → (n : ℕ) (f : Frame) (fs : List Frame) (o : Operand) (t : ℕ) → IsTop (run P I n) f fs → bound_in A (operand_bound P f.function o) ≡ Some t → t ≤ 32 → value_of P.globals I.base f.registers o < I.base
     low_address valid n f fs o t top level small =
         let all : values_in_frames (IsWithin A) (ResultIsWithin A) (f ∷ fs) = subst (values_in_frames (IsWithin A) (ResultIsWithin A)) top.frames (levels_hold n) in

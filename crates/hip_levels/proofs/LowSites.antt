@@ -13,15 +13,15 @@ use Rattle.hip_levels.specs.Rules.{level_rules}
 use Rattle.hip_levels.proofs.KnownLevels.{rules_know, program_is_least}
 use Rattle.hip_levels.proofs.LeastLevels.{least_is_one}
 
--- the stores that are low by an assignment
+-- The stores that are low by an assignment.
 abbrev pub low_by : Program → Assignment → Site → Bool
 low_by P A s = stores_low P A s.function (instr_of P s)
 
--- where the assignment is a least one, the stores are the low ones
+-- Where the assignment is a least one, the stores are the low ones.
 pub low_by_least : (P : Program) (A : Assignment) → IsLeast (level_rules P) A → low_by P A ≡ low_stores P
 low_by_least P A least =
     ap (low_by P) (fun_ext (λ v. least_is_one (level_rules P) (rules_know P) A (least_levels P) least (program_is_least P) v))
 
--- a site is found exactly where a low store stands
+-- A site is found exactly where a low store stands.
 pub found_low : (P : Program) (s : Site) → has_site (filter (low_stores P) (sites_of P)) s ≡ low_stores P s
 found_low P = listed P (low_stores P) (λ s e. ap (stores_low P (least_levels P) s.function) e)

@@ -91,7 +91,7 @@ has_at [] k d lt = absurd (omega arith)
 has_at (x ∷ rules) zero d lt = inl refl
 has_at (x ∷ rules) (suc k) d lt = inr (has_at rules k d (omega arith))
 
--- the first n rules are met
+-- The first n rules are met.
 pub record FirstMet (levels : List ℕ) (rules : List Rule) (n : ℕ) : Type 0 where
   pub each : (k : ℕ) (d : Rule) → k < n → k < length rules → reached levels (get_or rules k d).least ≤ at levels (get_or rules k d).variable
 

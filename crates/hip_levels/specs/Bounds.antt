@@ -9,7 +9,7 @@ pub data Variable : Type 0 where
   Register : ℕ → List ℕ → Variable
   Result : ℕ → Variable
 
--- whether two variables are the same register of the same function, or the result of the same function
+-- Whether two variables are the same register of the same function, or the result of the same function.
 abbrev pub same_variable : Variable → Variable → Bool
 same_variable (Register g name) (Register h other) = nat_eq g h && bytes_eq name other
 same_variable (Result g) (Result h) = nat_eq g h
@@ -25,23 +25,23 @@ pub record Rule : Type 0 where
   pub variable : Variable
   pub least : Bound
 
--- the bound of level 0
+-- The bound of level 0.
 abbrev pub low : Bound
 low = Known (Some 0)
 
--- the bound that only the level Free meets, which is the greatest: nothing is known of such a pointer
+-- The bound that only the level Free meets, which is the greatest: nothing is known of such a pointer.
 abbrev pub free : Bound
 free = Known None
 
--- the level of a variable itself
+-- The level of a variable itself.
 abbrev pub same_as : Variable → Bound
 same_as v = AtOffset 0 v
 
--- a level for each variable
+-- A level for each variable.
 abbrev pub Assignment : Type 0
 Assignment = Variable → PointerLevel
 
--- the level that a bound means, by the levels of the variables
+-- The level that a bound means, by the levels of the variables.
 abbrev pub bound_in : Assignment → Bound → PointerLevel
 bound_in A (Known a) = a
 bound_in A (AtOffset offset v) = after_offset (A v) offset

@@ -4,12 +4,12 @@ use Rattle.hip_invariants.specs.PointerLevels.{PointerLevel, is_at_most}
 use Rattle.hip_runs.specs.StoredParts.Parts.{In}
 use Rattle.hip_levels.specs.Bounds.{Variable, Rule, Assignment, same_variable, bound_in}
 
--- a level is a number from 0 to 32, or Free (this project's own, as all of this file)
+-- A level is a number from 0 to 32, or Free (this project's own, as all of this file).
 abbrev pub is_level : PointerLevel → Type 0
 is_level None = Unit {0}
 is_level (Some t) = t ≤ 32
 
--- the variable of a rule has at least the least level of the rule
+-- The variable of a rule has at least the least level of the rule.
 abbrev pub IsMet : Assignment → Rule → Type 0
 IsMet A r = is_at_most (bound_in A r.least) (A r.variable)
 
@@ -25,21 +25,21 @@ pub record IsLeast (rs : List Rule) (A : Assignment) : Type 0 where
 
 -- ---- the least one by rounds
 
--- the greater of two levels
+-- The greater of two levels.
 abbrev pub greater : PointerLevel → PointerLevel → PointerLevel
 greater None b = None
 greater (Some t) None = None
 greater (Some t) (Some u) = cond (nat_lt t u) (Some u) (Some t)
 
--- every level is 0
+-- Every level is 0.
 abbrev pub lowest : Assignment
 lowest v = Some 0
 
--- the variable of a rule is raised to the rule's least level, if its own is lower
+-- The variable of a rule is raised to the rule's least level, if its own is lower.
 abbrev pub raised : Rule → Assignment → Assignment
 raised r A v = cond (same_variable r.variable v) (greater (A v) (bound_in A r.least)) (A v)
 
--- a round: one rule after another
+-- A round: one rule after another.
 unfoldable pub round : List Rule → Assignment → Assignment
 round [] A = A
 round (r ∷ rs) A = round rs (raised r A)

@@ -21,33 +21,33 @@ use Rattle.hip_invariants.specs.PointerLevels.{PointerLevel, level_step, gep_lev
 
 -- ---- constants
 
--- the level of a global that is persistent, volatile, or not there
+-- The level of a global that is persistent, volatile, or not there.
 abbrev pub persistence_level : Option Bool → PointerLevel
 persistence_level (Some true) = None
 persistence_level _ = Some 0
 
--- the level of a global by a table of which globals are persistent
+-- The level of a global by a table of which globals are persistent.
 abbrev pub level_beside : NameTable Bool → List ℕ → PointerLevel
 level_beside table name = persistence_level (value_beside table.names table.values name)
 
--- the level of a constant, and of an element, where names have these levels
+-- The level of a constant, and of an element, where names have these levels.
 abbrev pub level_with : (List ℕ → PointerLevel) → Const → PointerLevel
 level_with names = fold-Const PointerLevel PointerLevel PointerLevel (level_step names) gep_level_step item_level_step
 
--- the level of an element's address: that of its base at the element's offset, which is 0 where the indices lead
--- nowhere
+-- The level of an element's address: that of its base at the element's offset, which is 0 where the indices lead
+-- nowhere.
 abbrev pub element_with : (List ℕ → PointerLevel) → ConstGep → PointerLevel
 element_with names =
     fold-ConstGep PointerLevel PointerLevel PointerLevel (level_step names) gep_level_step item_level_step
 
 -- ---- types that fit
 
--- the types in an operand fit
+-- The types in an operand fit.
 abbrev pub OperandFits : Operand → Type 0
 OperandFits (Reg name) = Unit {0}
 OperandFits (Fixed value) = AllFit (types_in value)
 
--- the types that the rules of an instruction use fit
+-- The types that the rules of an instruction use fit.
 abbrev pub InstrFits : Instr → Type 0
 InstrFits (Select dest test ty a b) = OperandFits a × OperandFits b
 InstrFits (Gep dest inbounds ty base indices) = OperandFits base × Fits ty
@@ -55,21 +55,21 @@ InstrFits (Store ty value addr align) = OperandFits addr
 InstrFits (Call dest ret callee args) = All (λ a. OperandFits a.value) args
 InstrFits _ = Unit {0}
 
--- the types in the operands of a phi fit
+-- The types in the operands of a phi fit.
 abbrev pub PhiFits : Phi → Type 0
 PhiFits p = All (λ e. OperandFits e.value) p.edges
 
--- the types in the value that a `ret` returns fit; other ends need nothing
+-- The types in the value that a `ret` returns fit; other ends need nothing.
 abbrev pub EndFits : End → Type 0
 EndFits (ends.Ret (Some a)) = OperandFits a.value
 EndFits _ = Unit {0}
 
--- the types that the rules of a block use fit: those of its phis, its body and its end
+-- The types that the rules of a block use fit: those of its phis, its body and its end.
 pub record BlockFits (b : Block) : Type 0 where
   pub phis : All PhiFits b.phis
   pub body : All InstrFits b.body
   pub last : EndFits b.end
 
--- the types that the rules of a function use fit, in each of its blocks
+-- The types that the rules of a function use fit, in each of its blocks.
 abbrev pub FunctionFits : Function → Type 0
 FunctionFits fn = All BlockFits fn.blocks

@@ -13,7 +13,7 @@ use Rattle.hip_levels.specs.Rules.{operand_bound, level_rules}
 abbrev pub least_levels : Program → Assignment
 least_levels P = least_of (level_rules P)
 
--- the site has a store whose address operand has another level than Free
+-- The site has a store whose address operand has another level than Free.
 abbrev pub stores_low : Program → Assignment → ℕ → Option Instr → Bool
 stores_low P A g (Some (Store ty value addr align)) = is_some (bound_in A (operand_bound P g addr))
 stores_low P A g _ = false

@@ -5,57 +5,57 @@ use Rattle.hip_levels.specs.declared.numbered.Least.{Least}
 use Rattle.hip_levels.specs.declared.numbered.Least.TheVariants as least
 use Rattle.hip_levels.specs.declared.numbered.Rule.{Rule}
 
--- the number of the level at an offset
+-- The number of the level at an offset.
 abbrev pub offset_rank : ℕ → ℕ → ℕ
 offset_rank level offset =
     cond (nat_eq offset 0) level (cond (nat_lt offset 67108864) (cond (nat_lt level 32) (suc level) 33) 33)
 
--- the level that a bound means, where the variables have these levels
+-- The level that a bound means, where the variables have these levels.
 abbrev pub reached_by : (ℕ → ℕ) → Least → ℕ
 reached_by levels (least.Known level) = level
 reached_by levels (least.AtOffset offset variable) = offset_rank (levels variable) offset
 
--- the levels of a table
+-- The levels of a table.
 abbrev pub at : List ℕ → ℕ → ℕ
 at levels k = slice_index levels k
 
--- the level that a bound means, where the variables have the levels of a table, and 0 past its end
+-- The level that a bound means, where the variables have the levels of a table, and 0 past its end.
 abbrev pub reached : List ℕ → Least → ℕ
 reached levels l = reached_by (at levels) l
 
--- whether a rule raises its variable
+-- Whether a rule raises its variable.
 abbrev pub rises : List ℕ → Rule → Bool
 rises levels r = nat_lt (at levels r.variable) (reached levels r.least)
 
--- the levels after a rule: its variable is raised to the rule's least level, if its own is lower
+-- The levels after a rule: its variable is raised to the rule's least level, if its own is lower.
 abbrev pub risen : List ℕ → Rule → List ℕ
 risen levels r = cond (rises levels r) (slice_set levels r.variable (reached levels r.least)) levels
 
--- a known level is at most 33, and a variable has a number below the count
+-- A known level is at most 33, and a variable has a number below the count.
 abbrev pub LeastIsWithin : ℕ → Least → Type 0
 LeastIsWithin count (least.Known level) = level ≤ 33
 LeastIsWithin count (least.AtOffset offset variable) = variable < count
 
--- the variable that a rule raises has a number below a count, and so has that of its least level; a known level is at
--- most 33
+-- The variable that a rule raises has a number below a count, and so has that of its least level; a known level is at
+-- most 33.
 pub record IsWithin (count : ℕ) (r : Rule) : Type 0 where
   pub variable : r.variable < count
   pub least : LeastIsWithin count r.least
 
--- each rule names only variables with numbers below the count, and no known level above 33
+-- Each rule names only variables with numbers below the count, and no known level above 33.
 pub record AreWithin (count : ℕ) (rules : List Rule) : Type 0 where
   pub each : (r : Rule) → In r rules → IsWithin count r
 
--- each rule is met
+-- Each rule is met.
 pub record AreMetBy (levels : ℕ → ℕ) (rules : List Rule) : Type 0 where
   pub each : (r : Rule) → In r rules → reached_by levels r.least ≤ levels r.variable
 
--- these levels are at most those of every assignment that meets the rules
+-- These levels are at most those of every assignment that meets the rules.
 pub record IsBelowAll (rules : List Rule) (levels : List ℕ) : Type 0 where
   pub small : (k : ℕ) → at levels k ≤ 33
   pub least : (other : ℕ → ℕ) → AreMetBy other rules → (k : ℕ) → at levels k ≤ other k
 
--- how far levels may still rise
+-- How far levels may still rise.
 abbrev pub room : List ℕ → ℕ
 room [] = 0
 room (level ∷ levels) = (33 - level) + room levels

@@ -22,43 +22,43 @@ use Rattle.hip_invariants.specs.PointerLevels.{after_offset, const_level, known_
 use Rattle.hip_levels.specs.Bounds.{Bound, Rule, Register, Result, Known, AtOffset, low, free, same_as}
 
 module _ (P : Program) (g : ℕ) where
-  -- the bound of an operand: level 0 for `null`, `zeroinitializer` and a volatile global, free for a persistent global
+  -- The bound of an operand: level 0 for `null`, `zeroinitializer` and a volatile global, free for a persistent global.
   abbrev pub operand_bound : Operand → Bound
   operand_bound (Reg name) = same_as (Register g name)
   operand_bound (Fixed c) = Known (const_level P.globals c)
 
-  -- the bound at an offset from an operand
+  -- The bound at an offset from an operand.
   abbrev pub offset_bound : Operand → ℕ → Bound
   offset_bound (Reg name) offset = AtOffset offset (Register g name)
   offset_bound (Fixed c) offset = Known (after_offset (const_level P.globals c) offset)
 
-  -- the bound of an element of an operand, by the values of the indices; free if one of them is a register
+  -- The bound of an element of an operand, by the values of the indices; free if one of them is a register.
   abbrev pub element_bound : Operand → Ty → Option (List ℕ) → Bound
   element_bound base ty None = free
   element_bound base ty (Some path) = offset_bound base (unwrap_or (gep_of ty path) 0)
 
-  -- the rule that a register has at least the level of a bound
+  -- The rule that a register has at least the level of a bound.
   abbrev pub rule : List ℕ → Bound → Rule
   rule name least = record { variable = Register g name; least = least }
 
-  -- the register that the result of a call goes into, if any
+  -- The register that the result of a call goes into, if any.
   abbrev pub rule_for_result : Option (List ℕ) → Bound → List Rule
   rule_for_result None least = []
   rule_for_result (Some name) least = rule name least ∷ []
 
-  -- a parameter: the level of its argument, at each call of its function
+  -- A parameter: the level of its argument, at each call of its function.
   abbrev pub argument_rules : ℕ → List Param → List Arg → List Rule
   argument_rules h [] args = []
   argument_rules h (p ∷ ps) [] = []
   argument_rules h (p ∷ ps) (a ∷ args) =
       record { variable = Register h p.name; least = operand_bound a.value } ∷ argument_rules h ps args
 
-  -- the rules of a call of the function of number h, given that function if there is one
+  -- The rules of a call of the function of number h, given that function if there is one.
   abbrev pub rules_into : Option (List ℕ) → List Arg → ℕ → Option Function → List Rule
   rules_into dest args h None = []
   rules_into dest args h (Some fn) = rule_for_result dest (same_as (Result h)) ++ argument_rules h fn.params args
 
-  -- the rules of a call of a defined function by its number; none where no function has the name
+  -- The rules of a call of a defined function by its number; none where no function has the name.
   abbrev pub entry_rules : Option (List ℕ) → List Arg → Option ℕ → List Rule
   entry_rules dest args None = []
   entry_rules dest args (Some h) = rules_into dest args h (slice_get P.functions h)
@@ -80,24 +80,24 @@ module _ (P : Program) (g : ℕ) where
   instr_rules (Compare dest pred ty a b) = rule dest free ∷ []
   instr_rules (Store ty value addr align) = []
 
-  -- a phi: the level of each of its values
+  -- A phi: the level of each of its values.
   abbrev pub phi_rules : Phi → List Rule
   phi_rules p = map (λ e. rule p.dest (operand_bound e.value)) p.edges
 
-  -- the result of a function: the level of what each `ret` returns
+  -- The result of a function: the level of what each `ret` returns.
   abbrev pub end_rules : End → List Rule
   end_rules (ends.Ret (Some a)) = record { variable = Result g; least = operand_bound a.value } ∷ []
   end_rules _ = []
 
-  -- the rules of a block: of its phis, its body and its end, in this order
+  -- The rules of a block: of its phis, its body and its end, in this order.
   abbrev pub block_rules : Block → List Rule
   block_rules b = flat_map phi_rules b.phis ++ (flat_map instr_rules b.body ++ end_rules b.end)
 
-  -- the rules of a function, block by block
+  -- The rules of a function, block by block.
   abbrev pub function_rules : Function → List Rule
   function_rules fn = flat_map block_rules fn.blocks
 
--- the rules of functions in their order, the first of which has number g
+-- The rules of functions in their order, the first of which has number g.
 abbrev pub rules_from : Program → ℕ → List Function → List Rule
 rules_from P g [] = []
 rules_from P g (fn ∷ fns) = function_rules P g fn ++ rules_from P (suc g) fns

@@ -12,39 +12,39 @@ use Rattle.hip_levels.specs.declared.variables.Bound.TheVariants as bounds
 use Rattle.hip_levels.specs.declared.variables.Variable as held
 use Rattle.hip_levels.specs.declared.variables.Variable.TheVariants as variables
 
--- the level of a number
+-- The level of a number.
 abbrev pub level_of : ℕ → PointerLevel
 level_of n = cond (nat_lt n 33) (Some n) None
 
--- the variable that a variable of the code is
+-- The variable that a variable of the code is.
 abbrev pub variable_of : held.Variable → Variable
 variable_of (variables.Register g name) = Register g name.now
 variable_of (variables.Result g) = Result g
 
--- the bound that a bound of the code is; a known level is given by its number, and is Free from 33 on
+-- The bound that a bound of the code is; a known level is given by its number, and is Free from 33 on.
 abbrev pub bound_of : held_bound.Bound → Bound
 bound_of (bounds.Known level) = Known (level_of level)
 bound_of (bounds.AtOffset offset variable) = AtOffset offset (variable_of variable)
 
--- a known level is a level's number
+-- A known level is a level's number.
 abbrev pub IsSmall : held_bound.Bound → Type 0
 IsSmall (bounds.Known level) = level ≤ 33
 IsSmall (bounds.AtOffset offset variable) = Unit {0}
 
--- the variable of a number
+-- The variable of a number.
 abbrev pub variable_at : List Variable → ℕ → Variable
 variable_at vs k = unwrap_or (slice_get vs k) (Result 0)
 
--- the bound that a bound over numbers is, where the variables have these numbers
+-- The bound that a bound over numbers is, where the variables have these numbers.
 abbrev pub least_named : List Variable → numbered_least.Least → Bound
 least_named vs (numbered.Known level) = Known (level_of level)
 least_named vs (numbered.AtOffset offset k) = AtOffset offset (variable_at vs k)
 
--- the rule that a rule over numbers is
+-- The rule that a rule over numbers is.
 abbrev pub named : List Variable → numbered_rule.Rule → Rule
 named vs r = record { variable = variable_at vs r.variable; least = least_named vs r.least }
 
--- each variable has one number, and the rules name no others
+-- Each variable has one number, and the rules name no others.
 pub record IsTable (vs : List Variable) (rs : List numbered_rule.Rule) : Type 0 where
   pub distinct : IsDistinct same_variable vs
   pub within : AreWithin (length vs) rs
@@ -54,18 +54,18 @@ pub record Grows (old new : List Variable) : Type 0 where
   pub kept : (k : ℕ) → k < length old → (k < length new) × (variable_at new k ≡ variable_at old k)
   pub distinct : IsDistinct same_variable old → IsDistinct same_variable new
 
--- a variable and its level
+-- A variable and its level.
 pub record Leveled : Type 0 where
   pub variable : Variable
   pub level : PointerLevel
 
--- variables with their levels
+-- Variables with their levels.
 abbrev pub leveled : List Variable → List ℕ → List Leveled
 leveled [] levels = []
 leveled (v ∷ vs) [] = []
 leveled (v ∷ vs) (n ∷ levels) = record { variable = v; level = level_of n } ∷ leveled vs levels
 
--- the level that a variable has in the list; 0 if it is not there
+-- The level that a variable has in the list; 0 if it is not there.
 abbrev pub level_among : List Leveled → Assignment
 level_among [] v = Some 0
 level_among (x ∷ xs) v = cond (same_variable v x.variable) x.level (level_among xs v)

@@ -48,7 +48,7 @@ pub lines-fenced : (n : ℕ) (m m' : Queues) → ((j : ℕ) → pending_at m' j 
 unfolding lines_of
 lines-fenced n m m' h = table_mapped pending_fenced (pending_at m) (pending_at m') h 0 n
 
--- the one line that a byte reaches
+-- The one line that a byte reaches.
 here_or_not : (o j : ℕ) → ((has_bytes j o 1 ≡ true) × (j ≡ o / 64)) ⊎ ((has_bytes j o 1 ≡ false) × (j ≢ o / 64))
 here_or_not o j = grind (arith, nat_tests)
 
@@ -60,16 +60,16 @@ lines-flushed o n m m' c = table_changed (λ _ w. pending_flushed w) o 1 (pendin
     go j (inl x) = ap (pending_at m') x.1 ∙ c.here ∙ ap (λ k. pending_flushed (pending_at m k)) (sym x.1) ∙ ap (λ b. cond b (pending_flushed (pending_at m j)) (pending_at m j)) (sym x.0)
     go j (inr x) = ap pending_by (c.others j x.1) ∙ ap (λ b. cond b (pending_flushed (pending_at m j)) (pending_at m j)) (sym x.0)
 
--- lines that are equal have equal pending parts
+-- Lines that are equal have equal pending parts.
 pub lines-at : (n k : ℕ) (m m' : Queues) → k < n → lines_of n m' ≡ lines_of n m → pending_at m' k ≡ pending_at m k
 unfolding lines_of
 lines-at n k m m' h e = table_at (pending_at m) (pending_at m') n k h e
 
--- the list stays right where no line's parts change
+-- The list stays right where no line's parts change.
 pub listed-same : (lines lines' : List ℕ) (m m' : Queues) → lines' ≡ lines → ((j : ℕ) → pending_at m' j ≡ pending_at m j) → ListsFlushed lines m → ListsFlushed lines' m'
 listed-same lines lines' m m' e h l = subst (λ (xs : List ℕ). ListsFlushed xs m') (sym e) (record { distinct = l.distinct; listed = λ j. l.listed j ∙ ap (λ (w : Pending Part). nat_lt 0 w.flushed) (sym (h j)) })
 
--- with no line in it no line holds a flushed part
+-- With no line in it no line holds a flushed part.
 pub none_listed : (m : Queues) → ListsFlushed [] m → (j : ℕ) → pending_at m j ≡ pending_fenced (pending_at m j)
 none_listed m l j = ap (λ k. record { parts = (pending_at m j).parts; flushed = k }) z ∙ ap (λ k. pending_fenced (record { parts = (pending_at m j).parts; flushed = k })) (sym z)
   where
@@ -104,7 +104,7 @@ none_listed-empty lines m e h = subst (λ (xs : List ℕ). ListsFlushed xs m) (s
 pub listed-fenced : (lines : List ℕ) (m m' : Queues) → lines ≡ [] → ((j : ℕ) → pending_at m' j ≡ pending_fenced (pending_at m j)) → ListsFlushed lines m'
 listed-fenced lines m m' e h = subst (λ (xs : List ℕ). ListsFlushed xs m') (sym e) (record { distinct = none_distinct; listed = λ j. none_listed-from_fenced m m' h j })
 
--- a fence with a line in the list changes that line
+-- A fence with a line in the list changes that line.
 pub fence-changes : (n : ℕ) (lines : List ℕ) (m m' : Queues) → ListsFlushed lines m → AreBelow n m → 0 < length lines → ((j : ℕ) → pending_at m' j ≡ pending_fenced (pending_at m j)) → lines_of n m' ≡ lines_of n m → ⊥
 fence-changes n [] m m' l b h p e = absurd (omega arith)
 fence-changes n (j ∷ js) m m' l b h p e =
@@ -123,6 +123,6 @@ pub lines-flushed_all : (o k n : ℕ) (m m' : Queues) → FlushesLines o k m m' 
 unfolding lines_of
 lines-flushed_all o k n m m' f = table_changed (λ _ w. pending_flushed w) o k (pending_at m) (pending_at m') f.pending 0 n
 
--- a line that changed is a line of the region
+-- A line that changed is a line of the region.
 pub some-changes : (n : ℕ) (m m' : Queues) → ChangesSome m m' → AreBelow n m → lines_of n m' ≡ lines_of n m → ⊥
 some-changes n m m' c b e = c.differs (lines-at n c.line m m' (b c.line c.there) e)

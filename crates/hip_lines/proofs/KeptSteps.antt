@@ -9,14 +9,14 @@ use Rattle.hip_lines.specs.Queues.{pending_in}
 use Rattle.hip_lines.specs.Parts.{part_in}
 use Rattle.hip_lines.specs.Kept.{queue_at, count_of, pending_by, pending_at, HasRoomBy, HasRoomAt, AreBelow, ChangesLine, GivesQueue}
 
--- room was made in the lines from `first` up to `line`
+-- Room was made in the lines from `first` up to `line`.
 pub record MadeRoom (first line : ℕ) (old new : Queues) : Type 0 where
   pub same : (j : ℕ) → pending_at new j ≡ pending_at old j
   pub kept : (j : ℕ) → HasRoomAt old j → HasRoomAt new j
   pub room : (j : ℕ) → first ≤ j → j < line → HasRoomAt new j
   pub below : (n : ℕ) → line ≤ n → AreBelow n old → AreBelow n new
 
--- the parts of a store in the lines below `line` were taken up
+-- The parts of a store in the lines below `line` were taken up.
 pub record TookUp (o n tag line : ℕ) (old new : Queues) : Type 0 where
   pub pending : (j : ℕ) → pending_at new j ≡ cond (has_bytes j o n && nat_lt j line) (pending_with (part_in o n tag j) (pending_at old j)) (pending_at old j)
   pub room : (j : ℕ) → line ≤ j → queue_at new j ≡ queue_at old j
@@ -85,7 +85,7 @@ pending-of m j q e = ap pending_by (sym e)
 pub some-of : (m : Queues) (j : ℕ) (q : Queue) → Some q ≡ queue_at m j → IsSome (queue_at m j)
 some-of m j q e = subst IsSome e refl
 
--- where a line's queue has nothing flushed
+-- Where a line's queue has nothing flushed.
 pub first-flush : (m : Queues) (j : ℕ) (q : Queue) → Some q ≡ queue_at m j → (pending_in q).flushed ≡ 0 → (pending_at m j).flushed ≡ 0
 first-flush m j q e z = ap (λ (w : Pending Part). w.flushed) (pending-of m j q e) ∙ z
 
@@ -97,7 +97,7 @@ flushed-some m m' j q e h z ne =
     positive : (n k : ℕ) → n ≡ k → k ≢ 0 → 0 < n
     positive n k e ne = omega (arith, e, ne)
 
--- where all are flushed already
+-- Where all are flushed already.
 pub flushed-already : (m : Queues) (j : ℕ) (q : Queue) → Some q ≡ queue_at m j → (pending_in q).flushed ≡ length (pending_in q).parts → ChangesLine pending_flushed j m m
 flushed-already m j q e f = record {
   here = p ∙ ap (λ n. record { parts = (pending_in q).parts; flushed = n }) f ∙ sym (ap pending_flushed p);
@@ -109,7 +109,7 @@ flushed-already m j q e f = record {
     p : pending_at m j ≡ pending_in q
     p = pending-of m j q e
 
--- where not all were flushed
+-- Where not all were flushed.
 pub flushed-differs : (m m' : Queues) (j : ℕ) (q : Queue) → Some q ≡ queue_at m j → ChangesLine pending_flushed j m m' → (pending_in q).flushed ≢ length (pending_in q).parts → pending_at m' j ≢ pending_at m j
 flushed-differs m m' j q e c ne same =
     let p = pending-of m j q e in

@@ -25,7 +25,7 @@ pub some_flushed : (o : Option Queue) → nat_lt 0 (pending_by o).flushed ≡ tr
 some_flushed None e = absurd (let h : ⊥ = cc in h)
 some_flushed (Some q) e = refl
 
--- the queues, each at its line
+-- The queues, each at its line.
 abbrev by_line : List Queue → List (ℕ × Queue)
 by_line [] = []
 by_line (q ∷ qs) = (q.line, q) ∷ by_line qs
@@ -56,7 +56,7 @@ found_at m j s =
     let t = there m.directory m.queues.items j m.placed (has-place m.directory m.queues.items j s) in
     found m.queues.items (number_at m.directory j - 1) j t.0 t.1 t.3
 
--- lines of which each has a queue are at most as many as there are queues
+-- Lines of which each has a queue are at most as many as there are queues.
 few_lines : (lines : List ℕ) (m : Queues) → IsDistinct (eq_by_cmp nat_cmp) lines → ((q : ℕ) → list_any (eq_by_cmp nat_cmp q) lines ≡ true → IsSome (queue_at m q)) → length lines ≤ count_of m
 unfolding count_of
 few_lines lines m d h = omega (arith, length-by_line m.queues.items, length-le_from_keys (eq_by_cmp_equiv nat_cmp_total) lines (by_line m.queues.items) d (λ q e. found_at m q (h q e)))
@@ -76,7 +76,7 @@ length-listed_more lines m j h z s =
     has : (q : ℕ) → list_any (eq_by_cmp nat_cmp q) (lines ++ j ∷ []) ≡ true → IsSome (queue_at m q)
     has q e = pick q (list_any (is_at (nat_cmp q)) lines) refl (sym (list_any-append (is_at (nat_cmp q)) lines (j ∷ [])) ∙ e) (same_or_not q j)
 
--- one more line holds flushed parts
+-- One more line holds flushed parts.
 pub listed-more : (lines : List ℕ) (m m' : Queues) (j : ℕ) → ListsFlushed lines m → (pending_at m j).flushed ≡ 0 → 0 < (pending_at m' j).flushed → ((q : ℕ) → q ≢ j → pending_at m' q ≡ pending_at m q) → ListsFlushed (lines ++ j ∷ []) m'
 listed-more lines m m' j h z p o = record {
   distinct = IsDistinct-push (eq_by_cmp_equiv nat_cmp_total) lines j h.distinct (h.listed j ∙ ap (nat_lt 0) z);
@@ -98,7 +98,7 @@ listed-more lines m m' j h z p o = record {
     go q (inl x) = ap (λ c. nat_lt 0 (pending_at m q).flushed || (c || false)) x.0 ∙ or_true (nat_lt 0 (pending_at m q).flushed) ∙ yes (pending_at m' j).flushed p ∙ ap (λ k. nat_lt 0 (pending_at m' k).flushed) (sym x.1)
     go q (inr x) = ap (λ c. nat_lt 0 (pending_at m q).flushed || (c || false)) x.0 ∙ or_false (nat_lt 0 (pending_at m q).flushed) ∙ ap (λ (w : Pending Part). nat_lt 0 w.flushed) (sym (o q x.1))
 
--- one more line is fenced
+-- One more line is fenced.
 pub fence_more : (lines : List ℕ) (i : ℕ) (old m m' : Queues) → i < length lines → ((j : ℕ) → pending_at m j ≡ cond (list_any (is_at (nat_cmp j)) (take i lines)) (pending_fenced (pending_at old j)) (pending_at old j)) → ChangesLine pending_fenced (slice_index lines i) m m' → (j : ℕ) → pending_at m' j ≡ cond (list_any (is_at (nat_cmp j)) (take (i + 1) lines)) (pending_fenced (pending_at old j)) (pending_at old j)
 fence_more lines i old m m' lt h c j = go (same_or_not j (slice_index lines i)) ∙ ap (λ b. cond b (pending_fenced (pending_at old j)) (pending_at old j)) (sym (list_any_more (is_at (nat_cmp j)) lines i 0 lt))
   where

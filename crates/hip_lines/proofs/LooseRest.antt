@@ -15,7 +15,7 @@ use Rattle.hip_lines.specs.Views.{table_from, lines_of}
 use Rattle.hip_lines.proofs.Tables.{slice_get-table_from}
 use Rattle.hip_lines.specs.Next.{NoneLoose, IsFirstLoose, loose_of, lines_to, IsQueueFrom, IsNextQueue}
 
--- how many lines there are from the queue's line on
+-- How many lines there are from the queue's line on.
 abbrev pub lines_left : ℕ → Option Queue → ℕ
 lines_left to None = 0
 lines_left to (Some q) = to - q.line
@@ -40,7 +40,7 @@ loose_of-skip m (suc k) o (suc n) h none =
     ∙ loose_of-skip m k (suc o) n (omega arith) (λ b from to. none b (omega arith) (omega arith))
     ∙ ap (λ i. loose_of m i (n - k)) z ∙ ap (λ i. loose_of m (o + suc k) i) y
 
--- the bytes before a stop, none of which is loose
+-- The bytes before a stop, none of which is loose.
 pub loose_of-skip_to : (m : Queues) (at stop end : ℕ) → at ≤ stop → stop ≤ end → ((b : ℕ) → at ≤ b → b < stop → loose_in (pending_at m (b / 64)) b ≡ None) → loose_of m at (end - at) ≡ loose_of m stop (end - stop)
 loose_of-skip_to m at stop end h k none =
     let z : at + (stop - at) ≡ stop = omega arith in
@@ -48,14 +48,14 @@ loose_of-skip_to m at stop end h k none =
     loose_of-skip m (stop - at) at (end - at) (omega arith) (λ b from to. none b from (omega (arith, z)))
     ∙ ap (λ i. loose_of m i ((end - at) - (stop - at))) z ∙ ap (λ i. loose_of m stop i) y
 
--- a byte of a line without a queue is not loose
+-- A byte of a line without a queue is not loose.
 none_without : (m : Queues) (b : ℕ) → queue_at m (b / 64) ≡ None → loose_in (pending_at m (b / 64)) b ≡ None
 none_without m b e = ap (λ o. loose_in (pending_by o) b) e
 
 in_queue : (m : Queues) (b : ℕ) (q : Queue) → queue_at m q.line ≡ Some q → b / 64 ≡ q.line → pending_at m (b / 64) ≡ pending_in q
 in_queue m b q e f = ap (pending_at m) f ∙ ap pending_by e
 
--- what a search in the queue of a line says of all bytes from where it stands
+-- What a search in the queue of a line says of all bytes from where it stands.
 before : (m : Queues) (at end stop : ℕ) (q : Queue) → IsNextQueue m at (lines_to end) (Some q) → stop ≤ 64 * q.line + 64 → NoneLoose (pending_in q) (max at (q.line * 64)) stop → (b : ℕ) → at ≤ b → b < stop → loose_in (pending_at m (b / 64)) b ≡ None
 before m at end stop q h s none b from to = go (split b)
   where
@@ -66,7 +66,7 @@ before m at end stop q h s none b from to = go (split b)
     go (inl lt) = none_without m b (h.3 (b / 64) (omega arith) (omega arith))
     go (inr ge) = ap (λ w. loose_in w b) (in_queue m b q h.0 (omega arith)) ∙ none b (omega arith) to
 
--- where the search in a queue begins and ends
+-- Where the search in a queue begins and ends.
 pub record Searches (at end from stop : ℕ) (q : Queue) : Type 0 where
   pub from_is : from ≡ max at (q.line * 64)
   pub stop_is : stop ≡ min end ((q.line + 1) * 64)
@@ -89,7 +89,7 @@ rest-found m at end from stop q f c h s =
 pub next_queue-found : (m : Queues) (at end from stop : ℕ) (q : Queue) (f : LooseByte) → Searches at end from stop q → IsNextQueue m at (lines_to end) (Some q) → IsFirstLoose (pending_in q) from stop (Some f) → IsNextQueue m (f.offset + 1) (lines_to end) (Some q)
 next_queue-found m at end from stop q f c h s = (h.0, omega (arith, c.stop_is, s.1), h.2, λ j low high. h.3 j (omega (arith, c.from_is, s.0)) high)
 
--- nothing was found, and the search goes on at the next line
+-- Nothing was found, and the search goes on at the next line.
 none_before : (m : Queues) (at end from stop : ℕ) (q : Queue) → Searches at end from stop q → IsNextQueue m at (lines_to end) (Some q) → IsFirstLoose (pending_in q) from stop None → (b : ℕ) → at ≤ b → b < stop → loose_in (pending_at m (b / 64)) b ≡ None
 none_before m at end from stop q c h s b low high = before m at end stop q h (omega (arith, c.stop_is)) (subst (λ i. NoneLoose (pending_in q) i stop) c.from_is s) b low high
 
@@ -100,7 +100,7 @@ pub next_queue-from : (m : Queues) (at end from stop : ℕ) (q : Queue) (o : Opt
 next_queue-from m at end from stop q None c h ne = λ j low high. h j (omega (arith, c.stop_is, low)) high
 next_queue-from m at end from stop q (Some r) c h ne = (h.0, omega (arith, c.stop_is, h.1), h.2, λ j low high. h.3 j (omega (arith, c.stop_is)) high)
 
--- the number of lines that are left falls
+-- The number of lines that are left falls.
 pub lines_fall : (m : Queues) (to : ℕ) (q : Queue) (o : Option Queue) → q.line < to → IsQueueFrom m (q.line + 1) to o → lines_left to o < lines_left to (Some q)
 lines_fall m to q None lt h = omega (arith, lt)
 lines_fall m to q (Some r) lt h = omega (arith, lt, h.1)
@@ -126,11 +126,11 @@ rest-no_queue m at end None h n = go (split at end)
     go (inl le) = let z : end - end ≡ 0 = omega arith in loose_of-skip_to m at end end le (omega arith) (λ b from to. none_without m b (h (b / 64) (omega arith) (omega (arith, to)))) ∙ ap (loose_of m end) z
     go (inr gt) = let z : end - at ≡ 0 = omega arith in ap (loose_of m at) z
 
--- what an iterator over a list makes of one item
+-- What an iterator over a list makes of one item.
 pub goes_on : (xs ys : List LooseByte) (f : LooseByte) → xs ≡ f ∷ ys → MakesProgress {S = List LooseByte} {A = LooseByte} (λ _. Unit {0}) (item_count {S = List LooseByte} {A = LooseByte} (λ s. s)) xs (Some f) ys
 goes_on xs ys f e = record { on = λ _. (tt, tt, omega (arith, ap length e)); keeps = tt; rests = λ _. tt }
 
--- the loose bytes by the queues are those by the lines
+-- The loose bytes by the queues are those by the lines.
 pub loose_of-lines : (m : Queues) (count o n : ℕ) → o + n ≤ 64 * count → loose_of m o n ≡ loose_from (lines_of count m) o n
 unfolding lines_of
 loose_of-lines m count o zero h = refl

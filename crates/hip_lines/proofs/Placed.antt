@@ -57,7 +57,7 @@ not-equal a b e = grind (arith, nat_tests)
 
 -- ---- the queue of a line
 
--- a place that is counted from 1
+-- A place that is counted from 1.
 pub at-counted : (qs : List Queue) (n : ℕ) → 0 < n → at_place qs n ≡ slice_get qs (n - 1)
 at-counted qs zero h = absurd (omega arith)
 at-counted qs (suc n) h = ap (slice_get qs) (let e : n ≡ suc n - 1 = omega arith in e)
@@ -66,7 +66,7 @@ pub at-same : (qs qs' : List Queue) (n : ℕ) → ((k : ℕ) → suc k ≡ n →
 at-same qs qs' zero h = refl
 at-same qs qs' (suc n) h = h n refl
 
--- the place of a line that has a queue
+-- The place of a line that has a queue.
 pub has-place : (d : Directory) (qs : List Queue) (j : ℕ) → IsSome (queue_in d qs j) → 0 < number_at d j
 has-place d qs j s = go (number_at d j) refl s
   where
@@ -77,7 +77,7 @@ has-place d qs j s = go (number_at d j) refl s
 pub no-place : (d : Directory) (qs : List Queue) (j : ℕ) → number_at d j ≡ 0 → queue_in d qs j ≡ None
 no-place d qs j e = ap (at_place qs) e
 
--- a line with a place has a queue there
+-- A line with a place has a queue there.
 pub there : (d : Directory) (qs : List Queue) (j : ℕ) → ArePlaced d qs → 0 < number_at d j → (q : Queue) × (slice_get qs (number_at d j - 1) ≡ Some q) × (queue_in d qs j ≡ Some q) × (q.line ≡ j)
 there d qs j h p =
     let g = get-there qs (number_at d j - 1) (omega (arith, p, h.within j)) in
@@ -98,9 +98,9 @@ room-place m j r = some-place m j (some (queue_at m j) r)
 pub some-number : (d : Directory) (j n : ℕ) → n ≡ number_at d j → n ≢ 0 → 0 < number_at d j
 some-number d j n e ne = omega (arith, e, ne)
 
--- the queue at one place is changed
+-- The queue at one place is changed.
 module _ (f : Pending Part → Pending Part) (d : Directory) (qs qs' : List Queue) (line : ℕ) (h : ArePlaced d qs) (p : 0 < number_at d line) (c : ChangesPlace f (number_at d line - 1) qs qs') where
-  -- no other line has that place
+  -- No other line has that place.
   pub other-place : (j : ℕ) → j ≢ line → number_at d j ≢ number_at d line
   other-place j ne e =
       let t = there d qs line h p in
@@ -124,7 +124,7 @@ module _ (f : Pending Part → Pending Part) (d : Directory) (qs qs' : List Queu
           ap (λ (y : Queue). y.line) (some_same q r.0 (sym e ∙ ap (λ i. queue_in d qs' i) x.1 ∙ r.1)) ∙ r.2 ∙ sym x.1
       go j q e (inr x) = h.numbered j q (sym (other-queue j x.1) ∙ e)
 
--- the same of the lines
+-- The same of the lines.
 pub changes-line : (f : Pending Part → Pending Part) (m m' : Queues) (line : ℕ) → m'.directory ≡ m.directory → 0 < number_at m.directory line → ChangesPlace f (number_at m.directory line - 1) m.queues.items m'.queues.items → ChangesLine f line m m'
 unfolding queue_at count_of
 changes-line f m m' line d p c = record {
@@ -144,7 +144,7 @@ changes-line f m m' line d p c = record {
     below n b j s (inl x) = subst (λ i. i < n) (sym x.1) (b line (subst IsSome (sym (there m.directory m.queues.items line m.placed p).2) refl))
     below n b j s (inr x) = b j (subst IsSome (others j x.1) s)
 
--- room that one queue keeps, and room that it gets
+-- Room that one queue keeps, and room that it gets.
 module _ (m m' : Queues) (line : ℕ) (d : m'.directory ≡ m.directory) (p : 0 < number_at m.directory line) (n : ℕ) (e : n ≡ number_at m.directory line) (c : ChangesPlace (λ w. w) (n - 1) m.queues.items m'.queues.items) where
   old_there : (q : Queue) × (slice_get m.queues.items (n - 1) ≡ Some q) × (queue_in m.directory m.queues.items line ≡ Some q)
   old_there = let t = there m.directory m.queues.items line m.placed p in (t.0, ap (λ k. slice_get m.queues.items (k - 1)) e ∙ t.1, t.2)
@@ -200,7 +200,7 @@ module _ (d d' : Directory) (qs : List Queue) (line : ℕ) (s : (j : ℕ) → nu
       numbered j q e (inl x) = absurd (none_some q (queue_in d' qs j) (no-place d' qs j x.1) e)
       numbered j q e (inr x) = h.numbered j q (sym (ap (at_place qs) x.1) ∙ e)
 
--- a fence after which nothing is left
+-- A fence after which nothing is left.
 pub fenced-away : (m m' : Queues) (qs : List Queue) (line : ℕ) → m'.queues.items ≡ qs → 0 < number_at m.directory line → ChangesPlace pending_fenced (number_at m.directory line - 1) m.queues.items qs → ((r : Queue) → slice_get qs (number_at m.directory line - 1) ≡ Some r → pending_in r ≡ none_pending) → ((j : ℕ) → number_at m'.directory j ≡ cond (j == line) 0 (number_at m.directory j)) → ChangesLine pending_fenced line m m'
 unfolding queue_at count_of
 fenced-away m m' qs line e p c empty s = record {
@@ -224,18 +224,18 @@ fenced-away m m' qs line e p c empty s = record {
 
 -- ---- a queue is given to a line
 
--- a place that no line has may change
+-- A place that no line has may change.
 pub unused : (d : Directory) (place : ℕ) (qs qs' : List Queue) → ((j : ℕ) → number_at d j ≢ place + 1) → KeepsOthers place qs qs' → (j : ℕ) → queue_in d qs' j ≡ queue_in d qs j
 unused d place qs qs' free k j = at-same qs qs' (number_at d j) (λ i e. k.others i (λ z. free j (omega (arith, e, z))))
 
 pub placed-unused : (d : Directory) (place : ℕ) (qs qs' : List Queue) → ((j : ℕ) → number_at d j ≢ place + 1) → KeepsOthers place qs qs' → ArePlaced d qs → ArePlaced d qs'
 placed-unused d place qs qs' free k h = record { within = λ j. omega (arith, h.within j, k.least); numbered = λ j q e. h.numbered j q (sym (unused d place qs qs' free k j) ∙ e) }
 
--- no line has a place after the last
+-- No line has a place after the last.
 pub unused-end : (d : Directory) (qs : List Queue) → ArePlaced d qs → (j : ℕ) → number_at d j ≢ length qs + 1
 unused-end d qs h j e = omega (arith, e, h.within j)
 
--- no line has a queue whose line has another
+-- No line has a queue whose line has another.
 pub unused-checked : (d : Directory) (qs : List Queue) (place : ℕ) (q : Queue) → ArePlaced d qs → slice_get qs place ≡ Some q → number_at d q.line ≢ place + 1 → (j : ℕ) → number_at d j ≢ place + 1
 unused-checked d qs place q h e ne j f =
     let i : 0 < number_at d j = omega (arith, f) in

@@ -123,7 +123,7 @@ renumbered-none uses tags = record {
 split : (i k : ℕ) → i < k + 1 → (i < k) ⊎ (i ≡ k)
 split i k h = grind arith
 
--- a tag without a use
+-- A tag without a use.
 pub renumbered-skips : (uses news tags moved : List ℕ) (k kept : ℕ) → slice_index news (k + 1) ≡ 0 → Renumbered uses news tags moved k kept → Renumbered uses news tags moved (k + 1) kept
 renumbered-skips uses news tags moved k kept z h = record {
   size = h.size;
@@ -159,7 +159,7 @@ renumbered-skips uses news tags moved k kept z h = record {
     rising i j lt (inl less) p q = h.rising i j lt less p q
     rising i j lt (inr e) p q = absurd (unused j e q)
 
--- a tag that has a use is moved to the front
+-- A tag that has a use is moved to the front.
 module _ (uses news tags moved : List ℕ) (k kept : ℕ) (used : slice_index news (k + 1) ≢ 0) (lt : k < length tags) (room : k + 1 < length uses) (h : Renumbered uses news tags moved k kept) where
   news' : List ℕ
   news' = slice_set news (k + 1) (kept + 1)
@@ -227,7 +227,7 @@ module _ (uses news tags moved : List ℕ) (k kept : ℕ) (used : slice_index ne
     top = λ i e p. news-here i (omega (arith, e));
   }
 
--- after the last tag
+-- After the last tag.
 module _ (uses news tags moved : List ℕ) (kept : ℕ) (h : Renumbered uses news tags moved (length tags) kept) where
   index-take : (xs : List ℕ) (n i : ℕ) → i < n → slice_index (take n xs) i ≡ slice_index xs i
   index-take xs zero i lt = absurd (omega (arith, lt))

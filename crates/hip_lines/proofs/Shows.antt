@@ -19,7 +19,7 @@ lt_false m n h = grind (arith, nat_tests)
 lt_suc : (m n : ℕ) → nat_lt (suc m) (suc n) ≡ nat_lt m n
 lt_suc m n = grind (arith, nat_tests)
 
--- what is shown once all parts are flushed, and once the flushed ones are durable
+-- What is shown once all parts are flushed, and once the flushed ones are durable.
 abbrev as_flushed : ℕ × Bool → ℕ × Bool
 as_flushed s = (s.0, true)
 
@@ -132,7 +132,7 @@ numbers-lowered tags tags' numbers numbers' by t e h i = omega (arith, e i, h i,
 pub cleared-numbers : (numbers : List ℕ) (n count by : ℕ) → by ≡ count → AreNumbers count numbers → (i : ℕ) → slice_index (replicate n 0) i ≡ slice_index numbers i - by
 cleared-numbers numbers n count by e h i = zero_index n i ∙ (let z : 0 ≡ slice_index numbers i - by = omega (arith, e, h i) in z)
 
--- nothing is pending
+-- Nothing is pending.
 pub shows-none : (tags numbers : List ℕ) (line : ℕ) (w : Pending Part) → tags ≡ [] → ((i : ℕ) → slice_index numbers i ≡ 0) → w ≡ none_pending → Shows tags 0 numbers line w
 shows-none tags numbers line w t n e = record {
   bytes = λ b _. ap (kept_at tags 0) (n (b % 64)) ∙ sym (ap (λ v. shown v b) e);
@@ -144,7 +144,7 @@ shows-none tags numbers line w t n e = record {
 }
 
 module _ (tags : List ℕ) (flushed : ℕ) (numbers : List ℕ) (line : ℕ) (w : Pending Part) (numbered : AreNumbers (length tags) numbers) (within : flushed ≤ length tags) (h : Shows tags flushed numbers line w) where
-  -- one more part, whose bytes have the next number
+  -- One more part, whose bytes have the next number.
   pub shows-pushed : (tags' numbers' : List ℕ) (w' : Pending Part) (p : Part) (n : ℕ) → tags' ≡ tags ++ p.tag ∷ [] → n ≡ length tags + 1 → ((b : ℕ) → b / 64 ≡ line → slice_index numbers' (b % 64) ≡ cond (part_covers p b) n (slice_index numbers (b % 64))) → w' ≡ pending_with p w → Shows tags' flushed numbers' line w'
   shows-pushed tags' numbers' w' p n t e s x = record {
     bytes = λ b i. ap (kept_at tags' flushed) (s b i) ∙ ap (λ ts. kept_at ts flushed (cond (part_covers p b) n (slice_index numbers (b % 64)))) t ∙ go b (part_covers p b) (h.bytes b i) ∙ sym (ap (λ v. shown v b) x ∙ shown-with w p b h.ordered);
@@ -159,7 +159,7 @@ module _ (tags : List ℕ) (flushed : ℕ) (numbers : List ℕ) (line : ℕ) (w 
       go b true i = kept-last tags p.tag flushed n e within
       go b false i = kept-append tags p.tag flushed (slice_index numbers (b % 64)) (numbered (b % 64)) ∙ i
 
-  -- all parts are flushed
+  -- All parts are flushed.
   pub shows-flushed : (n : ℕ) (w' : Pending Part) → n ≡ length tags → w' ≡ pending_flushed w → Shows tags n numbers line w'
   shows-flushed n w' e x = record {
     bytes = λ b i. kept-flushed tags flushed n (slice_index numbers (b % 64)) e (numbered (b % 64)) ∙ ap (option_map as_flushed) (h.bytes b i) ∙ sym (ap (λ v. shown v b) x ∙ shown-flushed w b);
@@ -173,7 +173,7 @@ module _ (tags : List ℕ) (flushed : ℕ) (numbers : List ℕ) (line : ℕ) (w 
     ordered = omega (arith, ap (λ (v : Pending Part). v.flushed) x, ap (λ (v : Pending Part). length v.parts) x);
   }
 
-  -- the flushed parts are let go
+  -- The flushed parts are let go.
   pub shows-fenced : (tags' numbers' : List ℕ) (w' : Pending Part) → tags' ≡ drop flushed tags → ((i : ℕ) → slice_index numbers' i ≡ slice_index numbers i - flushed) → w' ≡ pending_fenced w → Shows tags' 0 numbers' line w'
   shows-fenced tags' numbers' w' t s x = record {
     bytes = λ b i. ap (kept_at tags' 0) (s (b % 64)) ∙ ap (λ ts. kept_at ts 0 (slice_index numbers (b % 64) - flushed)) t ∙ kept-drop tags flushed (slice_index numbers (b % 64)) ∙ ap unflushed (h.bytes b i) ∙ sym (ap (λ v. shown v b) x ∙ shown-fenced w b);
@@ -196,7 +196,7 @@ module _ (tags : List ℕ) (flushed : ℕ) (numbers : List ℕ) (line : ℕ) (w 
       parts_end : 0 ≡ length w'.parts → w.flushed ≡ length w.parts
       parts_end z = omega (arith, z, ap (λ (v : Pending Part). length v.parts) x, length-drop w.flushed w.parts, h.ordered)
 
-  -- whether all parts are flushed, some are, and none is pending
+  -- Whether all parts are flushed, some are, and none is pending.
   pub none-left : tags ≡ [] → w ≡ none_pending
   none-left t =
       let f : flushed ≡ 0 = omega (arith, within, ap length t) in
@@ -211,7 +211,7 @@ module _ (tags : List ℕ) (flushed : ℕ) (numbers : List ℕ) (line : ℕ) (w 
 -- ---- only the tags that have a use are kept
 
 module _ (uses news tags tags' numbers : List ℕ) (flushed : ℕ) (within : flushed ≤ length tags) (u : AreUses numbers flushed (length tags) uses) (r : IsRenumbered uses news tags tags') where
-  -- a number that has a use is at most the number of tags that are kept
+  -- A number that has a use is at most the number of tags that are kept.
   news-few : (m : ℕ) → m ≤ length tags → 0 < slice_index uses m → slice_index news m ≤ length tags'
   news-few m le p = go (split m (length tags))
     where

@@ -8,7 +8,7 @@ use denote.RattleType.{RattleType, Valss}
 use denote.Steps.{nothing}
 use denote.Struct.Struct.{Struct, within}
 
--- the machine value of a struct without fields
+-- The machine value of a struct without fields.
 abbrev pub empty_struct : Val
 empty_struct = vstruct vnil
 

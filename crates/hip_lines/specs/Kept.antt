@@ -12,38 +12,38 @@ use Rattle.hip_lines.specs.declared.queues.Queues.{Queues}
 use Rattle.hip_lines.specs.Places.{queue_in}
 use Rattle.hip_lines.specs.Queues.{pending_in, HasRoom}
 
--- the queue of line j, if it has one
+-- The queue of line j, if it has one.
 unfoldable pub queue_at : Queues → ℕ → Option Queue
 queue_at m j = queue_in m.directory m.queues.items j
 
--- how many queues were made
+-- How many queues were made.
 unfoldable pub count_of : Queues → ℕ
 count_of m = length m.queues.items
 
--- a line without a queue holds nothing
+-- A line without a queue holds nothing.
 abbrev pub pending_by : Option Queue → Pending Part
 pending_by None = none_pending
 pending_by (Some q) = pending_in q
 
--- the pending parts of line j, none where it has no queue
+-- The pending parts of line j, none where it has no queue.
 abbrev pub pending_at : Queues → ℕ → Pending Part
 pending_at m j = pending_by (queue_at m j)
 
--- there is a queue, and it has room for one more part
+-- There is a queue, and it has room for one more part.
 abbrev pub HasRoomBy : Option Queue → Type 0
 HasRoomBy None = ⊥
 HasRoomBy (Some q) = HasRoom q
 
--- line j has a queue, with room for one more part
+-- Line j has a queue, with room for one more part.
 abbrev pub HasRoomAt : Queues → ℕ → Type 0
 HasRoomAt m j = HasRoomBy (queue_at m j)
 
--- there is room for the parts of a store, if one is given
+-- There is room for the parts of a store, if one is given.
 abbrev pub HasRoomFor : Queues → Option (ℕ × ℕ) → Type 0
 HasRoomFor m None = Unit {0}
 HasRoomFor m (Some (o, n)) = (j : ℕ) → has_bytes j o n ≡ true → HasRoomAt m j
 
--- the lines that have a queue lie below line n
+-- The lines that have a queue lie below line n.
 abbrev pub AreBelow : ℕ → Queues → Type 0
 AreBelow n m = (j : ℕ) → IsSome (queue_at m j) → j < n
 
@@ -54,32 +54,32 @@ pub record MakesRoom (end : ℕ) (old new : Queues) : Type 0 where
   pub kept : (j : ℕ) → HasRoomAt old j → HasRoomAt new j
   pub below : (n : ℕ) → end ≤ LINE_SIZE * n → AreBelow n old → AreBelow n new
 
--- the list has the lines that hold flushed parts, each once
+-- The list has the lines that hold flushed parts, each once.
 pub record ListsFlushed (lines : List ℕ) (m : Queues) : Type 0 where
   pub distinct : IsDistinct (eq_by_cmp nat_cmp) lines
   pub listed : (j : ℕ) → list_any (is_at (nat_cmp j)) lines ≡ nat_lt 0 (pending_at m j).flushed
 
--- the line's pending parts are changed, and nothing else is
+-- The line's pending parts are changed, and nothing else is.
 pub record ChangesLine (change : Pending Part → Pending Part) (line : ℕ) (old new : Queues) : Type 0 where
   pub here : pending_at new line ≡ change (pending_at old line)
   pub others : (j : ℕ) → j ≢ line → queue_at new j ≡ queue_at old j
   pub below : (n : ℕ) → AreBelow n old → AreBelow n new
   pub count : count_of new ≡ count_of old
 
--- the lines of a range are flushed, and nothing else is changed
+-- The lines of a range are flushed, and nothing else is changed.
 pub record FlushesLines (o n : ℕ) (old new : Queues) : Type 0 where
   pub pending : (j : ℕ) → pending_at new j ≡ cond (has_bytes j o n) (pending_flushed (pending_at old j))
       (pending_at old j)
   pub below : (k : ℕ) → AreBelow k old → AreBelow k new
   pub count : count_of new ≡ count_of old
 
--- the pending parts of some line have changed
+-- The pending parts of some line have changed.
 pub record ChangesSome (old new : Queues) : Type 0 where
   pub line : ℕ
   pub there : IsSome (queue_at old line)
   pub differs : pending_at new line ≢ pending_at old line
 
--- the line has an empty queue with room for a part, and nothing else is changed
+-- The line has an empty queue with room for a part, and nothing else is changed.
 pub record GivesQueue (line : ℕ) (old new : Queues) : Type 0 where
   pub queue : Queue
   pub here : queue_at new line ≡ Some queue

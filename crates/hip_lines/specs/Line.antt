@@ -8,27 +8,27 @@
 use Rattle.std.specs.Prelude.{ℕ, suc, ◌+◌, ◌*◌, ◌≤◌, Bool, cond, nat_lt, min, max, List, [], ◌∷◌, ◌++◌, length, map, replicate}
 use Rattle.hip_types.specs.declared.areas.TheConstants.{LINE_SIZE}
 
--- a line whose parts are of a type P: the parts in order, how many of them are flushed, and how many are durable
+-- A line whose parts are of a type P: the parts in order, how many of them are flushed, and how many are durable.
 pub record Line (P : Type 0) : Type 0 where
   pub parts : List P
   pub flushed : ℕ
   pub durable : ℕ
 
--- the durable number is at most the flushed one, and that at most the number of parts
+-- The durable number is at most the flushed one, and that at most the number of parts.
 pub record IsOrdered {P : Type 0} (l : Line P) : Type 0 where
   pub durable : l.durable ≤ l.flushed
   pub flushed : l.flushed ≤ length l.parts
 
--- the same for each line
+-- The same for each line.
 abbrev pub AreOrdered : {P : Type 0} → List (Line P) → Type 0
 AreOrdered [] = Unit {0}
 AreOrdered (l ∷ ls) = IsOrdered l × AreOrdered ls
 
--- a line into which nothing was stored
+-- A line into which nothing was stored.
 abbrev pub fresh_line : {P : Type 0} → Line P
 fresh_line = record { parts = []; flushed = 0; durable = 0 }
 
--- after a store, whose part becomes the last one; both numbers stay
+-- After a store, whose part becomes the last one; both numbers stay.
 abbrev pub with_part : {P : Type 0} → P → Line P → Line P
 with_part x l = record { parts = l.parts ++ x ∷ []; flushed = l.flushed; durable = l.durable }
 
@@ -41,44 +41,44 @@ flushed_line l = record { parts = l.parts; flushed = length l.parts; durable = l
 abbrev pub fenced_line : {P : Type 0} → Line P → Line P
 fenced_line l = record { parts = l.parts; flushed = l.flushed; durable = l.flushed }
 
--- the line with a function applied to each part
+-- The line with a function applied to each part.
 abbrev pub map_line : {P Q : Type 0} → (P → Q) → Line P → Line Q
 map_line f l = record { parts = map f l.parts; flushed = l.flushed; durable = l.durable }
 
--- the first byte of line j that is not before the range from o
+-- The first byte of line j that is not before the range from o.
 abbrev pub start_in : ℕ → ℕ → ℕ
 start_in j o = max o (LINE_SIZE * j)
 
--- the end of line j, or that of the range of n bytes from o if it comes first
+-- The end of line j, or that of the range of n bytes from o if it comes first.
 abbrev pub end_in : ℕ → ℕ → ℕ → ℕ
 end_in j o n = min (o + n) (LINE_SIZE * j + LINE_SIZE)
 
--- whether line j has a byte of the range of n bytes from o
+-- Whether line j has a byte of the range of n bytes from o.
 abbrev pub has_bytes : ℕ → ℕ → ℕ → Bool
 has_bytes j o n = nat_lt (start_in j o) (end_in j o n)
 
--- the lines from number j on; each that has a byte of the range of n bytes from o is changed, by a function of its
--- number
+-- The lines from number j on; each that has a byte of the range of n bytes from o is changed, by a function of its
+-- number.
 abbrev pub change_from : {L : Type 0} → (ℕ → L → L) → ℕ → ℕ → ℕ → List L → List L
 change_from f o n j [] = []
 change_from f o n j (l ∷ ls) = cond (has_bytes j o n) (f j l) l ∷ change_from f o n (suc j) ls
 
--- the lines of a region; each that has a byte of the range is changed
+-- The lines of a region; each that has a byte of the range is changed.
 abbrev pub change_range : {L : Type 0} → (ℕ → L → L) → ℕ → ℕ → List L → List L
 change_range f o n ls = change_from f o n 0 ls
 
--- after a store of n bytes at offset o, whose part in line j is `part j`
+-- After a store of n bytes at offset o, whose part in line j is `part j`.
 abbrev pub stored : {P : Type 0} → (ℕ → P) → ℕ → ℕ → List (Line P) → List (Line P)
 stored part o n ls = change_range (λ j l. with_part (part j) l) o n ls
 
--- after a flush of the n bytes at offset o
+-- After a flush of the n bytes at offset o.
 abbrev pub flushed : {P : Type 0} → ℕ → ℕ → List (Line P) → List (Line P)
 flushed o n ls = change_range (λ _ l. flushed_line l) o n ls
 
--- after a fence
+-- After a fence.
 abbrev pub fenced : {P : Type 0} → List (Line P) → List (Line P)
 fenced ls = map fenced_line ls
 
--- the lines of a region of n lines into which nothing was stored
+-- The lines of a region of n lines into which nothing was stored.
 unfoldable pub fresh_lines : {P : Type 0} → ℕ → List (Line P)
 fresh_lines n = replicate n fresh_line

@@ -3,27 +3,27 @@ use Rattle.std.specs.Prelude.{◌≡◌, ℕ, suc, ◌<◌, ◌≤◌, Bool, tru
 use Rattle.hip_lines.specs.Line.{Line}
 
 module _ {P : Type 0} (covers : P → ℕ → Bool) where
-  -- x stands at place k and covers byte b, and no later part covers it
+  -- x stands at place k and covers byte b, and no later part covers it.
   pub record IsLastOver (ps : List P) (b k : ℕ) (x : P) : Type 0 where
     pub at : slice_get ps k ≡ Some x
     pub over : covers x b ≡ true
     pub last : (j : ℕ) (y : P) → k < j → slice_get ps j ≡ Some y → covers y b ≡ false
 
-  -- byte b is loose, by the part x at place k: the last part over it, which is not durable
+  -- Byte b is loose, by the part x at place k: the last part over it, which is not durable.
   pub record IsLooseBy (l : Line P) (b k : ℕ) (x : P) : Type 0 where
     pub last_over : IsLastOver l.parts b k x
     pub not_durable : l.durable ≤ k
 
-  -- a byte is loose where some part covers it and the last such part is not durable
+  -- A byte is loose where some part covers it and the last such part is not durable.
   abbrev pub IsLoose : Line P → ℕ → Type 0
   IsLoose l b = (k : ℕ) × (x : P) × IsLooseBy l b k x
 
-  -- the later of two finds; the places of the second are counted from one place on
+  -- The later of two finds; the places of the second are counted from one place on.
   abbrev pub later : Option (ℕ × P) → Option (ℕ × P) → Option (ℕ × P)
   later first None = first
   later first (Some (k, x)) = Some (suc k, x)
 
-  -- the last part over byte b with its place, if there is one
+  -- The last part over byte b with its place, if there is one.
   abbrev pub last_over : ℕ → List P → Option (ℕ × P)
   last_over b [] = None
   last_over b (p ∷ ps) = later (cond (covers p b) (Some (0, p)) None) (last_over b ps)

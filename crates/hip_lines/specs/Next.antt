@@ -9,36 +9,36 @@ use Rattle.hip_lines.specs.Parts.{loose_in}
 use Rattle.hip_lines.specs.Kept.{queue_at, pending_at}
 use Rattle.hip_types.specs.declared.areas.TheConstants.{LINE_SIZE}
 
--- no byte from `from` up to `to` is loose
+-- No byte from `from` up to `to` is loose.
 abbrev pub NoneLoose : Pending Part → ℕ → ℕ → Type 0
 NoneLoose w from to = (b : ℕ) → from ≤ b → b < to → loose_in w b ≡ None
 
--- the first loose byte from `from` up to `to`, if there is one
+-- The first loose byte from `from` up to `to`, if there is one.
 abbrev pub IsFirstLoose : Pending Part → ℕ → ℕ → Option LooseByte → Type 0
 IsFirstLoose w from to None = NoneLoose w from to
 IsFirstLoose w from to (Some f) =
     (from ≤ f.offset) × (f.offset < to) × (loose_in w f.offset ≡ Some f) × NoneLoose w from f.offset
 
--- the loose bytes of the n bytes from offset o, ascending
+-- The loose bytes of the n bytes from offset o, ascending.
 abbrev pub loose_of : Queues → ℕ → ℕ → List LooseByte
 loose_of m o zero = []
 loose_of m o (suc n) = option_to_list (loose_in (pending_at m (o / LINE_SIZE)) o) ++ loose_of m (suc o) n
 
--- how many lines have a byte before an offset
+-- How many lines have a byte before an offset.
 abbrev pub lines_to : ℕ → ℕ
 lines_to o = (o + (LINE_SIZE - 1)) / LINE_SIZE
 
--- no line from `from` up to `to` has a queue
+-- No line from `from` up to `to` has a queue.
 abbrev pub NoQueues : Queues → ℕ → ℕ → Type 0
 NoQueues m from to = (j : ℕ) → from ≤ j → j < to → queue_at m j ≡ None
 
--- the first queue of a line from `from` up to `to`, if there is one
+-- The first queue of a line from `from` up to `to`, if there is one.
 abbrev pub IsQueueFrom : Queues → ℕ → ℕ → Option Queue → Type 0
 IsQueueFrom m from to None = NoQueues m from to
 IsQueueFrom m from to (Some q) = (queue_at m q.line ≡ Some q) × (from ≤ q.line) × (q.line < to)
     × NoQueues m from q.line
 
--- the queue of the line with the byte at which a search stands, or of the next line below `to` that has a queue
+-- The queue of the line with the byte at which a search stands, or of the next line below `to` that has a queue.
 abbrev pub IsNextQueue : Queues → ℕ → ℕ → Option Queue → Type 0
 IsNextQueue m at to None = NoQueues m (at / LINE_SIZE) to
 IsNextQueue m at to (Some q) =

@@ -4,11 +4,11 @@ use Rattle.hip_lines.specs.declared.part.Part.{Part}
 use Rattle.hip_lines.specs.declared.queue.Queue.{Queue}
 use Rattle.hip_lines.specs.Pending.{Pending}
 
--- the pending parts of a queue's line
+-- The pending parts of a queue's line.
 abbrev pub pending_in : Queue → Pending Part
 pending_in q = q.history.pending
 
--- one more part can be added without memory
+-- One more part can be added without memory.
 pub record HasRoom (q : Queue) : Type 0 where
   pub capacity : vec_len q.tags < vec_capacity q.tags
   pub numbers : vec_len q.tags + 1 < 2 ^ 8

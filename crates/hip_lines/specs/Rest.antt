@@ -5,7 +5,7 @@ use Rattle.hip_lines.specs.declared.part.LooseByte.{LooseByte}
 use Rattle.hip_lines.specs.declared.loose.NotDurable.TheInside.{Inside}
 use Rattle.hip_lines.specs.Next.{loose_of, lines_to, IsNextQueue}
 
--- the loose bytes that the iterator has not given yet: those from its place up to its end, ascending
+-- The loose bytes that the iterator has not given yet: those from its place up to its end, ascending.
 abbrev pub rest_of : Inside → List LooseByte
 rest_of n = loose_of n.queues.now n.at (n.end - n.at)
 

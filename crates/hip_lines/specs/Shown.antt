@@ -6,15 +6,15 @@ use Rattle.hip_lines.specs.Pending.{Pending}
 use Rattle.hip_lines.specs.declared.part.Part.{Part}
 use Rattle.hip_types.specs.declared.areas.TheConstants.{LINE_SIZE}
 
--- what the part at a place shows, where the parts before number `flushed` are flushed
+-- What the part at a place shows, where the parts before number `flushed` are flushed.
 abbrev pub shown_by : ℕ → (ℕ × Part) → ℕ × Bool
 shown_by flushed f = (f.1.tag, nat_lt f.0 flushed)
 
--- what byte b shows, by all pending parts of its line; nothing where no part covers it
+-- What byte b shows, by all pending parts of its line; nothing where no part covers it.
 abbrev pub shown : Pending Part → ℕ → Option (ℕ × Bool)
 shown w b = option_map (shown_by w.flushed) (last_over part_covers b w.parts)
 
--- what the kept tag of a number, counted from 1, shows, where the first `flushed` tags are flushed; nothing for 0
+-- What the kept tag of a number, counted from 1, shows, where the first `flushed` tags are flushed; nothing for 0.
 abbrev pub kept_at : List ℕ → ℕ → ℕ → Option (ℕ × Bool)
 kept_at tags flushed zero = None
 kept_at tags flushed (suc k) = Some (slice_index tags k, nat_lt k flushed)
@@ -31,7 +31,7 @@ pub record Shows (tags : List ℕ) (flushed : ℕ) (numbers : List ℕ) (line : 
   pub not_all : w.flushed ≡ length w.parts → flushed ≡ length tags
   pub ordered : w.flushed ≤ length w.parts
 
--- each number is that of a tag, or 0
+-- Each number is that of a tag, or 0.
 abbrev pub AreNumbers : ℕ → List ℕ → Type 0
 AreNumbers count numbers = (i : ℕ) → slice_index numbers i ≤ count
 

@@ -7,16 +7,16 @@ use Rattle.hip_lines.specs.declared.part.Part.{Part}
 use Rattle.hip_lines.specs.declared.queues.Queues.{Queues}
 use Rattle.hip_lines.specs.declared.lines.Lines.TheInside.{Inside}
 
--- the values of f at the n numbers from j
+-- The values of f at the n numbers from j.
 abbrev pub table_from : {A : Type 0} → (ℕ → A) → ℕ → ℕ → List A
 table_from f j zero = []
 table_from f j (suc n) = f j ∷ table_from f (suc j) n
 
--- the pending parts of each of the first n lines, in their order
+-- The pending parts of each of the first n lines, in their order.
 unfoldable pub lines_of : ℕ → Queues → List (Pending Part)
 lines_of n m = table_from (pending_at m) 0 n
 
--- the pending parts of each line of the region, and the room that was made
+-- The pending parts of each line of the region, and the room that was made.
 abbrev pub held_of : Inside → Held
 held_of s = record { lines = lines_of s.count s.queues; room = s.room }
 

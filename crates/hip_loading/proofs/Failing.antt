@@ -26,7 +26,7 @@ use Rattle.hip_sound.specs.declared.fault.TypeRefusal.{TypeRefusal}
 use Rattle.hip_tree.specs.declared.program.Program.{Program}
 use Rattle.hip_typing.specs.Checks.{Refuses}
 
--- what the exit of a `?` answers
+-- What the exit of a `?` answers.
 fails : {T E : Type 0} (P : Result T E → Type 0) (r : Result T E) (e : E) → IsErrAnd r (λ y. y ≡ e) → P (Err e)
     → P r
 fails P r e h p = let q = err_from_is_err_and r h in subst P (sym (q.1 ∙ ap (λ x. Err x) q.2)) p

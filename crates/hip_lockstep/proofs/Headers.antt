@@ -31,7 +31,7 @@ one_image addr line len q =
     ap (λ (l : List ℕ). (if some_byte l then Image addr l ∷ [] else []) ++ []) (take_all 64 line (omega (arith, len)))
     ∙ ap (λ (b : Bool). (if b then Image addr line ∷ [] else []) ++ []) q
 
--- at most one for each cache line
+-- At most one for each cache line.
 images_few : (n addr : ℕ) (bytes : List ℕ) → length (image_entries n addr bytes) ≤ n
 images_few zero addr bytes = omega arith
 images_few (suc n) addr bytes = go (some_byte (take 64 bytes)) (images_few n (addr + 64) (drop 64 bytes))
@@ -64,7 +64,7 @@ then_part {old} {mid} {new} es fs p q =
 pub part_of_more : {old new : SinkState} (es fs : List Entry) → AppendsPrefix old new (lines_of es) → AppendsPrefix old new (lines_of (es ++ fs))
 part_of_more {old} {new} es fs p = subst (λ text. AppendsPrefix old new text) (sym (both_lines es fs)) (prefix_of_more old new (lines_of es) (lines_of fs) p)
 
--- the lines of the first cache lines were written
+-- The lines of the first cache lines were written.
 pub record IsWriting (base : ℕ) (image : List ℕ) (line count : ℕ) (old new : SinkState) : Type 0 where
   pub front : List Entry
   pub split : image_entries (length image / 64) base image ≡ front ++ image_entries (length image / 64 - line) (base + 64 * line) (drop (64 * line) image)
@@ -102,7 +102,7 @@ take_twice (suc n) (x ∷ xs) = ap (λ ys. x ∷ ys) (take_twice n xs)
 abbrev entry_here : ℕ → List ℕ → List Entry
 entry_here addr bytes = if some_byte bytes then Image addr bytes ∷ [] else []
 
--- the next cache line
+-- The next cache line.
 next_lines : (base : ℕ) (image : List ℕ) (line : ℕ) → line < length image / 64 → image_entries (length image / 64 - line) (base + 64 * line) (drop (64 * line) image) ≡ image_entries 1 (base + 64 * line) (take 64 (drop (64 * line) image)) ++ image_entries (length image / 64 - (line + 1)) (base + 64 * (line + 1)) (drop (64 * (line + 1)) image)
 next_lines base image line lt =
     let count : length image / 64 - line ≡ suc (length image / 64 - (line + 1)) = omega (arith, lt) in
@@ -116,7 +116,7 @@ next_lines base image line lt =
     ∙ ap (λ es. es ++ image_entries (length image / 64 - (line + 1)) (base + 64 * (line + 1)) (drop (64 * (line + 1)) image))
     (ap (λ bs. entry_here (base + 64 * line) bs) (sym first) ∙ sym (append-nil (entry_here (base + 64 * line) (take 64 (take 64 (drop (64 * line) image))))))
 
--- one more cache line, whose bytes are a list
+-- One more cache line, whose bytes are a list.
 module _ {base line count : ℕ} {image : List ℕ} {old mid : SinkState} (is : IsWriting base image line count old mid) (lt : line < length image / 64) (cut : List ℕ) (same : cut ≡ take 64 (drop (64 * line) image)) where
   grown : image_entries (length image / 64) base image ≡ (is.front ++ image_entries 1 (base + 64 * line) cut) ++ image_entries (length image / 64 - (line + 1)) (base + 64 * (line + 1)) (drop (64 * (line + 1)) image)
   grown =

@@ -17,7 +17,7 @@ none_either true = refl
 none_either false = refl
 
 module _ (P : Program) (I : Input) where
-  -- a step without an event has no entry
+  -- A step without an event has no entry.
   quiet_entry : (n : ℕ) → event P I (run P I n) ≡ events.Quiet → trace P I (suc n) ≡ trace P I n
   quiet_entry n q =
       next-trace P I n
@@ -42,7 +42,7 @@ module _ (P : Program) (I : Input) where
       ap (λ n. (run P I n).world.ending) (let e : start + suc k ≡ suc (start + k) = omega arith in e)
       ∙ ending_after P I (start + k) events.Quiet (quiet k (omega arith))
 
--- a machine takes some steps without an event
+-- A machine takes some steps without an event.
 module _ {P : Program} {I : Input} {old new : Seen} (is : IsGoing P I old) (steps : ℕ) (on : new ≡ record old { taken = old.taken + steps })
     (quiet : (n : ℕ) → n < steps → event old.program old.input (run old.program old.input (old.taken + n)) ≡ events.Quiet) where
   pub taken_is : new.taken ≡ old.taken + steps

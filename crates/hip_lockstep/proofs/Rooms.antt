@@ -25,14 +25,14 @@ module _ (P : Program) (I : Input) (sound : IsSound P) (valid : IsValid P I) (sh
       let product : suc I.limit * suc (longest P) ≤ suc (2 ^ 40) * 2 ^ 64 = mul-le (suc I.limit) (suc (longest P)) (suc (2 ^ 40)) (2 ^ 64) (omega (arith, limit)) (omega (arith, short)) in
       omega (arith, entries, steps, header, product, numbers, image, region)
 
-  -- the number of entries after n steps
+  -- The number of entries after n steps.
   pub room : (n count : ℕ) → count ≡ length (trace P I n) → count + 2 < 2 ^ 128
   room n count same =
       let few = entries_few n in
       let counted = length-trace P I n in
       omega (arith, few, counted, same)
 
--- the region ends below 2^64
+-- The region ends below 2^64.
 pub within : (P : Program) (I : Input) → IsSound P → IsValid P I → I.base + length I.image < 2 ^ 64
 within P I sound valid =
     let high = valid.base.high in
@@ -41,7 +41,7 @@ within P I sound valid =
     omega (arith, high, image, region)
 
 module _ (P : Program) (I : Input) (sound : IsSound P) (valid : IsValid P I) (bounded : (n : ℕ) → IsBounded P I n) where
-  -- the number of entries before the first step
+  -- The number of entries before the first step.
   pub header_small : (count : ℕ) → count ≡ length (header_of I) → count ≤ 2 ^ 64
   header_small count same =
       let b = (bounded 0).header in

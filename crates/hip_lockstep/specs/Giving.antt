@@ -7,28 +7,28 @@ use Rattle.hip_trace.specs.declared.entry.Entry.{Entry}
 use Rattle.hip_types.specs.declared.memory.NoMemory.{NoMemory}
 use Rattle.hip_lockstep.specs.declared.given.Given.{Given}
 
--- no INPUT or IMAGE entry has given anything
+-- No INPUT or IMAGE entry has given anything.
 abbrev pub IsEmpty : Given → Type 0
 IsEmpty g = (g.numbers ≡ []) × (g.image ≡ [])
 
--- the input that a header has given so far; its initial bytes go up to the end of the cache line of the last IMAGE
+-- The input that a header has given so far; its initial bytes go up to the end of the cache line of the last IMAGE.
 abbrev pub input_of : Given → Input
 input_of g = record { base = g.base; image = g.image; numbers = g.numbers; limit = g.limit }
 
--- whether there is a next input and it was taken; nothing is known after out of memory
+-- Whether there is a next input and it was taken; nothing is known after out of memory.
 abbrev pub Takes : Option Input → Input → Input → Result Bool NoMemory → Type 0
 Takes next old new (Ok true) = next ≡ Some new
 Takes next old new (Ok false) = (next ≡ None) × (new ≡ old)
 Takes next old new (Err e) = Unit {0}
 
--- an INPUT with this number is taken exactly if it is valid after what was given
+-- An INPUT with this number is taken exactly if it is valid after what was given.
 abbrev pub TakesNumber : ℤ → Input → Input → Result Bool NoMemory → Type 0
 TakesNumber number old new result = Takes (with_number old number) old new result
 
--- an IMAGE of these bytes at an address is taken exactly if it is valid after what was given
+-- An IMAGE of these bytes at an address is taken exactly if it is valid after what was given.
 abbrev pub TakesLine : Program → ℕ → List ℕ → Input → Input → Result Bool NoMemory → Type 0
 TakesLine P addr bytes old new result = Takes (with_line P old addr bytes) old new result
 
--- an entry is taken exactly if it is an INPUT or IMAGE that is valid after what was given
+-- An entry is taken exactly if it is an INPUT or IMAGE that is valid after what was given.
 abbrev pub TakesEntry : Program → Entry → Input → Input → Result Bool NoMemory → Type 0
 TakesEntry P e old new result = Takes (with_entry P old (Some e)) old new result

@@ -9,21 +9,21 @@ use Rattle.hip_trace.specs.declared.refusal.TraceRefusal.TheVariants as unread
 use Rattle.hip_lockstep.specs.declared.refusal.ReplayRefusal.{ReplayRefusal}
 use Rattle.hip_lockstep.specs.declared.refusal.ReplayRefusal.TheVariants as refusals
 
--- the entry that was read after `count` others, or why there is none
+-- The entry that was read after `count` others, or why there is none.
 abbrev pub FindsEntry : ℕ → Result (Option Entry) TraceRefusal → Result Entry ReplayRefusal → Type 0
 FindsEntry count (Ok (Some e)) result = result ≡ Ok e
 FindsEntry count (Ok None) result = result ≡ Err (refusals.Misfit (count + 1) Early)
 FindsEntry count (Err unread.Malformed) result = result ≡ Err (refusals.Misfit (count + 1) Malformed)
 FindsEntry count (Err unread.ReadFault) result = result ≡ Err refusals.ReadFault
 
--- nothing was read after `count` entries, or why something was
+-- Nothing was read after `count` entries, or why something was.
 abbrev pub EndsHere : ℕ → Result (Option Entry) TraceRefusal → Result (Unit {0}) ReplayRefusal → Type 0
 EndsHere count (Ok (Some e)) result = result ≡ Err (refusals.Misfit (count + 1) Extra)
 EndsHere count (Ok None) result = result ≡ Ok tt
 EndsHere count (Err unread.Malformed) result = result ≡ Err (refusals.Misfit (count + 1) Malformed)
 EndsHere count (Err unread.ReadFault) result = result ≡ Err refusals.ReadFault
 
--- an entry after `count` others, or the cause why there is none
+-- An entry after `count` others, or the cause why there is none.
 abbrev pub ReadsEntry : ℕ → ReaderState → ReaderState → CabinetState → CabinetState
     → Result Entry ReplayRefusal
     → Type 0
@@ -35,18 +35,18 @@ ReadsEntry count r r' s s' (Err (refusals.Misfit entry Extra)) = ⊥
 ReadsEntry count r r' s s' (Err refusals.ReadFault) = HasFailed r r' s s'
 ReadsEntry count r r' s s' (Err refusals.NoMemory) = ⊥
 
--- an entry after n others, which is kept, or the cause why there is none
+-- An entry after n others, which is kept, or the cause why there is none.
 abbrev pub KeepsEntry : ℕ → ReaderState → ReaderState → CabinetState → CabinetState → Entry
     → Result (Unit {0}) ReplayRefusal
     → Type 0
 KeepsEntry count r r' s s' kept (Ok _) = HasNext r r' s s' kept
 KeepsEntry count r r' s s' kept (Err refusal) = ReadsEntry count r r' s s' (Err refusal)
 
--- some entry was read where the file should have ended
+-- Some entry was read where the file should have ended.
 abbrev pub HasMore : ReaderState → ReaderState → CabinetState → CabinetState → Type 0
 HasMore r r' s s' = (e : Entry) × HasNext r r' s s' e
 
--- the file's end after `count` entries, or the cause why it is not there
+-- The file's end after `count` entries, or the cause why it is not there.
 abbrev pub ReadsEnd : ℕ → ReaderState → ReaderState → CabinetState → CabinetState
     → Result (Unit {0}) ReplayRefusal
     → Type 0

@@ -16,13 +16,13 @@ use Rattle.hip_lockstep.specs.declared.opening.Begun.{Begun}
 use Rattle.hip_lockstep.specs.declared.refusal.ReplayRefusal.{ReplayRefusal}
 use Rattle.hip_lockstep.specs.declared.steps.Lockstep.{Lockstep}
 
--- a valid START was read
+-- A valid START was read.
 pub record HasLimit (start : CabinetState) (r : ReaderState) (s : CabinetState) (limit : ℕ) : Type 0 where
   pub first : Entry
   pub read : HasReadEntries start r s (first ∷ [])
   pub starts : valid_limit (Some first) ≡ Some limit
 
--- a valid START and a valid REGISTER were read
+-- A valid START and a valid REGISTER were read.
 pub record HasBase (P : Program) (start : CabinetState) (r : ReaderState) (s : CabinetState) (limit base : ℕ) : Type 0
   where
     pub first : Entry
@@ -58,27 +58,27 @@ pub record HasHeader (P : Program) (start : CabinetState) (r : ReaderState) (s :
     pub header : IfSome start.rest
         (λ bytes. header P (spelled true bytes) ≡ Gives (header_entries begun.input) begun.input)
 
--- the limit of turns that a valid START gives as the first entry, or the cause why there is none
+-- The limit of turns that a valid START gives as the first entry, or the cause why there is none.
 abbrev pub ReadsLimit : Program → CabinetState → ReaderState → CabinetState → Result ℕ ReplayRefusal
     → Type 0
 ReadsLimit P start r s (Ok limit) = HasLimit start r s limit
 ReadsLimit P start r s (Err refusal) = Refuses P r start s refusal
 
--- the base of the region that a valid REGISTER gives as the second entry, or the cause why there is none
+-- The base of the region that a valid REGISTER gives as the second entry, or the cause why there is none.
 abbrev pub ReadsBase : Program → CabinetState → ReaderState → CabinetState → ℕ → Result ℕ ReplayRefusal
     → Type 0
 ReadsBase P start r s limit (Ok base) = HasBase P start r s limit base
 ReadsBase P start r s limit (Err refusal) = Refuses P r start s refusal
 
--- all that valid INPUT and IMAGE entries give, with the first entry after them, or the cause why that entry was not
--- read
+-- All that valid INPUT and IMAGE entries give, with the first entry after them, or the cause why that entry was not
+-- read.
 abbrev pub ReadsValues : Program → CabinetState → ReaderState → CabinetState → Input
     → Result Lockstep ReplayRefusal
     → Type 0
 ReadsValues P start r s given (Ok lockstep) = HasAllGiven P start r s given lockstep
 ReadsValues P start r s given (Err refusal) = Refuses P r start s refusal
 
--- the input that the header gives, or the cause why there is none
+-- The input that the header gives, or the cause why there is none.
 abbrev pub ReadsHeader : Program → CabinetState → ReaderState → CabinetState → Result Begun ReplayRefusal
     → Type 0
 ReadsHeader P start r s (Ok begun) = HasHeader P start r s begun

@@ -10,7 +10,7 @@ use Rattle.hip_trace.specs.Reads.{ReaderState, IsReading}
 use Rattle.hip_lockstep.specs.declared.refusal.ReplayRefusal.{ReplayRefusal}
 use Rattle.hip_lockstep.specs.declared.refusal.ReplayRefusal.TheVariants as refusals
 
--- how many texts of entries the reader has begun, where an entry is the first that does not fit: none after that one
+-- How many texts of entries the reader has begun, where an entry is the first that does not fit: none after that one.
 abbrev pub begun_at : MisfitKind → ℕ → ℕ
 begun_at Early entry = entry - 1
 begun_at Malformed entry = entry
@@ -24,13 +24,13 @@ pub record HasMisfit (P : Program) (r : ReaderState) (old new : CabinetState) (e
     pub stated : IfSome old.rest (λ bytes. IsMisfit P bytes true entry kind)
     pub count : r.count ≡ begun_at kind entry
 
--- these bytes were taken from the front of a file, and the rest is left
+-- These bytes were taken from the front of a file, and the rest is left.
 pub record IsTaken (front bytes : List ℕ) (rest : Option (List ℕ)) : Type 0 where
   pub left : List ℕ
   pub rest_is : rest ≡ Some left
   pub bytes_are : bytes ≡ front ++ left
 
--- the bytes that were taken show no misfit, whatever follows them
+-- The bytes that were taken show no misfit, whatever follows them.
 pub record ShowsNone (P : Program) (bytes : List ℕ) (rest : Option (List ℕ)) : Type 0 where
   pub front : List ℕ
   pub taken : IsTaken front bytes rest
@@ -47,7 +47,7 @@ pub record HasReadFault (P : Program) (old new : CabinetState) : Type 0 where
 pub record HasStoppedReplay (old new : CabinetState) : Type 0 where
   pub reading : IsReading old new
 
--- the cause of each refusal
+-- The cause of each refusal.
 abbrev pub Refuses : Program → ReaderState → CabinetState → CabinetState → ReplayRefusal → Type 0
 Refuses P r old new (refusals.Misfit entry kind) = HasMisfit P r old new entry kind
 Refuses P r old new refusals.ReadFault = HasReadFault P old new

@@ -5,7 +5,7 @@ use Rattle.hip_runs.specs.declared.event.Event.TheVariants as events
 use Rattle.hip_trace.specs.declared.usual.Usual.{Usual}
 use Rattle.hip_trace.specs.declared.usual.Usual.TheVariants as usuals
 
--- the entry of a step with an event that does not end the run, if it has one
+-- The entry of a step with an event that does not end the run, if it has one.
 abbrev pub usual_of : Event → Option Usual
 usual_of events.Quiet = None
 usual_of (events.Print number) = None

@@ -60,7 +60,7 @@ placed_next {P} {place} {first} {i} {j} {g} {b} {k} p next =
 -- ---- the end of the run
 
 module _ {old : Core} {m : Moment} where
-  -- the run ends in a turn
+  -- The run ends in a turn.
   pub stops : (new : Core) (e : Ending) → new ≡ record old { ending = Some e; taken = old.taken + 1; turns = old.turns + 1 } → Before old m →
       Stands m.program m.input new (record (with_turn m.world) { ending = Some e }) m.top m.rest m.after.steps
   stops new e is b = let s = b.stands in subst (λ (c : Core). Stands m.program m.input c (record (with_turn m.world) { ending = Some e }) m.top m.rest m.after.steps) (sym is) (record {
@@ -77,7 +77,7 @@ module _ {old : Core} {m : Moment} where
     storage = s.storage;
   })
 
-  -- a slot takes a value, and so does the register of its name
+  -- A slot takes a value, and so does the register of its name.
   pub assigns : (new : Core) (slot v : ℕ) →
       new ≡ record old { slots = new.slots; top = record old.top { place = old.top.place + 1 }; taken = old.taken + 1; turns = old.turns + 1 } → new.slots.items ≡ slice_set old.slots.items (old.top.base + slot) v →
       IsSlot (names_at m.program m.top.function) slot → HasNext old m → Before old m →
@@ -131,7 +131,7 @@ acts_value_trap {code} {old} {new} {dest} {value} {e} trap gives is stop = recor
 
 -- ---- returns
 
--- the bottom frame returns
+-- The bottom frame returns.
 pub finishes_bottom : {old new : Core} (mid : Core) (v : ℕ) (e : Event) → old.saved.items ≡ [] → mid.saved.items ≡ [] → e ≡ events.End (Stop (signed W32 (bits W32 v).value)) →
     new ≡ record old { saved = mid.saved; ending = Some (Stop (signed W32 (bits W32 v).value)); taken = old.taken + 1; turns = old.turns + 1 } → Does old new e true (λ m. Returns v)
 unfolding perform leave
@@ -158,11 +158,11 @@ finishes_bottom {old} {new} mid v e none still is stop = record {
       (record { stands = subst (λ gs. Stands m.program m.input new (record (with_turn m.world) { ending = Some end }) m.top gs m.after.steps) bottom stands; event = is });
 }
 
--- the blocks of the frames below are left
+-- The blocks of the frames below are left.
 blocks_left : (blocks new : List Slot) (count : ℕ) (g : Frame) (gs : List Frame) (own : List Slot) → blocks ≡ blocks_of (g ∷ gs) ++ own → count ≡ length (blocks_of (g ∷ gs)) → new ≡ take count blocks → new ≡ blocks_of (g ∷ gs)
 blocks_left blocks new count g gs own are below is = is ∙ ap (λ n. take n blocks) below ∙ ap (λ bs. take (length (blocks_of (g ∷ gs))) bs) are ∙ take-append_seam (blocks_of (g ∷ gs)) own
 
--- the marks of frames lie in the stack
+-- The marks of frames lie in the stack.
 low_mark : (mark : ℕ) (fs : List Frame) → lie_in_order mark fs → stack_start ≤ mark
 low_mark mark [] h = h
 low_mark mark (f ∷ fs) h = let a = low_mark f.mark fs h.1 in let b = lower f.mark mark f.slots h.0 in omega (arith, a, b)
@@ -173,7 +173,7 @@ mark_is_low {mark} {f} {fs} h = low_mark f.mark fs h.in_order.1
 pub mark_is_high : {mark : ℕ} {f : Frame} {fs : List Frame} → HasShape mark (f ∷ fs) → f.mark ≤ mark
 mark_is_high {mark} {f} {fs} h = lower f.mark mark f.slots h.in_order.0
 
--- the frame of the caller is on top again, whatever it says of the call
+-- The frame of the caller is on top again, whatever it says of the call.
 pub finishes_call : {old new : Core} (mid : Core) (v : ℕ) (caller : Activation) (unused : ℕ) → old.saved.items ≡ mid.saved.items ++ caller ∷ [] →
     new ≡ record old { saved = mid.saved; top = record caller { left = unused }; slots = new.slots; blocks = new.blocks; storage = new.storage; taken = old.taken + 1; turns = old.turns + 1 } →
     new.slots.items ≡ with_result caller.base old.top.dest v old.slots.items → new.blocks ≡ take old.top.blocks old.blocks → new.storage ≡ after_pop old.top.mark old.storage → Does old new events.Quiet true (λ m. Returns v)

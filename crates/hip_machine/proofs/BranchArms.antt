@@ -26,7 +26,7 @@ use Rattle.hip_machine.specs.Stands.{Stands, Stepped}
 use Rattle.hip_machine.proofs.Arms.{counted_next, turn_next}
 use Rattle.hip_machine.proofs.Slots.{kept_put, saved_kept}
 
--- the edge that stands there is the one that is within
+-- The edge that stands there is the one that is within.
 pub record EdgeIs (n : Numbers) (edge : Edge) : Type 0 where
   pub span : HasSpan edge.moves n.tables.moves
   pub read : AreRead n (entries_of edge.moves n.tables.moves)
@@ -41,7 +41,7 @@ case_within n v (x ∷ cs) other c w =
     go true later = c.at 0 x refl
     go false later = later
 
--- the first case whose value is not below the one that is looked for decides
+-- The first case whose value is not below the one that is looked for decides.
 pub case_found : (v : ℕ) (cs : List Case) (other i : ℕ) → IsNonDecreasingBy (λ c. c.value) cs
     → ((k : ℕ) (d : Case) → k < i → k < length cs → ltb (get_or cs k d).value v ≡ true)
     → ((k : ℕ) (d : Case) → i ≤ k → k < length cs → ltb (get_or cs k d).value v ≡ false)
@@ -70,7 +70,7 @@ case_found v (x ∷ cs) other (suc i) up low high =
     (λ k d lt within. low (suc k) d (omega (arith, lt)) (omega (arith, within)))
     (λ k d le within. high (suc k) d (omega (arith, le)) (omega (arith, within)))
 
--- control goes along an edge, whose moves are made
+-- Control goes along an edge, whose moves are made.
 pub follows : {code : Code} {old new : Core} {number : ℕ} (mid : Core) (edge : Edge) → slice_get code.edges.items number ≡ Some edge →
     mid.slots.items ≡ put (numbers_of code old) old.top.base (entries_of edge.moves code.moves.items) old.slots.items →
     new ≡ record old { values = mid.values; slots = mid.slots; top = record old.top { place = edge.target; entry = edge.target; block = edge.block }; taken = old.taken + 1; turns = old.turns + 1 } →
@@ -104,6 +104,6 @@ follows {code} {old} {new} {number} mid edge here made is = record {
       });
 }
 
--- the op is a branch along that edge
+-- The op is a branch along that edge.
 pub acts_branch : {code : Code} {old new : Core} {e : Event} {go : Go} (number : ℕ) → number ≡ edge_taken (numbers_of code old) go → Follows code old new e number → Acts code old new e (ops.Control (controls.Go go))
 acts_branch {code} {old} {new} {e} {go} number is f = record { acts = λ m b placed past. (subst (Follows code old new e) is f).follows m b placed.0 }

@@ -36,7 +36,7 @@ use Rattle.hip_machine.proofs.Slots.{result_within}
 
 -- ---- turns
 
--- a step that is not cut does its action
+-- A step that is not cut does its action.
 uncut : (m : Moment) (new : Core) (e : Event) (turn : Bool) (x : Action) → Stepped m.program m.input new e (acted m turn x) (seen_of m x) → is_cut m.input m.world (record { turn = turn; action = x }) ≡ false →
     Stepped m.program m.input new e (carried m turn x) (seen_at m turn x)
 unfolding carry_out
@@ -44,11 +44,11 @@ uncut m new e turn x d cut =
     subst (λ b. Stepped m.program m.input new e (cond b (stop Cut m.world (m.top ∷ m.rest) m.lines m.after) (acted m turn x)) (cond b (events.End Cut) (seen_of m x))) (sym cut) d
 
 module _ {I : Input} {code : Code} {old new : Core} {e : Event} {o : Op} where
-  -- what holds on any input
+  -- What holds on any input.
   pub on_input : Acts code old new e o → ActsOn I code old new e o
   on_input a = record { acts = λ m same b placed past. a.acts m b placed past }
 
-  -- while the limit allows it, an op does its action in a turn
+  -- While the limit allows it, an op does its action in a turn.
   pub carries_turn : op_turn o ≡ true → old.turns < old.limit → ActsOn I code old new e o → Carries I code old new e o
   carries_turn t below a = record {
     carries = λ m same b placed past.
@@ -58,14 +58,14 @@ module _ {I : Input} {code : Code} {old new : Core} {e : Event} {o : Op} where
         uncut m new e (op_turn o) (action_here code old o m) (a.acts m same b placed past) (ap₂ (λ t n. t && not n) t allowed);
   }
 
-  -- what is no turn is never cut
+  -- What is no turn is never cut.
   pub carries_still : op_turn o ≡ false → Acts code old new e o → Carries I code old new e o
   carries_still t a = record {
     carries = λ m same b placed past.
         uncut m new e (op_turn o) (action_here code old o m) (a.acts m b placed past) (ap (λ t. t && not (nat_lt m.world.turns m.input.limit)) t);
   }
 
--- at the limit the run is cut
+-- At the limit the run is cut.
 pub carries_cut : {I : Input} {code : Code} {old new : Core} {e : Event} {o : Op} → op_turn o ≡ true → old.limit ≤ old.turns → e ≡ events.End Cut → new ≡ record old { ending = Some Cut; taken = old.taken + 1 } → Carries I code old new e o
 unfolding carry_out
 carries_cut {I} {code} {old} {new} {e} {o} t above is stops = record {
@@ -105,7 +105,7 @@ got_last [] k e = omega arith
 got_last (z ∷ xs) zero e = cc
 got_last (z ∷ xs) (suc k) e = let r = got_last xs k e in omega (arith, r)
 
--- what is known of the op at the machine's place
+-- What is known of the op at the machine's place.
 pub record Fetched (code : Code) (c : Core) (m : Moment) : Type 0 where
   pub op : Op
   pub here : slice_get code.ops.items c.top.place ≡ Some op
@@ -160,7 +160,7 @@ module _ (code : Code) (c : Core) (m : Moment) (whole : IsCodeOf m.program m.inp
 
 -- ---- steps
 
--- the blocks of frames end below the mark
+-- The blocks of frames end below the mark.
 slots_past : (low high : ℕ) (ss : List Slot) → lie_between low high ss → IsPast high (reverse ss)
 slots_past low high [] h = All-nil _
 slots_past low high (x ∷ ss) h =
@@ -198,7 +198,7 @@ laid c m b =
       result = λ rest x slot is dest. result_within s.saved rest x slot is dest;
     }
 
--- what is known of a state of a run before the next step
+-- What is known of a state of a run before the next step.
 pub record IsSteady (P : Program) (I : Input) (s : State) : Type 0 where
   pub reads : (f : Frame) (fs : List Frame) → s.world.ending ≡ None → s.frames ≡ f ∷ fs → ReadsAssigned P f
   pub reached : (f : Frame) (fs : List Frame) → s.world.ending ≡ None → s.frames ≡ f ∷ fs → top_is_reached P f
@@ -208,7 +208,7 @@ module _ (P : Program) (I : Input) (code : Code) (whole : IsCodeOf P I code.ops.
   moment : State → Frame → List Frame → Moment
   moment s f fs = record { program = P; input = I; world = s.world; top = f; rest = fs; lines = s.lines; before = s.counts; after = counted (event_at I s.world fs (deed_at P I s.world f fs)) s.counts }
 
-  -- the op that comes next is there
+  -- The op that comes next is there.
   pub ready : (c : Core) (s : State) → IsSteady P I s → StandsFor P I c s → s.world.ending ≡ None → IsReady code c
   unfolding moment
   ready c s steady stands going = go s.frames refl stands
@@ -221,7 +221,7 @@ module _ (P : Program) (I : Input) (code : Code) (whole : IsCodeOf P I code.ops.
           let before : Before c m = record { going = going; counted = refl; stands = x; shaped = subst (HasShape s.world.mark) q steady.shaped } in
           record { op = a.op; here = a.here; within = a.within; laid = laid c m before }
 
-  -- a step of the machine is a step of the run
+  -- A step of the machine is a step of the run.
   pub stepped : (old new : Core) (e : Event) (s : State) → IsSteady P I s → StandsFor P I old s → s.world.ending ≡ None → CarriesHere I code old new e → Stepped P I new e (step P I s) (event P I s)
   unfolding step event on_ending on_frames moment
   stepped old new e s steady stands going c = subst (λ o. Stepped P I new e (on_ending P I s o) (event_on_ending P I s o)) (sym going) (go s.frames refl stands)
@@ -239,7 +239,7 @@ module _ (P : Program) (I : Input) (code : Code) (whole : IsCodeOf P I code.ops.
 -- ---- the run
 
 module _ (P : Program) (I : Input) (c : Core) (s : State) where
-  -- a frame stands
+  -- A frame stands.
   pub stands_on : {Q : Type 0} → ((f : Frame) (fs : List Frame) → s.frames ≡ f ∷ fs → Stands P I c s.world f fs s.counts.steps → Q) → StandsFor P I c s → Q
   stands_on {Q} k stands = go s.frames refl stands
     where

@@ -31,7 +31,7 @@ assigned_is (r ∷ rs) name (inr h) = go (bytes_eq r.0 name) (assigned_is rs nam
     go true e = refl
     go false e = e
 
--- a register that has a value is one of those that have one
+-- A register that has a value is one of those that have one.
 pub among_assigned : (rs : Registers) (name : List ℕ) → is_assigned rs name ≡ true → IsAmong (assigned_names rs) name
 among_assigned [] name e = cc
 among_assigned (r ∷ rs) name e = go (bytes_eq r.0 name) refl e (λ q. among_assigned rs name q)
@@ -40,7 +40,7 @@ among_assigned (r ∷ rs) name e = go (bytes_eq r.0 name) refl e (λ q. among_as
     go true t q later = inl ((bytes_eq-Decides r.0 name).0 t)
     go false t q later = inr (later q)
 
--- a call keeps the slots of the registers that have a value
+-- A call keeps the slots of the registers that have a value.
 pub values_kept : (P : Program) (f b k : ℕ) (rs : Registers) (o : Op) → IsReached P None f b k rs → keeps_extent P f b o → keeps_values (names_at P f) rs o
 values_kept P f b k rs (ops.Value dest value) r e = tt
 values_kept P f b k rs (ops.Memory memory) r e = tt
@@ -52,7 +52,7 @@ values_kept P f b k rs (ops.Control (controls.Call call)) r e = record {
 }
 values_kept P f b k rs (ops.Control (controls.Exit exit)) r e = tt
 
--- the end of a block is no call
+-- The end of a block is no call.
 pub end_keeps : (names : List (List ℕ)) (rs : Registers) (o : Op) → is_end o ≡ true → keeps_values names rs o
 end_keeps names rs (ops.Value dest value) e = tt
 end_keeps names rs (ops.Memory memory) e = tt
@@ -79,7 +79,7 @@ module _ (rs : Registers) where
   pub all_known : (us : List Use) → All HasValue (used_registers us) → AreKnown rs us
   all_known us h = record { all = uses_known us h }
 
--- the operands of phis
+-- The operands of phis.
 pub phis_known : (P : Program) (f : Frame) → ReadsAssigned P f → code_at P f ≡ [] → KnowsPhis P f.function f.block f.registers
 phis_known P f r done = record {
   phis = λ c j m to p e at phi edge label. operand_known f.registers e.value (r.phis c j m to p e done at phi edge label);

@@ -45,7 +45,7 @@ use Rattle.hip_machine.specs.Stands.{Stands, Stepped}
 use Rattle.hip_machine.proofs.Arms.{assigns, counted_next, placed_next, turn_next}
 use Rattle.hip_machine.proofs.Slots.{kept_set, saved_kept}
 
--- the site of the op that is next in the machine's top frame, by its index in its block
+-- The site of the op that is next in the machine's top frame, by its index in its block.
 abbrev pub site_here : Core → Site
 site_here c = record { function = c.top.function; block = c.top.block; index = c.top.place - c.top.entry }
 
@@ -74,7 +74,7 @@ width_few W64 = omega arith
 abbrev pub point_of : Moment → Bool → Point
 point_of m turn = record { world = m.world; frame = m.top; frames = m.rest; lines = m.lines; before = m.before; after = m.after; turn = turn }
 
--- the turns after a step in a turn or in none
+-- The turns after a step in a turn or in none.
 abbrev pub turns_after : Bool → ℕ → ℕ
 turns_after true n = n + 1
 turns_after false n = n
@@ -91,7 +91,7 @@ left_turned : (turn : Bool) (zs : List ℤ) (w : World) → zs ≡ w.left → zs
 left_turned true zs w e = e
 left_turned false zs w e = e
 
--- the frame after its instruction, in a world with other memory
+-- The frame after its instruction, in a world with other memory.
 pub stands_next : {old new : Core} {m : Moment} (turn : Bool) (st : Contents) (w : World) →
     new ≡ record old { storage = st; top = record old.top { place = old.top.place + 1 }; taken = old.taken + 1; turns = turns_after turn old.turns } → Before old m → HasNext old m →
     turns_after turn old.turns ≡ w.turns → old.ending ≡ w.ending → drop old.read m.input.numbers ≡ w.left → HoldsRun m.program m.input st w.writes w.mark →
@@ -110,7 +110,7 @@ stands_next {old} {new} {m} turn st w is b past t e l h = let s = b.stands in su
   storage = h;
 })
 
--- an action that leaves all registers
+-- An action that leaves all registers.
 abbrev pub leaves : Action → Type 0
 leaves (Stores a bytes) = Unit {0}
 leaves (Flushes a n) = Unit {0}
@@ -148,14 +148,14 @@ passes {old} {new} {turn} {e} {m} {action} done st ok d is b past = subst (λ x.
 
 -- ---- traps
 
--- what is refused leaves the storage as it was
+-- What is refused leaves the storage as it was.
 pub refused : {old new : Core} {e : Event} {m : Moment} {action : Action} (st : Contents) (kind : TrapKind) → st ≡ old.storage → Does (record old { storage = st }) new e true (λ m. Traps kind) → action ≡ Traps kind → Before old m →
     Stepped m.program m.input new e (acted m true action) (seen_of m action)
 refused {old} {new} {e} {m} {action} st kind same d is b =
     let here = subst (λ (x : Contents). Does (record old { storage = x }) new e true (λ m. Traps kind)) same d in
     subst (λ x. Stepped m.program m.input new e (acted m true x) (seen_of m x)) (sym is) (here.does m b)
 
--- the same in no turn
+-- The same in no turn.
 pub halts : {old new : Core} {e : Event} {x : Moment → Action} (st : Contents) (kind : TrapKind) → st ≡ old.storage → ((m : Moment) → Before old m → x m ≡ Traps kind) → e ≡ events.End (Trap kind) →
     new ≡ record old { storage = st; ending = Some (Trap kind); taken = old.taken + 1 } → DoesNext old new e false x
 unfolding perform
@@ -254,7 +254,7 @@ mark_rises {x} {st} {block} {size} {align} p =
     let is = ap (λ (y : Contents). mark_of y.areas) p.contents in
     omega (arith, above, new, is)
 
--- a block that is taken back
+-- A block that is taken back.
 pub taken_back : {x st : Contents} {block size align : ℕ} → HasPushed x st block size align → after_pop (mark_of x.areas) st ≡ x
 taken_back {x} {st} {block} {size} {align} p =
     let short : length x.areas.stack ≡ mark_of x.areas - stack_start = omega arith in

@@ -44,7 +44,7 @@ nothing_more : (args more : List Arg) (t : Scalar) (i j : ℕ) → pointers_amon
 nothing_more args more t i j =
     none_left args i ∙ sym (ap (λ xs. xs ++ pointers_among more (drop j [])) (none_passed t) ∙ none_left more j)
 
--- the argument at a place, and those after it
+-- The argument at a place, and those after it.
 among_rest : (args : List Arg) (vs : List ℕ) (i : ℕ) (a : Arg) → i < length args → a ≡ get_or args i a
     → pointers_among (drop i args) (drop i vs) ≡ pointer_passed a.ty (slice_get vs i) ++ pointers_among (drop (suc i) args) (drop (suc i) vs)
 among_rest [] vs i a below is = absurd (omega (arith, below))
@@ -61,7 +61,7 @@ one_passed args vs old new all i a below is so_far added =
     ∙ ap (λ n. old ++ (pointer_passed a.ty (slice_get vs i) ++ pointers_among (drop n args) (drop n vs))) (add-one i)
     ∙ ap (λ xs. old ++ xs) (sym (among_rest args vs i a below is)) ∙ so_far
 
--- where the values are those of the arguments
+-- Where the values are those of the arguments.
 among_are : (args : List Arg) (f : Operand → ℕ) → pointers_among args (map (λ (a : Arg). f a.value) args) ≡ map f (flat_map pointer_arg args)
 among_are [] f = refl
 among_are (a ∷ args) f = go a.ty a.value _ _ (among_are args f)

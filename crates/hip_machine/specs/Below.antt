@@ -38,7 +38,7 @@ pub record IsSaved (P : Program) (slots : List ℕ) (base : ℕ) (slot : Option 
   pub blocks : x.blocks ≡ length (blocks_of gs)
   pub call : IsCallOf g x.left level
 
--- each of the frames, from the top one down, is kept by the last activation that is left; no activation is left over
+-- Each of the frames, from the top one down, is kept by the last activation that is left; no activation is left over.
 abbrev pub are_saved : Program → List ℕ → ℕ → Option ℕ → Option (List ℕ) → Option Level
     → List Activation →
     List Frame → Type 0

@@ -3,8 +3,8 @@ use Rattle.std.specs.Prelude.{◌≡◌, ℕ, List, [], ◌∷◌, ◌++◌, len
 use Rattle.hip_runs.specs.State.{Slot, Frame}
 use Rattle.hip_objects.specs.Blocks.{nonempty}
 
--- the blocks of these frames that have a byte: the frames are given from the top one down, the blocks of the bottom
--- frame come first, and of each frame the oldest one first
+-- The blocks of these frames that have a byte: the frames are given from the top one down, the blocks of the bottom
+-- frame come first, and of each frame the oldest one first.
 abbrev pub blocks_of : List Frame → List Slot
 blocks_of [] = []
 blocks_of (f ∷ fs) = blocks_of fs ++ nonempty (reverse f.slots)

@@ -13,6 +13,6 @@ pub record IsPlaced (P : Program) (place first i j g b k : ℕ) : Type 0 where
   pub function : i ≡ g
   pub block : j ≡ b
 
--- the activation has the frame's function and block, where that block begins in the code, and the frame's place there
+-- The activation has the frame's function and block, where that block begins in the code, and the frame's place there.
 abbrev pub placed_at : Program → Activation → Frame → Type 0
 placed_at P x f = IsPlaced P x.place x.entry x.function x.block f.function f.block f.place

@@ -22,29 +22,29 @@ use Rattle.hip_code.specs.Numbers.{Numbers}
 use Rattle.hip_machine.specs.declared.core_parts.Core.{Core}
 use Rattle.hip_machine.specs.Acts.{numbers_of}
 
--- the argument at place j is the pointer of that number
+-- The argument at place j is the pointer of that number.
 pub record IsPointerArg (args : List Arg) (k j : ℕ) : Type 0 where
   pub arg : Arg
   pub here : slice_get args j ≡ Some arg
   pub is : slice_get (flat_map pointer_arg args) k ≡ Some arg.value
 
--- the value that a call passes for a pointer, as a list of one; none for an integer
+-- The value that a call passes for a pointer, as a list of one; none for an integer.
 abbrev pub pointer_passed : Scalar → Option ℕ → List ℕ
 pointer_passed Ptr value = option_to_list value
 pointer_passed (Int width) value = []
 
--- the values of those arguments that are pointers, where the call passes these values
+-- The values of those arguments that are pointers, where the call passes these values.
 abbrev pub pointers_among : List Arg → List ℕ → List ℕ
 pointers_among [] values = []
 pointers_among (a ∷ args) [] = []
 pointers_among (a ∷ args) (v ∷ values) = pointer_passed a.ty (Some v) ++ pointers_among args values
 
--- the op is a call that passes these values
+-- The op is a call that passes these values.
 abbrev pub calls_with : Numbers → List ℕ → Op → Type 0
 calls_with n vs (ops.Control (controls.Call call)) = values_passed n call ≡ vs
 calls_with n vs _ = ⊥
 
--- a call is one of a function of the program or of an external one
+-- A call is one of a function of the program or of an external one.
 abbrev pub call_agrees : Program → Instr → Type 0
 call_agrees P (Call dest ret callee args) = CallsFunction P callee ret args ⊎ CallsExtern callee ret args
 call_agrees P _ = Unit {0}

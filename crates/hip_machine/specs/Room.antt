@@ -2,10 +2,10 @@
 use Rattle.std.specs.Prelude.{◌+◌, ◌<◌, ◌^◌}
 use Rattle.hip_machine.specs.declared.core_parts.Core.{Core}
 
--- one step more and one place further do not overflow
+-- One step more and one place further do not overflow.
 abbrev pub HasRoom : Core → Type 0
 HasRoom c = (c.taken + 1 < 2 ^ 128) × (c.top.place + 1 < 2 ^ 64)
 
--- nor does one turn more
+-- Nor does one turn more.
 abbrev pub HasTurn : Core → Type 0
 HasTurn c = (c.taken + 1 < 2 ^ 128) × (c.top.place + 1 < 2 ^ 64) × (c.turns + 1 < 2 ^ 64)

@@ -26,13 +26,13 @@ pub record Stands (P : Program) (I : Input) (c : Core) (w : World) (f : Frame) (
   pub blocks : HoldsBlocks c.blocks c.top.blocks f.slots fs
   pub storage : HoldsRun P I c.storage w.writes w.mark
 
--- the parts represent a state with these frames, the top one first, after n steps; no parts represent one without a
--- frame
+-- The parts represent a state with these frames, the top one first, after n steps; no parts represent one without a
+-- frame.
 abbrev pub StandsOn : Program → Input → Core → World → List Frame → ℕ → Type 0
 StandsOn P I c w [] n = ⊥
 StandsOn P I c w (f ∷ fs) n = Stands P I c w f fs n
 
--- the parts represent a state, after as many steps as it counts
+-- The parts represent a state, after as many steps as it counts.
 abbrev pub StandsFor : Program → Input → Core → State → Type 0
 StandsFor P I c s = StandsOn P I c s.world s.frames s.counts.steps
 

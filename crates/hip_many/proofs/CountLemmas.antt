@@ -27,7 +27,7 @@ one_noted old new x v w number is from updates s =
     by_test true = refl
     by_test false = refl
 
--- a second time in one plan counts nothing
+-- A second time in one plan counts nothing.
 counted_twice : (c : Count) (number : ℕ) → counted (counted c number) number ≡ counted c number
 counted_twice c number = by_test (nat_eq c.last number) refl
   where
@@ -41,7 +41,7 @@ counted_twice c number = by_test (nat_eq c.last number) refl
     by_test true e = ap (λ t. cond t c (record { plans = min (c.plans + 1) (2 ^ 64 - 1); last = number })) e
     by_test false e = ap (λ t. cond t (record { plans = min (c.plans + 1) (2 ^ 64 - 1); last = number }) (record { plans = min (min (c.plans + 1) (2 ^ 64 - 1) + 1) (2 ^ 64 - 1); last = number })) (same number)
 
--- each of the sites was met in the plan of that number
+-- Each of the sites was met in the plan of that number.
 pub record AreNoted (old : List (Site × Count)) (sites : List Site) (number : ℕ) (now : List (Site × Count)) : Type 0 where
   pub count : (s : Site) → count_at now s ≡ cond (has_site sites s) (counted (count_at old s) number) (count_at old s)
 
@@ -76,7 +76,7 @@ pub all_noted : (old now : List (Site × Count)) (sites : List Site) (i number :
     count_at now s ≡ cond (has_site sites s) (counted (count_at old s) number) (count_at old s)
 all_noted old now sites i number h so_far s = so_far.count s ∙ ap (λ xs. cond (has_site xs s) (counted (count_at old s) number) (count_at old s)) (take_all i sites h)
 
--- the entries count the sites of these plans, which have the numbers up to this one
+-- The entries count the sites of these plans, which have the numbers up to this one.
 pub record Tallies (entries : List (Site × Count)) (sort : Sort) (plans : List Plan) (number : ℕ) : Type 0 where
   pub plans_are : (s : Site) → (count_at entries s).plans ≡ plans_with sort plans s
   pub last : (s : Site) → (count_at entries s).last ≤ number

@@ -17,7 +17,7 @@ use Rattle.hip_many.specs.Union.{HasAll, IsUnion}
 
 -- ---- one item more
 
--- the list has each site that passes the test of one of the items, and the sites before
+-- The list has each site that passes the test of one of the items, and the sites before.
 pub record HasThose {A : Type 0} (test : A → Site → Bool) (items : List A) (before list : List Site) : Type 0 where
   pub has : (s : Site) → has_site list s ≡ list_any (λ x. test x s) items || has_site before s
 

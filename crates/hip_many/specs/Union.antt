@@ -7,18 +7,18 @@ use Rattle.hip_repairs.specs.Suits.{is_ascending}
 use Rattle.hip_repairs.specs.declared.plan.Plan.{Plan}
 use Rattle.hip_plan.specs.declared.plan_sites.PlanSites.{PlanSites}
 
--- the list ascends, and has exactly the sites that some plan has in its list
+-- The list ascends, and has exactly the sites that some plan has in its list.
 pub record HasAll (sites_in : Plan → List Site) (plans : List Plan) (list : List Site) : Type 0 where
   pub ascends : is_ascending list ≡ true
   pub has : (s : Site) → has_site list s ≡ list_any (λ p. has_site (sites_in p) s) plans
 
--- the union of plans, list by list
+-- The union of plans, list by list.
 pub record IsUnion (plans : List Plan) (plan : Plan) : Type 0 where
   pub flush_after : HasAll (λ p. p.flush_after) plans plan.flush_after
   pub fence_after : HasAll (λ p. p.fence_after) plans plan.fence_after
   pub hoist : HasAll (λ p. p.hoist) plans plan.hoist
 
--- the sites of a plan were put in
+-- The sites of a plan were put in.
 pub record HasPut (plan : Plan) (old new : PlanSites) : Type 0 where
   pub flushes : (s : Site)
       → has_site new.flush_after s ≡ (has_site plan.flush_after s || has_site old.flush_after s)

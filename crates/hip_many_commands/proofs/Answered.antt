@@ -79,7 +79,7 @@ module _ {old mid new : CabinetState} {p : List ℕ} {names : List (List ℕ)} (
       }))))) kept line
   untraced s failures.NoMemory h kept line = answers.ran_out s (met_then met h) kept line
 
-  -- a command on the runs that were loaded
+  -- A command on the runs that were loaded.
   pub answered : (s : Sinks) (status : Status) (asked : AllAsked) (h : HasAskedAll P names mid new asked)
       → AnswersOnRun (HasRepairedMany P h.runs) false s status
       → HasAnswered (ManyAnswers old new p names) false old new s status
@@ -93,7 +93,7 @@ module _ {old mid new : CabinetState} {p : List ℕ} {names : List (List ℕ)} (
         texts = texts;
       }))))) (on_run old new (met_then met h.met))
 
--- as many runs as names
+-- As many runs as names.
 pub many_runs : (files : Option (List NamedFile)) (P : Program) (names : List (List ℕ)) (runs : List TracedRun)
     → AreRunsOf files P names runs → length names ≡ length runs
 many_runs files P names runs are =
@@ -104,11 +104,11 @@ many_runs files P names runs are =
 module _ (P : Program) (runs : List TracedRun) (traces reports : ℕ) (made : ManyRepair)
     (many : traces ≡ length runs) (total : reports ≡ reports_of runs) (by : IsRepairForAll P (plans_of P runs) made)
     (cured : All (λ r. IsCuredBy P r.input made.repair.plan (direct P)) runs) (s : Sinks) where
-  -- how many traces there are, what `repair` writes, and the reasons
+  -- How many traces there are, what `repair` writes, and the reasons.
   abbrev pub counts : List ℕ
   counts = many_notes P traces reports made.repair.plan (length made.repair.repaired.clones) made.reasons
 
-  -- the answer of `many`: the repaired program, and the notes
+  -- The answer of `many`: the repaired program, and the notes.
   abbrev answer : Answer
   answer = record { status = statuses.Done; out = show made.repair.repaired.checked; notes = counts }
 

@@ -17,7 +17,7 @@ no_trace_fault : (number : ℕ) (why : TraceFileRefusal) → status_in number wh
 no_trace_fault number traces.Missing e = cc
 no_trace_fault number (traces.Misfit entry kind) e = cc
 
--- the file that could not be read is the current one
+-- The file that could not be read is the current one.
 same_name : (t name : List ℕ) (files : Option (List NamedFile)) (new : CabinetState) (P : Program) → new.name ≡ Some t
     → FailsToRead files name P new → FailsToRead files t P new
 same_name t name files new P named (inl e) = inl e

@@ -29,7 +29,7 @@ pub record HasAskedSome (P : Program) (names : List (List ℕ)) (start : Cabinet
   pub plans_are : plans ≡ plans_of P runs
   pub reports_are : reports ≡ reports_of runs
 
--- before the first trace
+-- Before the first trace.
 pub asked_none : (P : Program) (names : List (List ℕ)) (start : CabinetState) → HasAskedSome P names start 0 [] 0 start
 asked_none P names start = record {
   runs = [];
@@ -65,7 +65,7 @@ runs_more files P names runs r are is = record {
 module _ {P : Program} {names : List (List ℕ)} {start mid : CabinetState} {count : ℕ} {plans : List Plan} {reports : ℕ}
     (some : HasAskedSome P names start count plans reports mid) (name : List ℕ) (within : count < length names)
     (is : name ≡ get_or names count name) where
-  -- the first names and this one
+  -- The first names and this one.
   front : take (count + 1) names ≡ take count names ++ name ∷ []
   front =
       subst (λ (n : List ℕ). take (count + 1) names ≡ take count names ++ n ∷ []) (sym is)
@@ -95,7 +95,7 @@ module _ {P : Program} {names : List (List ℕ)} {start mid : CabinetState} {cou
         omega (arith, more, first, one);
   }
 
-  -- it comes after the runs
+  -- It comes after the runs.
   pub after_runs : (number : ℕ) → number ≡ count + 1 → IsAfterRuns start.files P names number name
   after_runs number same = record {
     before = take count names;

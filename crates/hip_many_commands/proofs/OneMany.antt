@@ -113,7 +113,7 @@ pub data View (files : List NamedFile) (p : List ℕ) (names : List (List ℕ)) 
   IsUntraced : Untraced files p names a → View files p names a
   IsCarried : Carried files p names a → View files p names a
 
--- the union of plans is one
+-- The union of plans is one.
 abbrev UnionsAreOne : Type 0
 UnionsAreOne = (plans : List Plan) (a b : Plan) → IsUnion plans a → IsUnion plans b → a ≡ b
 

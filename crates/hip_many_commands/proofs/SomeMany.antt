@@ -78,7 +78,7 @@ is_union P rs = record {
 
 -- ---- the union has each of them
 
--- one of several plans has the site
+-- One of several plans has the site.
 among : (sites_in : Plan → List Site) (plans : List Plan) (part : Plan) (s : Site) → In part plans
     → has_site (sites_in part) s ≡ true → list_any (λ p. has_site (sites_in p) s) plans ≡ true
 among sites_in [] part s i e = absurd i

@@ -29,7 +29,7 @@ pub record HasAsked (P : Program) (name : List ℕ) (old new : CabinetState) (as
   pub plan_is : asked.plan ≡ plan_for P run.found
   pub reports_are : asked.reports ≡ length run.found.reports
 
--- what loading a trace and planning for its run answers; out of memory may come anywhere
+-- What loading a trace and planning for its run answers; out of memory may come anywhere.
 abbrev pub Asks : Program → List ℕ → CabinetState → CabinetState → Result Asked (Failure TraceFileRefusal)
     → Type 0
 Asks P name old new (Ok asked) = HasAsked P name old new asked
@@ -40,7 +40,7 @@ Asks P name old new (Err failures.NoMemory) = HasMet false false old new
 
 -- ---- all traces
 
--- the plans for runs, and how many reports these have together
+-- The plans for runs, and how many reports these have together.
 pub record AreAsked (P : Program) (runs : List TracedRun) (asked : AllAsked) : Type 0 where
   pub plans_are : asked.plans ≡ plans_of P runs
   pub reports_are : asked.reports ≡ reports_of runs
@@ -71,7 +71,7 @@ pub record HasFailedIn (P : Program) (names : List (List ℕ)) (old new : Cabine
   pub fetches : CountsFetches number old new
   pub unread : FailsToRead old.files name P new
 
--- what loading all traces and planning for their runs answers; out of memory may come anywhere
+-- What loading all traces and planning for their runs answers; out of memory may come anywhere.
 abbrev pub AsksAll : Program → List (List ℕ) → CabinetState → CabinetState
     → Result AllAsked (Failure NumberedRefusal) → Type 0
 AsksAll P names old new (Ok asked) = HasAskedAll P names old new asked
@@ -81,13 +81,13 @@ AsksAll P names old new (Err failures.NoMemory) = HasMet false false old new
 
 -- ---- refusals
 
--- a refusal of the trace of that number
+-- A refusal of the trace of that number.
 abbrev pub numbered : ℕ → Failure TraceFileRefusal → Failure NumberedRefusal
 numbered number (failures.Refused why) = failures.Refused (record { number = number; why = why })
 numbered number failures.ReadFault = failures.ReadFault
 numbered number failures.NoMemory = failures.NoMemory
 
--- the status if not every trace is loaded: why the first such trace is refused, a read fault, or out of memory
+-- The status if not every trace is loaded: why the first such trace is refused, a read fault, or out of memory.
 abbrev pub status_of_traces : Failure NumberedRefusal → Status
 status_of_traces (failures.Refused refusal) = status_in refusal.number refusal.why
 status_of_traces failures.ReadFault = statuses.ReadFault

@@ -12,13 +12,13 @@ use Rattle.hip_many_commands.specs.Many.{ManyAnswers}
 use Rattle.hip_many_commands.specs.Runs.{AreRunsOf, TracedRun}
 use Rattle.hip_answers.specs.TraceFiles.{ShowsNoMisfit}
 
--- where the files are known, two answers on them are the same, unless one of them is a read fault
+-- Where the files are known, two answers on them are the same, unless one of them is a read fault.
 abbrev pub ManyAreOne : Type 0
 ManyAreOne = (p : List ℕ) → (names : List (List ℕ))
     → AreOne (λ old new answer. ManyAnswers old new p names answer)
 
--- where a file is current after a read fault, and is not the program's, the bytes that were taken from it show no
--- misfit
+-- Where a file is current after a read fault, and is not the program's, the bytes that were taken from it show no
+-- misfit.
 abbrev pub ManyFaultsHideNone : Type 0
 ManyFaultsHideNone =
     (files : List NamedFile) → (old new : CabinetState) → (p t : List ℕ) → (names : List (List ℕ))
@@ -27,8 +27,8 @@ ManyFaultsHideNone =
     → new.name ≡ Some t
     → p ≢ t → a.status ≡ ReadFault → ManyAnswers old new p names a → ShowsNoMisfit files t P new.rest
 
--- where one file has a program and the others are the traces of runs of it, and no file is missing and no read fails,
--- there is an answer by which the command is carried out
+-- Where one file has a program and the others are the traces of runs of it, and no file is missing and no read fails,
+-- there is an answer by which the command is carried out.
 abbrev pub ManyAreAnswered : Type 0
 ManyAreAnswered =
     (files : List NamedFile) → (old new : CabinetState) → (p : List ℕ) → (names : List (List ℕ))

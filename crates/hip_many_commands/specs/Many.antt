@@ -26,7 +26,7 @@ use Rattle.hip_repairs.specs.declared.plan.Plan.{Plan}
 
 -- ---- a file that is not the trace of a run
 
--- the status of a refusal of the trace of that number
+-- The status of a refusal of the trace of that number.
 abbrev pub status_in : ℕ → TraceFileRefusal → Status
 status_in number traces.Missing = statuses.Missing (roles.Number number)
 status_in number (traces.Misfit entry kind) = statuses.MisfitIn number entry kind
@@ -86,7 +86,7 @@ pub record HasRunsOf (old new : CabinetState) (program_name : List ℕ) (names :
     pub met : HasMet false false old new
     pub texts : HasRepairedMany program runs answer
 
--- for no program; for a file that is not the trace of a run, or could not be read; or with one repair for all runs
+-- For no program; for a file that is not the trace of a run, or could not be read; or with one repair for all runs.
 abbrev pub ManyAnswers : CabinetState → CabinetState → List ℕ → List (List ℕ) → Answer → Type 0
 ManyAnswers old new program_name names answer =
     IsUnloaded old new program_name answer

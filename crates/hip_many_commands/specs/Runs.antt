@@ -11,19 +11,19 @@ use Rattle.hip_runs.specs.Validity.{IsValid}
 use Rattle.hip_runs.specs.declared.input.Input.{Input}
 use Rattle.hip_runs.specs.declared.report.Findings.{Findings}
 
--- a run: the name of the file that has its trace, its input, and what it found
+-- A run: the name of the file that has its trace, its input, and what it found.
 pub record TracedRun : Type 0 where
   pub name : List ℕ
   pub input : Input
   pub found : Findings
 
--- the file is the trace of the program's run on the input, which found this
+-- The file is the trace of the program's run on the input, which found this.
 pub record IsRunOf (files : Option (List NamedFile)) (P : Program) (r : TracedRun) : Type 0 where
   pub traced : IfSome files (λ fs. IsTraceFile fs r.name P r.input)
   pub valid : IsValid P r.input
   pub found_is : IsFound P r.input r.found
 
--- the files of these names are the traces of these runs, in order
+-- The files of these names are the traces of these runs, in order.
 pub record AreRunsOf (files : Option (List NamedFile)) (P : Program) (names : List (List ℕ)) (runs : List TracedRun) :
     Type 0 where
   pub named : map (λ r. r.name) runs ≡ names
@@ -41,11 +41,11 @@ pub record IsAfterRuns (files : Option (List NamedFile)) (P : Program) (names : 
 
 -- ---- the plans and reports of runs
 
--- the plan for each run
+-- The plan for each run.
 abbrev pub plans_of : Program → List TracedRun → List Plan
 plans_of P runs = map (λ r. plan_for P r.found) runs
 
--- how many reports the runs have together
+-- How many reports the runs have together.
 abbrev pub reports_of : List TracedRun → ℕ
 reports_of [] = 0
 reports_of (r ∷ rs) = length r.found.reports + reports_of rs

@@ -4,7 +4,7 @@ use Rattle.hip_mem.specs.declared.pages.Pages.{Pages}
 use Rattle.hip_mem.specs.Pages.{byte_of, page_byte, AreZeros, IsFirstMade}
 use Rattle.hip_mem.proofs.PageKeys.{in_or_out, inside, outside}
 
--- the bytes of a range are zeros on the pages before page `next`, and all others are what they were
+-- The bytes of a range are zeros on the pages before page `next`, and all others are what they were.
 pub record IsCleared (m old : Pages) (from to next : ℕ) : Type 0 where
   pub zero : (a : ℕ) → from ≤ a → a < to → a / 4096 < next → page_byte m a ≡ 0
   pub before : (a : ℕ) → a < from → page_byte m a ≡ page_byte old a
@@ -71,7 +71,7 @@ cleared-all old m from to next end h e z a = go (in_or_out from a to)
     go (inl t) = zero t.1 t.2 (below_or_not (a / 4096) next) z ∙ sym (ap (λ b. cond b 0 (page_byte old a)) t.0)
     go (inr t) = out t.1 ∙ sym (ap (λ b. cond b 0 (page_byte old a)) t.0)
 
--- where no page is found all are zeros
+-- Where no page is found all are zeros.
 pub none_found : (m : Pages) (from to : ℕ) (o : Option ℕ) → IsFirstMade m from to o → ((n : ℕ) → o ≡ Some n → ⊥) → AreZeros m from to
 none_found m from to None h none = h
 none_found m from to (Some n) h none = absurd (none n refl)

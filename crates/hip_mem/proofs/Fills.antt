@@ -6,7 +6,7 @@ use Rattle.hip_mem.specs.Laws.AreasLaws.{covered_or_not, not_written, index-appe
 use Rattle.hip_mem.specs.declared.pages.Pages.{Pages}
 use Rattle.hip_mem.specs.Pages.{page_byte}
 
--- a byte that a write covers
+-- A byte that a write covers.
 pub written : (addr : ℕ) (xs : List ℕ) (a old : ℕ) → addr ≤ a → a < addr + length xs → byte_written (record { addr = addr; bytes = xs }) a old ≡ slice_index xs (a - addr)
 written addr xs a old h k = go (covered_or_not (record { addr = addr; bytes = xs }) a)
   where
@@ -18,7 +18,7 @@ written addr xs a old h k = go (covered_or_not (record { addr = addr; bytes = xs
         out (inl l) = omega (arith, l, h)
         out (inr l) = omega (arith, l, k)
 
--- a write of two parts is one after the other
+-- A write of two parts is one after the other.
 pub written-append : (addr : ℕ) (xs ys : List ℕ) (a old : ℕ) → byte_written (record { addr = addr; bytes = xs ++ ys }) a old ≡ byte_written (record { addr = addr + length xs; bytes = ys }) a (byte_written (record { addr = addr; bytes = xs }) a old)
 written-append addr xs ys a old = go (split a addr) (split a (addr + length xs)) (split a (addr + length xs + length ys))
   where
@@ -34,7 +34,7 @@ written-append addr xs ys a old = go (split a addr) (split a (addr + length xs))
     go (inr l) (inr m) (inl n) = written addr (xs ++ ys) a old l (omega (arith, len)) ∙ index-append_right xs ys (a - addr) (omega (arith, m)) ∙ ap (slice_index ys) (let e : a - addr - length xs ≡ a - (addr + length xs) = omega arith in e) ∙ sym (written (addr + length xs) ys a (byte_written (record { addr = addr; bytes = xs }) a old) m n)
     go (inr l) (inr m) (inr n) = not_written (record { addr = addr; bytes = xs ++ ys }) a old (inr (omega (arith, len))) ∙ sym (not_written (record { addr = addr + length xs; bytes = ys }) a (byte_written (record { addr = addr; bytes = xs }) a old) (inr n) ∙ not_written (record { addr = addr; bytes = xs }) a old (inr m))
 
--- zeros written where there are zeros
+-- Zeros written where there are zeros.
 pub zeros_over_zero : (addr : ℕ) (xs : List ℕ) (a old : ℕ) → ((i : ℕ) → slice_index xs i ≡ 0) → (addr ≤ a → a < addr + length xs → old ≡ 0) → old ≡ byte_written (record { addr = addr; bytes = xs }) a old
 zeros_over_zero addr xs a old z h = go (covered_or_not (record { addr = addr; bytes = xs }) a)
   where
@@ -53,7 +53,7 @@ length-take-le zero xs h = refl
 length-take-le (suc n) [] h = absurd (omega arith)
 length-take-le (suc n) (x ∷ xs) h = ap suc (length-take-le n xs (omega arith))
 
--- one more part is written
+-- One more part is written.
 pub fill-more : (start i j : ℕ) (xs : List ℕ) (old m m' : Pages) → i ≤ j → j ≤ length xs → ((a : ℕ) → page_byte m a ≡ byte_written (record { addr = start; bytes = take i xs }) a (page_byte old a)) → ((a : ℕ) → page_byte m' a ≡ byte_written (record { addr = start + i; bytes = slice_range xs i j }) a (page_byte m a)) → (a : ℕ) → page_byte m' a ≡ byte_written (record { addr = start; bytes = take j xs }) a (page_byte old a)
 fill-more start i j xs old m m' h k f g a =
     g a
@@ -62,7 +62,7 @@ fill-more start i j xs old m m' h k f g a =
     ∙ sym (written-append start (take i xs) (slice_range xs i j) a (page_byte old a))
     ∙ ap (λ (ys : List ℕ). byte_written (record { addr = start; bytes = ys }) a (page_byte old a)) (take-range i j xs h k)
 
--- beyond what was written there are still zeros
+-- Beyond what was written there are still zeros.
 pub fill-zeros : (start i : ℕ) (xs : List ℕ) (old m : Pages) → i ≤ length xs → ((a : ℕ) → start ≤ a → a < start + length xs → page_byte old a ≡ 0) → ((a : ℕ) → page_byte m a ≡ byte_written (record { addr = start; bytes = take i xs }) a (page_byte old a)) → (a : ℕ) → start + i ≤ a → a < start + length xs → page_byte m a ≡ 0
 fill-zeros start i xs old m h z f a low high = f a ∙ not_written (record { addr = start; bytes = take i xs }) a (page_byte old a) (inr (omega (arith, low, length-take-le i xs h))) ∙ z a (omega arith) high
 
@@ -75,7 +75,7 @@ fill-all start i xs old m h k f a = f a ∙ ap (λ (ys : List ℕ). byte_written
     take-all (suc n) [] h = refl
     take-all (suc n) (y ∷ ys) h = ap (λ zs. y ∷ zs) (take-all n ys (omega arith))
 
--- a list and zeros after it are written where there are zeros
+-- A list and zeros after it are written where there are zeros.
 pub fill-image : (start : ℕ) (stored image : List ℕ) (old m : Pages) → length stored ≤ length image → ((i : ℕ) → slice_index stored i ≡ slice_index image i)
     → ((a : ℕ) → start ≤ a → a < start + length image → page_byte old a ≡ 0)
     → ((a : ℕ) → page_byte m a ≡ byte_written (record { addr = start; bytes = stored }) a (page_byte old a))

@@ -10,7 +10,7 @@ use Rattle.hip_mem.specs.Pages.{place_of, IsMade, byte_of}
 pub in_or_out : (from a to : ℕ) → (((nat_le from a && nat_lt a to) ≡ true) × (from ≤ a) × (a < to)) ⊎ (((nat_le from a && nat_lt a to) ≡ false) × ((a < from) ⊎ (to ≤ a)))
 in_or_out from a to = grind (arith, nat_tests)
 
--- a value that is changed in a range alone
+-- A value that is changed in a range alone.
 pub outside : (from a to x' x y : ℕ) → x' ≡ cond (nat_le from a && nat_lt a to) y x → (a < from) ⊎ (to ≤ a) → x' ≡ x
 outside from a to x' x y h o = go (in_or_out from a to)
   where
@@ -78,7 +78,7 @@ pub places-apart : (m : Pages) (n k : ℕ) → n ≢ k → IsMade m k → place_
 unfolding place_of
 places-apart m n k ne made e = m.pages.apart (key_of m.region k) (key_of m.region n) (keys-apart m.region k n m.above (λ z. ne (sym z))) (λ z. omega (arith, z, made)) (sym e)
 
--- a byte of another page is not in a range of bytes of a page
+-- A byte of another page is not in a range of bytes of a page.
 pub apart-range : (x y i at to : ℕ) → x ≢ y → i < 4096 → to ≤ 4096 → (4096 * x + i < 4096 * y + at) ⊎ (4096 * y + to ≤ 4096 * x + i)
 apart-range x y i at to ne lt le = go (split x y)
   where
@@ -93,7 +93,7 @@ place-same : (m m' : Pages) (n : ℕ) → m'.region ≡ m.region → m'.director
 unfolding place_of
 place-same m m' n r d = ap (λ x. number_at x (key_of m'.region n)) d ∙ ap (λ x. number_at m.directory (key_of x n)) r
 
--- where bytes of one page are changed, those of the others stay
+-- Where bytes of one page are changed, those of the others stay.
 pub others-kept : (m m' : Pages) (k at to from end : ℕ) (y : ℕ → ℕ) → m'.region ≡ m.region → m'.directory ≡ m.directory → IsMade m k → to ≤ 4096 → from ≡ 4096 * place_of m k + at → end ≡ 4096 * place_of m k + to → ((j : ℕ) → slice_index m'.bytes.items j ≡ cond (nat_le from j && nat_lt j end) (y j) (slice_index m.bytes.items j)) → (n i : ℕ) → n ≢ k → i < 4096 → byte_of m' n i ≡ byte_of m n i
 unfolding byte_of
 others-kept m m' k at to from end y r d made le from_is end_is h n i ne lt =
@@ -104,7 +104,7 @@ pub zero-byte : (m : Pages) (n i : ℕ) → place_of m n ≡ 0 → i < 4096 → 
 unfolding byte_of
 zero-byte m n i e lt = ap (slice_index m.bytes.items) (let z : 4096 * place_of m n + i ≡ i = omega (arith, e) in z) ∙ m.pages.first i lt
 
--- the pages of the stack have the first keys
+-- The pages of the stack have the first keys.
 stack-key : (r n : ℕ) → 65536 ≤ n → n < 69632 → key_of r n ≡ n - 65536
 unfolding key_of
 stack-key r n low high = go (in_or_out 65536 n 69632)

@@ -69,7 +69,7 @@ laid_out s h = record {
 pub mark-is : (s : Inside) → IsRam s → mark_of (areas_of s) ≡ s.mark
 mark-is s h = omega (arith, h.start, length-page_bytes s.pages stack_start (s.mark - stack_start))
 
--- valid bytes are those of the pages
+-- Valid bytes are those of the pages.
 pub byte_in-pages : (s : Inside) (a : ℕ) → IsRam s → FitsOne (areas_of s) a 1 → byte_in (areas_of s) a ≡ page_byte s.pages a
 byte_in-pages s a h f = go f (in_or_not volatile_start (page_bytes s.pages volatile_start s.volatile) a) (in_or_not stack_start (page_bytes s.pages stack_start (s.mark - stack_start)) a)
   where
@@ -106,7 +106,7 @@ bytes_in-pages s (suc n) a h f = ap₂ (λ x xs. x ∷ xs) (byte_in-pages s a h 
     rest (inr (inl x)) = inr (inl (omega (arith, x.0), omega (arith, x.1)))
     rest (inr (inr x)) = inr (inr (omega (arith, x.0), omega (arith, x.1)))
 
--- a valid address is below 2 ^ 47
+-- A valid address is below 2 ^ 47.
 pub fits-below : (s : Inside) (a n : ℕ) → IsRam s → FitsOne (areas_of s) a (suc n) → a < 2 ^ 47
 fits-below s a n h (inl x) = omega (arith, x.1, h.volatile, length-page_bytes s.pages volatile_start s.volatile)
 fits-below s a n h (inr (inl x)) = omega (arith, x.1, h.end, length-page_bytes s.pages stack_start (s.mark - stack_start))

@@ -49,7 +49,7 @@ valid_nowhere s r a n e h p nowhere = go (are_valid r a n) refl
     go false f = refl
     go true f = absurd (nowhere (fits-lies s a n (valid-fits s a n h p (ap (λ (q : Areas). are_valid q a n) e ∙ f))))
 
--- the last of three tests decides
+-- The last of three tests decides.
 pub valid_last : (s : Inside) (r : Areas) (a n : ℕ) (b : Bool) → areas_of s ≡ r → IsRam s → 0 < n → (Lies volatile_start s.volatile a n → ⊥) → (Lies stack_start (s.mark - stack_start) a n → ⊥) → (IsTrue b ↔ Lies s.base s.region a n) → b ≡ are_valid r a n
 valid_last s r a n true e h p v k t = valid_where s r a n e (inr (inr (t.0 refl)))
 valid_last s r a n false e h p v k t = valid_nowhere s r a n e h p nowhere
@@ -59,7 +59,7 @@ valid_last s r a n false e h p v k t = valid_nowhere s r a n e h p nowhere
     nowhere (inr (inl x)) = k x
     nowhere (inr (inr x)) = let y = t.1 x in let z : ⊥ = cc in z
 
--- from the region's start on no other area lies
+-- From the region's start on no other area lies.
 pub valid_region : (s : Inside) (r : Areas) (a n : ℕ) (b : Bool) → areas_of s ≡ r → IsRam s → 0 < n → s.base ≤ a → (IsTrue b ↔ Lies s.base s.region a n) → b ≡ are_valid r a n
 valid_region s r a n b e h p low t =
     valid_last s r a n b e h p (λ l. omega (arith, l.1, p, low, h.low, h.volatile)) (λ l. omega (arith, l.1, p, low, h.low, h.start, h.end)) t
@@ -74,7 +74,7 @@ take-page_bytes m (suc n) a (x ∷ xs) h f =
     ap₂ (λ y ys. y ∷ ys) (f 0 (omega arith) ∙ ap (page_byte m) (let e : a + 0 ≡ a = omega arith in e))
     (take-page_bytes m n (suc a) xs (omega arith) (λ i lt. f (suc i) (omega arith) ∙ ap (page_byte m) (let e : a + suc i ≡ suc a + i = omega arith in e)))
 
--- zeros at each place
+-- Zeros at each place.
 pub zero_index : (n i : ℕ) → slice_index (replicate n 0) i ≡ 0
 zero_index zero i = refl
 zero_index (suc n) zero = refl
@@ -105,7 +105,7 @@ areas-written w s s' b v r k h =
     (ap (λ n. page_bytes s'.pages stack_start (n - stack_start)) k ∙ page_bytes-written w s.pages s'.pages h stack_start (s.mark - stack_start))
     (ap₂ (page_bytes s'.pages) b r ∙ page_bytes-written w s.pages s'.pages h s.base s.region)
 
--- a byte outside a cleared range, and one inside it
+-- A byte outside a cleared range, and one inside it.
 cleared_outside : (m m' : Pages) (from to a : ℕ) → page_byte m' a ≡ cond (nat_le from a && nat_lt a to) 0 (page_byte m a) → (a < from) ⊎ (to ≤ a) → page_byte m' a ≡ page_byte m a
 cleared_outside m m' from to a h o = go (in_or_out from a to)
   where
@@ -161,7 +161,7 @@ areas-new base volatile region s empty m low high b v r k f g =
 
 -- ---- accesses
 
--- an access that is not refused is valid
+-- An access that is not refused is valid.
 pub no_trap : (r : Areas) (a n align : ℕ) → None ≡ access_trap r a n align → are_valid r a n ≡ true
 no_trap r a n align e = go (a % align == 0) (are_valid r a n) e
   where
@@ -182,7 +182,7 @@ load-is s r a n align v e h p t f =
     ap (λ x. Ok x) (f ∙ ap little_endian (sym (bytes_in-pages s n a h (access-fits s r a n align e h p t))) ∙ ap (λ (q : Areas). little_endian (bytes_in q a n)) e)
     ∙ ap (λ o. or_trap o (little_endian (bytes_in r a n))) t
 
--- the low bytes of a number are written
+-- The low bytes of a number are written.
 pub low-written : (addr size value a old : ℕ) (bytes : List ℕ) → size ≤ 8 → bytes ≡ to_le_bytes w64 value →
     byte_written (record { addr = addr; bytes = take size bytes }) a old ≡ byte_written (record { addr = addr; bytes = bytes_of size value }) a old
 low-written addr size value a old bytes few is =
@@ -204,7 +204,7 @@ pushed-is s r size align e h = ap (λ m. next_multiple_of m align + size) (ap ma
 pub block-is : (s : Inside) (r : Areas) (align : ℕ) → areas_of s ≡ r → IsRam s → block_address r align ≡ next_multiple_of s.mark align
 block-is s r align e h = ap (λ m. next_multiple_of m align) (ap mark_of (sym e) ∙ mark-is s h)
 
--- where the next multiple is none it is too large
+-- Where the next multiple is none it is too large.
 pub too_large : (o : Option ℕ) (align x : ℕ) → SomeIff o ((0 < align) × (x < 2 ^ 64)) x → ((y : ℕ) → o ≡ Some y → ⊥) → 0 < align → 2 ^ 64 ≤ x
 too_large (Some y) align x h none p = absurd (none y refl)
 too_large None align x h none p = go (below x (2 ^ 64))

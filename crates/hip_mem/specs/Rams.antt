@@ -6,7 +6,7 @@ use Rattle.hip_mem.specs.Areas.{Areas}
 use Rattle.hip_mem.specs.Pages.{page_bytes}
 use Rattle.hip_types.specs.declared.limits.TheConstants.{LARGEST_REGION, LARGEST_VOLATILE}
 
--- the bytes of the volatile globals, of the stack up to the mark, and of the region, as the pages hold them
+-- The bytes of the volatile globals, of the stack up to the mark, and of the region, as the pages hold them.
 abbrev pub areas_of : Inside → Areas
 areas_of s =
     record {
@@ -16,7 +16,7 @@ areas_of s =
       region = page_bytes s.pages s.base s.region;
     }
 
--- a region may begin at the base, both sizes are within their limits, and the mark is within the stack
+-- A region may begin at the base, both sizes are within their limits, and the mark is within the stack.
 pub record IsRam (s : Inside) : Type 0 where
   pub low : 2 ^ 32 ≤ s.base
   pub high : s.base ≤ 2 ^ 46

@@ -6,11 +6,11 @@ use Rattle.hip_mem.specs.declared.TheConstants.{PAGE_SIZE}
 use Rattle.hip_mem.specs.declared.recent.Recent.{Recent}
 use Rattle.hip_mem.specs.Paging.{key_of}
 
--- each noted start is the start of the page with the number beside it
+-- Each noted start is the start of the page with the number beside it.
 abbrev pub AreStarts : Recent → (ℕ → ℕ) → Type 0
 AreStarts r start_of =
     (i : ℕ) → slice_index r.starts i ≢ 0 → slice_index r.starts i ≡ start_of (slice_index r.numbers i)
 
--- where page n begins, if the region begins with page `region`; 0 if it was not made
+-- Where page n begins, if the region begins with page `region`; 0 if it was not made.
 abbrev pub start_in : Directory → ℕ → ℕ → ℕ
 start_in d region n = PAGE_SIZE * number_at d (key_of region n)

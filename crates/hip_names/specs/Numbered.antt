@@ -8,17 +8,17 @@ use Rattle.hip_names.specs.Names.{number_of}
 use Rattle.hip_names.specs.Laws.NumberLaws.{number_of-cons}
 use Rattle.hip_names.specs.Tables.{Entry, StandsFor, value_beside, value_of}
 
--- the table of these names and numbers gives each name its first place in `names`, from 0, and no number to a name
--- that is not there
+-- The table of these names and numbers gives each name its first place in `names`, from 0, and no number to a name
+-- that is not there.
 pub record Numbers (known : List (List ℕ)) (numbers : List ℕ) (names : List (List ℕ)) : Type 0 where
   pub finds : (name : List ℕ) → value_beside known numbers name ≡ number_of names name
 
--- each name with its number; the first name has number n
+-- Each name with its number; the first name has number n.
 abbrev pub entries_from : ℕ → List (List ℕ) → List (Entry ℕ)
 entries_from n [] = []
 entries_from n (name ∷ names) = record { name = name; value = n } ∷ entries_from (suc n) names
 
--- the entries of one name more: an entry is added at the end
+-- The entries of one name more: an entry is added at the end.
 pub entries-next : (n : ℕ) (names : List (List ℕ)) (k : ℕ) (name : List ℕ) → k < length names
     → get_or names k [] ≡ name →
     entries_from n (take k names) ++ record { name = name; value = n + k } ∷ []

@@ -55,7 +55,7 @@ joined M N (Some a) (Some b) h k = by (nat_lt a.step b.step) refl
         go f (inl m) = first f m
         go f (inr m) = let le = second f m in let lt : b.step ≤ a.step = grind (arith, nat_tests) in omega (arith, le, lt)
 
--- two latest ones of the same flushes are at one site, where flushes of one step are
+-- Two latest ones of the same flushes are at one site, where flushes of one step are.
 pub one_site : (M : Option Flush → Type 0) (o o' : Option Flush)
     → ((f g : Flush) → M (Some f) → M (Some g) → f.step ≡ g.step → f.site ≡ g.site)
     → IsLatest M o → IsLatest M o' → option_map (λ f. f.site) o ≡ option_map (λ f. f.site) o'
@@ -69,7 +69,7 @@ one_site M (Some f) (Some g) one h k =
     let ge : g.step ≤ f.step = subst (λ (x : Flush). g.step ≤ x.step) (sym (same_some f s.0 s.1)) s.2 in
     ap Some (one f g (h.is f refl) (k.is g refl) (omega (arith, le, ge)))
 
--- the first flush of one of the parts
+-- The first flush of one of the parts.
 abbrev pub OfParts : List LoosePart → Option Flush → Type 0
 OfParts ps z = (p : LoosePart) × In p ps × (p.part.first_flush ≡ z)
 

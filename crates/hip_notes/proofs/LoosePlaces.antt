@@ -22,7 +22,7 @@ use Rattle.hip_runs.specs.declared.input.Input.{Input}
 use Rattle.hip_lines.specs.Parts as bytes
 use Rattle.hip_notes.specs.Standing.{IsLooseAt}
 
--- a loose byte is at its offset
+-- A loose byte is at its offset.
 pub byte_at : (ws : List (Pending Part)) (c : ℕ) (x : LooseByte) → bytes.loose_at ws c ≡ Some x → x.offset ≡ c
 byte_at ws c x e = go (slice_get ws (c / LINE_SIZE)) e
   where
@@ -63,7 +63,7 @@ module _ (P : Program) (I : Input) (n : ℕ) where
   abbrev Lines : List (Line StorePart)
   Lines = (run P I n).lines
 
-  -- a loose part is one by which a byte of its range is loose, in the byte's line
+  -- A loose part is one by which a byte of its range is loose, in the byte's line.
   pub at_place : (o len made : ℕ) (p : LoosePart) → IsLoosePart o len made Lines p
       → (b k : ℕ) × IsLooseAt Lines b k p.part × (o ≤ b) × (b < o + len) × (p.part.step ≡ made)
   at_place o len made p h = (
@@ -75,7 +75,7 @@ module _ (P : Program) (I : Input) (n : ℕ) where
     h.step,
   )
 
-  -- the part by which a loose byte is loose
+  -- The part by which a loose byte is loose.
   pub part_of_byte : (o len : ℕ) (x : LooseByte) → In x (loose_bytes (run P I n) o len)
       → (k : ℕ) × (p : StorePart) × IsLooseAt Lines x.offset k p × (p.step ≡ x.tag) × (o ≤ x.offset) × (x.offset < o + len)
   part_of_byte o len x i =
@@ -88,7 +88,7 @@ module _ (P : Program) (I : Input) (n : ℕ) where
       let same : t.0 ≡ x.offset = (let low = t.3 in let high = t.4 in omega (arith, off, low, high)) in
       (t.1, r.0.part, subst (λ b. IsLooseAt Lines b t.1 r.0.part) same t.2, t.5, omega (arith, off, a.1), omega (arith, off, a.2))
 
-  -- the loose byte that is loose by a part
+  -- The loose byte that is loose by a part.
   pub byte_of_part : (o len b k : ℕ) (p : StorePart) → IsLooseAt Lines b k p → o ≤ b → b < o + len
       → (x : LooseByte) × In x (loose_bytes (run P I n) o len) × (x.offset ≡ b) × (x.tag ≡ p.step)
   byte_of_part o len b k p h low high =

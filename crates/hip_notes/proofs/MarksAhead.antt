@@ -21,7 +21,7 @@ use Rattle.hip_notes.specs.Sights.{mark_at, mark_by, marks_ahead, marks_to}
 pub next_to : (P : Program) (I : Input) (s : State) (site : Site) (k : ℕ) → marks_to P I s site k ++ mark_at P I s site k ≡ marks_to P I s site (k + 1)
 next_to P I s site k = ap (marks_to P I s site) (let e : suc k ≡ k + 1 = omega arith in e)
 
--- no site is next exactly where no instruction is
+-- No site is next exactly where no instruction is.
 pub none_ahead : (P : Program) (I : Input) (s : State) → next_site P s ≡ None → marks_ahead P I s ≡ []
 none_ahead P I s e = by (has_ended s) e
   where
@@ -37,7 +37,7 @@ none_ahead P I s e = by (has_ended s) e
     by true e = refl
     by false e = by_frames s.frames e
 
--- the instruction that is next
+-- The instruction that is next.
 pub record IsNext (P : Program) (s : State) (site : Site) : Type 0 where
   pub going : has_ended s ≡ false
   pub frame : Frame
@@ -140,7 +140,7 @@ module _ (P : Program) (I : Input) (s : State) (site : Site) (n : IsNext P s sit
       ∙ sym (ap (λ r. marks_to P I s site count ++ From count r) (drop_all Ops count h))
       ∙ to_here count ∙ sym ahead_is
 
-  -- where no pointer is left
+  -- Where no pointer is left.
   pub all_before : (k : ℕ) → pointer_of P I s k ≡ None → marks_to P I s site k ≡ marks_ahead P I s
   all_before k none = all_ahead k (few k Ops (sym (pointer_is k) ∙ none))
     where
@@ -152,7 +152,7 @@ module _ (P : Program) (I : Input) (s : State) (site : Site) (n : IsNext P s sit
       few zero (o ∷ os) e = absurd (no_value o e)
       few (suc j) (o ∷ os) e = let le = few j os e in omega (arith, le)
 
--- an instruction whose first operand is no pointer operand has no marks
+-- An instruction whose first operand is no pointer operand has no marks.
 pub none_pointed : (P : Program) (I : Input) (s : State) → pointer_of P I s 0 ≡ None → marks_ahead P I s ≡ []
 none_pointed P I s none = by (next_site P s) refl
   where

@@ -35,7 +35,7 @@ last_there a n (y ∷ ys) x e h =
     let other : nat_eq y.tag n ≡ false = (let lt = h.1 in grind (arith, nat_tests)) in
     ap (λ t. cond t (Some y) (note_of (ys ++ x ∷ []) n)) other ∙ last_there (y.tag + 1) n ys x e h.2
 
--- a note that is found has the tag, which is below the end
+-- A note that is found has the tag, which is below the end.
 pub found_below : (a n : ℕ) (xs : List StoreNote) (tag : ℕ) (x : StoreNote) → StoresAscend a n xs → note_of xs tag ≡ Some x → tag < n
 found_below a n [] tag x h e = absurd (let z : ⊥ = cc in z)
 found_below a n (y ∷ xs) tag x h e = go (λ g. found_below (y.tag + 1) n xs tag x h.2 g) (nat_eq y.tag tag) refl e
@@ -62,7 +62,7 @@ module _ (tags : ℕ → Bool) where
       go true k = (h.0, h.1, k)
       go false k = let low = h.0 in from_lower a (x.tag + 1) b (Some_of xs) (omega (arith, low)) k
 
-  -- a note of a step that is among them stays there
+  -- A note of a step that is among them stays there.
   pub stays_there : (tag : ℕ) → tags tag ≡ true → (xs : List StoreNote) → note_of (Some_of xs) tag ≡ note_of xs tag
   stays_there tag e [] = refl
   stays_there tag e (x ∷ xs) = go (tags x.tag) refl (nat_eq x.tag tag) refl (stays_there tag e xs)
@@ -91,7 +91,7 @@ none_after a n (f ∷ fs) h =
     let other : nat_lt n f.step ≡ false = (let lt = h.1 in grind (arith, nat_tests)) in
     ap (λ t. cond t (Some f) (first_after n fs)) other ∙ none_after (f.step + 1) n fs h.2
 
--- the first flush after a step, where others come first
+-- The first flush after a step, where others come first.
 abbrev pub or_last : Option FlushNote → FlushNote → Option FlushNote
 or_last None f = Some f
 or_last (Some g) f = Some g
@@ -123,7 +123,7 @@ module _ (steps : ℕ → Bool) where
       go true k = (h.0, h.1, k)
       go false k = let low = h.0 in lower_flushes a (x.step + 1) b (Flushes_of xs) (omega (arith, low)) k
 
-  -- where the first flush after a step is among them, it stays the first one
+  -- Where the first flush after a step is among them, it stays the first one.
   pub first_stays : (tag : ℕ) (xs : List FlushNote) → ((f : FlushNote) → first_after tag xs ≡ Some f → steps f.step ≡ true)
       → first_after tag (Flushes_of xs) ≡ first_after tag xs
   first_stays tag [] h = refl

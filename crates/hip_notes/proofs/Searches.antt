@@ -49,7 +49,7 @@ none_above a b tag (x ∷ xs) h lt = go (none_above (x.tag + 1) b tag xs h.2 (le
     go rest true e = absurd (let q : x.tag ≡ tag = grind (arith, nat_tests) in let r = h.0 in omega (arith, q, r, lt))
     go rest false e = rest
 
--- the first note whose step is not below the one that is looked for
+-- The first note whose step is not below the one that is looked for.
 pub data IsPlaced (xs : List StoreNote) (tag : ℕ) (o : Option StoreNote) : Type 0 where
   here : (x : StoreNote) → o ≡ Some x → x.tag ≡ tag → note_of xs tag ≡ Some x → IsPlaced xs tag o
   beside : (x : StoreNote) → o ≡ Some x → (x.tag ≡ tag → ⊥) → note_of xs tag ≡ None → IsPlaced xs tag o
@@ -102,7 +102,7 @@ first_placed step (x ∷ xs) (suc i) low high = first_placed step xs i (λ k d l
 abbrev none_of : (A : Type 0) → Option A
 none_of A = None
 
--- the item at a place, from what `get` gives
+-- The item at a place, from what `get` gives.
 pub got : {A : Type 0} (xs : List A) (k : ℕ) (x : A) → k < length xs → x ≡ get_or xs k x → slice_get xs k ≡ Some x
 got [] k x lt e = absurd (omega (arith, lt))
 got (y ∷ xs) zero x lt e = ap Some (sym e)

@@ -3,7 +3,7 @@ use Rattle.std.specs.Prelude.{◌≡◌, ℕ, List, [], ◌∷◌, ◌++◌}
 use Rattle.hip_runs.specs.State.{Level}
 use Rattle.hip_notes.specs.declared.calls.Calls.TheInside.{Inside}
 
--- the births of these calls, the outermost one first
+-- The births of these calls, the outermost one first.
 abbrev pub births_of : List Level → List ℕ
 births_of [] = []
 births_of (l ∷ ls) = births_of ls ++ l.birth ∷ []

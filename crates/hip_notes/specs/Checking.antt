@@ -15,32 +15,32 @@ use Rattle.hip_notes.specs.declared.pending.FlushNote.{FlushNote}
 use Rattle.hip_notes.specs.declared.pending.LineNote.{LineNote}
 use Rattle.hip_notes.specs.declared.pending.StoreNote.{StoreNote}
 
--- the later of two flushes
+-- The later of two flushes.
 abbrev pub later_note : Option FlushNote → Option FlushNote → Option FlushNote
 later_note None b = b
 later_note (Some a) None = Some a
 later_note (Some a) (Some b) = cond (nat_lt a.step b.step) (Some b) (Some a)
 
--- the first flush of a loose byte's line after the store of the byte
+-- The first flush of a loose byte's line after the store of the byte.
 abbrev pub flush_stated : (ℕ → Option LineNote) → LooseByte → Option FlushNote
 flush_stated lines b = first_after b.tag (flushes_in (lines (b.offset / LINE_SIZE)))
 
--- the group of a store after one more of its loose bytes
+-- The group of a store after one more of its loose bytes.
 abbrev pub joined : Bool → Option FlushNote → Option Group → Group
 joined flushed flush None = record { flushed = flushed; latest = flush }
 joined flushed flush (Some g) = record { flushed = g.flushed && flushed; latest = later_note g.latest flush }
 
--- the group of the store of a step after more loose bytes; those of other stores do not count
+-- The group of the store of a step after more loose bytes; those of other stores do not count.
 abbrev pub group_from : (ℕ → Option LineNote) → ℕ → Option Group → List LooseByte → Option Group
 group_from lines tag g [] = g
 group_from lines tag g (b ∷ bs) =
     group_from lines tag (cond (nat_eq b.tag tag) (Some (joined b.flushed (flush_stated lines b) g)) g) bs
 
--- the site of the flush that lacks a fence: the latest flush, if all loose bytes of the store are flushed; else none
+-- The site of the flush that lacks a fence: the latest flush, if all loose bytes of the store are flushed; else none.
 abbrev pub site_stated : Bool → Option FlushNote → Option Site
 site_stated flushed latest = cond flushed (option_map (λ f. f.site) latest) None
 
--- what a check reports of a store, where the standing calls have these births
+-- What a check reports of a store, where the standing calls have these births.
 abbrev pub store_stated : List ℕ → Option ℕ → StoreNote → Group → StoreReport
 store_stated births fence note g =
     record {
@@ -51,17 +51,17 @@ store_stated births fence note g =
       closed = closed_by births note.calls.value;
     }
 
--- what a check reports of a store that has a note; nothing if it has none
+-- What a check reports of a store that has a note; nothing if it has none.
 abbrev pub store_in : List ℕ → Option ℕ → Option StoreNote → Group → List StoreReport
 store_in births fence None g = []
 store_in births fence (Some note) g = store_stated births fence note g ∷ []
 
--- what a check reports of the stores of these steps
+-- What a check reports of the stores of these steps.
 abbrev pub stores_stated : List ℕ → Option ℕ → List StoreNote → List (ℕ × Group) → List StoreReport
 stores_stated births fence notes [] = []
 stores_stated births fence notes (e ∷ es) =
     store_in births fence (note_of notes e.0) e.1 ++ stores_stated births fence notes es
 
--- the reports of the stores of these steps, at a check with this entry
+-- The reports of the stores of these steps, at a check with this entry.
 abbrev pub reports_stated : List ℕ → ℕ → Option ℕ → List StoreNote → List (ℕ × Group) → List Report
 reports_stated births check fence notes es = map (report_at check) (stores_stated births fence notes es)

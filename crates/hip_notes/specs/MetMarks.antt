@@ -4,11 +4,11 @@ use Rattle.std.specs.List.{list_any}
 use Rattle.hip_runs.specs.Found.Marks.{same_mark}
 use Rattle.hip_runs.specs.declared.report.Mark.{Mark}
 
--- each mark at hand was met
+-- Each mark at hand was met.
 abbrev pub AreMet : List Mark → List (Option Mark) → Type 0
 AreMet marks recent = (i : ℕ) → (m : Mark) → slice_get recent i ≡ Some (Some m)
     → list_any (same_mark m) marks ≡ true
 
--- each global with a flag was hit
+-- Each global with a flag was hit.
 abbrev pub WereHit : List ℕ → List Bool → Type 0
 WereHit hit flags = (g : ℕ) → slice_get flags g ≡ Some true → list_any (nat_eq g) hit ≡ true

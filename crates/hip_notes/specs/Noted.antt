@@ -58,25 +58,25 @@ pub record AreNoted (P : Program) (I : Input) (n : ℕ) (c : Notes) : Type 0 whe
 
 -- ---- what an event does to what is kept of pending stores
 
--- the lines that contain one of n bytes at offset o are changed
+-- The lines that contain one of n bytes at offset o are changed.
 abbrev pub ChangeLines : (Option LineNote → Option LineNote) → ℕ → ℕ → Pending → Pending → Type 0
 ChangeLines to o n old new = (j : ℕ)
     → lines_of new.lines j ≡ cond (has_bytes j o n) (to (lines_of old.lines j)) (lines_of old.lines j)
 
--- the notes of stores and those of lines are as they were
+-- The notes of stores and those of lines are as they were.
 abbrev pub StaySame : Pending → Pending → Type 0
 StaySame old new = (new.stores.items ≡ old.stores.items)
     × ((j : ℕ) → lines_of new.lines j ≡ lines_of old.lines j)
 
--- a note of a store by a step at a site, with this entry and under these calls
+-- A note of a store by a step at a site, with this entry and under these calls.
 pub record IsNoteOf (step entry : ℕ) (site : Site) (calls : List Level) (note : StoreNote) : Type 0 where
   pub tag : note.tag ≡ step
   pub entry_is : note.entry ≡ entry
   pub site_is : note.site ≡ site
   pub calls_are : note.calls.value ≡ calls
 
--- a store of m bytes at offset o appends its note, and its lines are noted as stored into; without a site nothing is
--- required
+-- A store of m bytes at offset o appends its note, and its lines are noted as stored into; without a site nothing is
+-- required.
 abbrev pub StoredAt : Option Site → ℕ → ℕ → List Level → ℕ → ℕ → Pending → Pending → Type 0
 StoredAt None step entry calls o m old new = Unit {0}
 StoredAt (Some site) step entry calls o m old new =
@@ -84,8 +84,8 @@ StoredAt (Some site) step entry calls o m old new =
     × (new.stores.items ≡ old.stores.items ++ note ∷ []))
     × ChangeLines (λ l. Some (with_store l)) o m old new
 
--- a flush of n bytes at offset o is noted in each of its lines that was stored into since its last flush, and the notes
--- of stores stay; without a site nothing is required
+-- A flush of n bytes at offset o is noted in each of its lines that was stored into since its last flush, and the notes
+-- of stores stay; without a site nothing is required.
 abbrev pub FlushedAt : Option Site → ℕ → ℕ → ℕ → Pending → Pending → Type 0
 FlushedAt None step o n old new = Unit {0}
 FlushedAt (Some site) step o n old new =
@@ -99,7 +99,7 @@ Follows (events.Store a v m) site base step entry calls old new = StoredAt site 
 Follows (events.Flush line size) site base step entry calls old new = FlushedAt site step (line - base) size old new
 Follows _ site base step entry calls old new = StaySame old new
 
--- a store or a flush ends below 2^64, counted from a base
+-- A store or a flush ends below 2^64, counted from a base.
 abbrev pub EndsBelow : ℕ → Event → Type 0
 EndsBelow base (events.Store a v m) = (a - base) + m < 2 ^ 64
 EndsBelow base (events.Flush line size) = (line - base) + size < 2 ^ 64
@@ -107,7 +107,7 @@ EndsBelow base _ = Unit {0}
 
 -- ---- what an event checks
 
--- the reports after an event: if it checks a range, those of the check are appended
+-- The reports after an event: if it checks a range, those of the check are appended.
 abbrev pub Reported : Option Range → List ℕ → ℕ → Option ℕ → Pending → List (Waiting Part)
     → List Report
     → List Report → Type 0
@@ -120,11 +120,11 @@ Reported (Some r) births entry fence p lines old new =
 
 -- ---- what is let go
 
--- the loose bytes of line j
+-- The loose bytes of line j.
 unfoldable pub loose_of_line : List (Waiting Part) → ℕ → List LooseByte
 loose_of_line ws j = loose_from ws (LINE_SIZE * j) LINE_SIZE
 
--- the flush as a list, if its step is among these
+-- The flush as a list, if its step is among these.
 abbrev pub flush_among : (ℕ → Bool) → FlushNote → List FlushNote
 flush_among steps f = cond (steps f.step) (f ∷ []) []
 
@@ -142,7 +142,7 @@ pub record KeepsNote (notes : BTreeMap ℕ LineNote) (j : ℕ) (old new : BTreeM
   pub here : IsSome (lines_of notes j) → IsSome (lines_of new j)
   pub others : (i : ℕ) → IsSome (lines_of old i) → IsSome (lines_of new i)
 
--- line j has no note any more, or its note, perhaps with fewer flushes
+-- Line j has no note any more, or its note, perhaps with fewer flushes.
 abbrev pub MayThin : List (Waiting Part) → ℕ → Option LineNote → Option LineNote → Type 0
 MayThin ws j old None = Unit {0}
 MayThin ws j None (Some new) = ⊥
@@ -158,6 +158,6 @@ pub record IsLetGo (ws : List (Waiting Part)) (region : ℕ) (old new : Pending)
   pub there : (x : LooseByte) → In x (loose_from ws 0 region) → IsSome (lines_of old.lines (x.offset / LINE_SIZE))
       → IsSome (lines_of new.lines (x.offset / LINE_SIZE))
 
--- all is kept, or at least what the loose bytes need
+-- All is kept, or at least what the loose bytes need.
 abbrev pub IsForgotten : List (Waiting Part) → ℕ → Pending → Pending → Type 0
 IsForgotten ws region old new = (new ≡ old) ⊎ IsLetGo ws region old new

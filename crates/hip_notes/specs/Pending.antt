@@ -10,42 +10,42 @@ use Rattle.hip_notes.specs.declared.pending.StoreNote.{StoreNote}
 
 -- ---- stores
 
--- the first note of the store that a step made
+-- The first note of the store that a step made.
 abbrev pub note_of : List StoreNote → ℕ → Option StoreNote
 note_of [] tag = None
 note_of (x ∷ xs) tag = cond (nat_eq x.tag tag) (Some x) (note_of xs tag)
 
--- the steps of the stores ascend from a number on, and are below another
+-- The steps of the stores ascend from a number on, and are below another.
 abbrev pub StoresAscend : ℕ → ℕ → List StoreNote → Type 0
 StoresAscend a b [] = Unit {0}
 StoresAscend a b (x ∷ xs) = (a ≤ x.tag) × (x.tag < b) × StoresAscend (x.tag + 1) b xs
 
--- the same for the steps of flushes
+-- The same for the steps of flushes.
 abbrev pub FlushesAscend : ℕ → ℕ → List FlushNote → Type 0
 FlushesAscend a b [] = Unit {0}
 FlushesAscend a b (x ∷ xs) = (a ≤ x.step) × (x.step < b) × FlushesAscend (x.step + 1) b xs
 
 -- ---- flushes
 
--- the first flush after a step
+-- The first flush after a step.
 abbrev pub first_after : ℕ → List FlushNote → Option FlushNote
 first_after step [] = None
 first_after step (f ∷ fs) = cond (nat_lt step f.step) (Some f) (first_after step fs)
 
--- the note of cache line j, if it has one
+-- The note of cache line j, if it has one.
 abbrev pub lines_of : BTreeMap ℕ LineNote → ℕ → Option LineNote
 lines_of m j = tree.get nat_cmp m j
 
--- whether line j is one of those from the first one up to the end
+-- Whether line j is one of those from the first one up to the end.
 abbrev pub is_between : ℕ → ℕ → ℕ → Bool
 is_between first end j = nat_le first j && nat_lt j end
 
--- the noted flushes of a line, the earliest first; none if it has no note
+-- The noted flushes of a line, the earliest first; none if it has no note.
 abbrev pub flushes_in : Option LineNote → List FlushNote
 flushes_in None = []
 flushes_in (Some l) = l.flushes
 
--- a line after a store into it
+-- A line after a store into it.
 abbrev pub with_store : Option LineNote → LineNote
 with_store l = record { stored = true; flushes = flushes_in l }
 

@@ -13,40 +13,40 @@ use Rattle.hip_runs.specs.declared.input.Input.{Input}
 use Rattle.hip_runs.specs.declared.report.Mark.{Mark}
 use Rattle.hip_runs.specs.Seen.{pointer_of}
 
--- the marks of the next step, if it is taken
+-- The marks of the next step, if it is taken.
 abbrev pub marks_ahead : Program → Input → State → List Mark
 marks_ahead P I s = cond (has_ended s) [] (frame_marks P I s.frames)
 
--- the mark of one pointer operand of the next instruction
+-- The mark of one pointer operand of the next instruction.
 abbrev pub mark_by : Program → Input → State → Site → ℕ → Option ℕ → List Mark
 mark_by P I s site k None = []
 mark_by P I s site k (Some a) = mark_of site k (object_at P I.base s.frames a)
 
--- the mark of the pointer operand of that number of the next instruction; none where it has no such operand, or that
--- points into no object
+-- The mark of the pointer operand of that number of the next instruction; none where it has no such operand, or that
+-- points into no object.
 abbrev pub mark_at : Program → Input → State → Site → ℕ → List Mark
 mark_at P I s site k = mark_by P I s site k (pointer_of P I s k)
 
--- the marks of the first k operands
+-- The marks of the first k operands.
 abbrev pub marks_to : Program → Input → State → Site → ℕ → List Mark
 marks_to P I s site zero = []
 marks_to P I s site (suc k) = marks_to P I s site k ++ mark_at P I s site k
 
--- after these marks were met, the two lists add the same marks
+-- After these marks were met, the two lists add the same marks.
 abbrev pub AddAlike : List Mark → List Mark → List Mark → Type 0
 AddAlike met_before these those = met same_mark met_before these ≡ met same_mark met_before those
 
--- the same, unless a step with this event ends the run
+-- The same, unless a step with this event ends the run.
 abbrev pub AddUnlessEnded : Event → List Mark → List Mark → List Mark → Type 0
 AddUnlessEnded e met_before these those = AddAlike met_before (unless_ended e these) (unless_ended e those)
 
--- whether a step with this event has nothing to note: it is quiet or prints
+-- Whether a step with this event has nothing to note: it is quiet or prints.
 abbrev pub is_still : Event → Bool
 is_still events.Quiet = true
 is_still (events.Print z) = true
 is_still _ = false
 
--- whether the calls that stand are noted at a step with this event: it stores, checks a range or ends the run
+-- Whether the calls that stand are noted at a step with this event: it stores, checks a range or ends the run.
 abbrev pub needs_calls : Event → Bool
 needs_calls (events.Store a v m) = true
 needs_calls (events.Assert a n) = true

@@ -19,7 +19,7 @@ pub record IsLooseAt (ls : List (Line StorePart)) (b k : ℕ) (x : StorePart) : 
   pub line_at : slice_get ls (b / LINE_SIZE) ≡ Some line
   pub loose : IsLooseBy covers line b k x
 
--- the step and the site of a noted flush
+-- The step and the site of a noted flush.
 abbrev pub flush_of : FlushNote → Flush
 flush_of f = record { step = f.step; site = f.site }
 

@@ -37,11 +37,11 @@ negative W16 n h = omega arith
 negative W32 n h = omega arith
 negative W64 n h = omega arith
 
--- the bits of a number with a sign
+-- The bits of a number with a sign.
 pub bits_cast : (w : Width) (z : ℤ) → FitsSigned w64 z → bits w (cast_unsigned w64 z) ≡ bits w (wrapped w z)
 bits_cast w (pos n) h = same_bits _ _ refl (sym (mod-eq_of_lt (mod-lt n (modulus_pos w))))
 bits_cast w (negsuc n) h = same_bits _ _ refl (negative w n (omega arith))
 
--- a shift by less than the width has a result
+-- A shift by less than the width has a result.
 pub shifted_in : (w : Width) (amount value : ℕ) → amount < bits_of w → shifted w amount value ≡ Ok value
 shifted_in w amount value h = grind arith

@@ -10,25 +10,25 @@ use Rattle.hip_types.specs.Numbers.{bits, modulus, sign_of, signed, wrapped}
 use Rattle.hip_num.specs.declared.arithmetic.NumTrap.{NumTrap}
 use Rattle.hip_num.specs.declared.arithmetic.NumTrap.TheVariants.{DivZero, DivOverflow, ShiftRange}
 
--- the quotient, or a trap if the divisor is 0
+-- The quotient, or a trap if the divisor is 0.
 abbrev pub divided : ℕ → ℕ → Result ℕ NumTrap
 divided divisor value = if divisor == 0 then Err DivZero else Ok value
 
--- why a division with a sign traps: a divisor of 0, or -2 ^ (N - 1) by -1, whose quotient is no integer of N bits
+-- Why a division with a sign traps: a divisor of 0, or -2 ^ (N - 1) by -1, whose quotient is no integer of N bits.
 abbrev pub division_fault : Width → ℕ → ℕ → Option NumTrap
 division_fault w a b =
     if b == 0 then Some DivZero else (if a == sign_of w && b == modulus w - 1 then Some DivOverflow else None)
 
--- the trap if there is one, else the value
+-- The trap if there is one, else the value.
 abbrev pub unless : Option NumTrap → ℕ → Result ℕ NumTrap
 unless (Some trap) value = Err trap
 unless None value = Ok value
 
--- a shift traps unless it is by less than the width
+-- A shift traps unless it is by less than the width.
 abbrev pub shifted : Width → ℕ → ℕ → Result ℕ NumTrap
 shifted w amount value = if nat_lt amount (bits_of w) then Ok value else Err ShiftRange
 
--- the value before it is taken modulo 2 ^ N. Quotients with a sign are rounded toward zero, and the rest has the
+-- The value before it is taken modulo 2 ^ N. Quotients with a sign are rounded toward zero, and the rest has the
 -- dividend's sign. Zeros come in at `lshr`, and the sign at `ashr`.
 abbrev pub value_of : BinaryOp → Width → ℕ → ℕ → Result ℕ NumTrap
 value_of Add w a b = Ok (a + b)
@@ -45,11 +45,11 @@ value_of Shl w a b = shifted w b (a * 2 ^ b)
 value_of Lshr w a b = shifted w b (a / 2 ^ b)
 value_of Ashr w a b = shifted w b (wrapped w (int_shr (signed w a) b))
 
--- the value as an integer of N bits, taken modulo 2 ^ N; a trap stays
+-- The value as an integer of N bits, taken modulo 2 ^ N; a trap stays.
 abbrev pub modulo : Width → Result ℕ NumTrap → Result Bits NumTrap
 modulo w (Ok n) = Ok (bits w n)
 modulo w (Err trap) = Err trap
 
--- the result of an operation on two integers of the width of the first
+-- The result of an operation on two integers of the width of the first.
 abbrev pub binary_of : BinaryOp → Bits → Bits → Result Bits NumTrap
 binary_of op a b = modulo a.width (value_of op a.width a.value b.value)

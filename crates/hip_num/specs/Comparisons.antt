@@ -5,7 +5,7 @@ use Rattle.hip_types.specs.declared.number.Pred.TheVariants.{Eq, Ne, Ugt, Uge, U
 use Rattle.hip_types.specs.declared.number.Width.{Width}
 use Rattle.hip_types.specs.Numbers.{signed}
 
--- whether the predicate holds of two integers, which the last four predicates read with a sign
+-- Whether the predicate holds of two integers, which the last four predicates read with a sign.
 abbrev pub holds : Pred → Width → ℕ → ℕ → Bool
 holds Eq w a b = a == b
 holds Ne w a b = not (a == b)

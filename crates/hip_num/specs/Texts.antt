@@ -8,60 +8,60 @@ use Rattle.std.specs.Str.Parse.{digits_value}
 
 -- ---- written
 
--- `0x` and the digits to base 16
+-- `0x` and the digits to base 16.
 abbrev pub hexadecimal : ℕ → List ℕ
 hexadecimal n = codes "0x" ++ digits 16 false n
 
 -- ---- read
 
--- whether there is a byte
+-- Whether there is a byte.
 abbrev pub is_nonempty : List ℕ → Bool
 is_nonempty [] = false
 is_nonempty (b ∷ bs) = true
 
--- one or more digits to a base
+-- One or more digits to a base.
 abbrev pub are_digits : ℕ → List ℕ → Bool
 are_digits base text = is_nonempty text && list_all (λ c. nat_lt (digit_value c) base) text
 
--- whether these are one or more digits to a base, of a number below 2 ^ 64
+-- Whether these are one or more digits to a base, of a number below 2 ^ 64.
 abbrev pub is_number : ℕ → List ℕ → Bool
 is_number base text = are_digits base text && nat_lt (digits_value base text) (2 ^ 64)
 
--- one or more digits to a base, of a number below 2 ^ 64
+-- One or more digits to a base, of a number below 2 ^ 64.
 abbrev pub number_of : ℕ → List ℕ → Option ℕ
 number_of base text = if is_number base text then Some (digits_value base text) else None
 
--- one or more decimal digits, of a number below 2 ^ 64
+-- One or more decimal digits, of a number below 2 ^ 64.
 abbrev pub decimal_of : List ℕ → Option ℕ
 decimal_of text = number_of 10 text
 
--- `0x` and one or more digits to base 16, of a number below 2 ^ 64
+-- `0x` and one or more digits to base 16, of a number below 2 ^ 64.
 abbrev pub hex_of : List ℕ → Option ℕ
 hex_of text = if starts_with nat_eq text (codes "0x") then number_of 16 (drop 2 text) else None
 
--- whether the first byte is `-`
+-- Whether the first byte is `-`.
 abbrev pub has_minus : List ℕ → Bool
 has_minus text = starts_with nat_eq text (codes "-")
 
--- what follows a first `-`, or the whole text if there is no such `-`
+-- What follows a first `-`, or the whole text if there is no such `-`.
 abbrev pub signed_digits : List ℕ → List ℕ
 signed_digits text = if has_minus text then drop 1 text else text
 
--- the number that decimal digits write, negated after a first `-`
+-- The number that decimal digits write, negated after a first `-`.
 abbrev pub signed_value : List ℕ → ℤ
 signed_value text =
     if has_minus text then neg_ℤ (pos (digits_value 10 (signed_digits text)))
     else pos (digits_value 10 (signed_digits text))
 
--- from -limit to limit - 1
+-- From -limit to limit - 1.
 abbrev pub in_range : ℕ → ℤ → Bool
 in_range limit (pos n) = nat_lt n limit
 in_range limit (negsuc n) = nat_lt n limit
 
--- whether these are one or more decimal digits, after a `-` or none, of a number from -limit to limit - 1
+-- Whether these are one or more decimal digits, after a `-` or none, of a number from -limit to limit - 1.
 abbrev pub is_signed : ℕ → List ℕ → Bool
 is_signed limit text = are_digits 10 (signed_digits text) && in_range limit (signed_value text)
 
--- one or more decimal digits, after a `-` or none, of a number from -limit to limit - 1
+-- One or more decimal digits, after a `-` or none, of a number from -limit to limit - 1.
 abbrev pub signed_of : ℕ → List ℕ → Option ℤ
 signed_of limit text = if is_signed limit text then Some (signed_value text) else None

@@ -24,7 +24,7 @@ later : (b : Bool) (at : ℕ) (g : GlobalVar) → at ≤ (if b then global_start
 later true at g = omega arith
 later false at g = omega arith
 
--- globals end no earlier than they are laid from
+-- Globals end no earlier than they are laid from.
 end_of-ge : (kind : Bool) (at : ℕ) (gs : List GlobalVar) → at ≤ end_of kind at gs
 end_of-ge kind at [] = omega arith
 end_of-ge kind at (g ∷ gs) =
@@ -72,7 +72,8 @@ are-laid kind at n (g ∷ gs) = go (same_truth g.persistent kind) (are-laid kind
 
 -- ---- the global that has a byte
 
--- from number n on, these are the globals that are left, the volatile ones laid from v on and the persistent ones from p on
+-- From number n on, these are the globals that are left, the volatile ones laid from v on and the persistent ones
+-- from p on.
 pub record AreLeft (globals : List GlobalVar) (base n v p : ℕ) (gs : List GlobalVar) : Type 0 where
   pub at : (k : ℕ) → k < length gs → address_in globals base (n + k) ≡ (if is_persistent gs k then start_of true p gs k else start_of false v gs k)
 
@@ -86,7 +87,7 @@ here-at : (globals : List GlobalVar) (base n v p : ℕ) (g : GlobalVar) (gs : Li
     address_in globals base n ≡ (if g.persistent then global_start p g else global_start v g)
 here-at globals base n v p g gs left = ap (λ m. address_in globals base m) (let e : n ≡ n + 0 = omega arith in e) ∙ left.at 0 (omega arith)
 
--- an address below the base lies in no persistent global
+-- An address below the base lies in no persistent global.
 pub volatile-found : (globals : List GlobalVar) (base a n v p : ℕ) (gs : List GlobalVar) → AreLeft globals base n v p gs → a < p →
     global_from globals base a n gs ≡ number_at a (places_from false v n gs)
 volatile-found globals base a n v p [] left low = refl
@@ -101,7 +102,7 @@ volatile-found globals base a n v p (g ∷ gs) left low =
     go true e = ap (λ c. cond c (Some n) (global_from globals base a (suc n) gs)) (contains-before (global_start p g) (size_of g.ty) a (omega (arith, low))) ∙ e
     go false e = ap (λ x. cond (range_contains (global_start v g) (size_of g.ty) a) (Some n) x) e
 
--- an address from the end of the volatile globals on lies in none of them
+-- An address from the end of the volatile globals on lies in none of them.
 pub persistent-found : (globals : List GlobalVar) (base a n v p : ℕ) (gs : List GlobalVar) → AreLeft globals base n v p gs → end_of false v gs ≤ a →
     global_from globals base a n gs ≡ number_at a (places_from true p n gs)
 persistent-found globals base a n v p [] left high = refl
@@ -119,7 +120,7 @@ persistent-found globals base a n v p (g ∷ gs) left high =
 
 -- ---- the loop over the globals
 
--- the first i globals are laid, and the others are laid from `at` on
+-- The first i globals are laid, and the others are laid from `at` on.
 pub record IsPlaced (kind : Bool) (start : ℕ) (gs : List GlobalVar) (i at : ℕ) (ps : List Place) : Type 0 where
   pub all : ps ++ places_from kind at i (drop i gs) ≡ places_from kind start 0 gs
   pub end : end_of kind at (drop i gs) ≡ end_of kind start gs

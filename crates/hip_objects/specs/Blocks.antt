@@ -9,31 +9,31 @@ use Rattle.hip_runs.specs.declared.event.Object.TheVariants as objects
 use Rattle.hip_objects.specs.Order.{AreInOrder}
 use Rattle.hip_objects.specs.declared.blocks.Block.{Block}
 
--- a block of the code as a block of a frame, with the same address, size and site
+-- A block of the code as a block of a frame, with the same address, size and site.
 abbrev pub slot_of : Block → Slot
 slot_of b = record { addr = b.addr; size = b.size; site = b.site }
 
--- the same for each block, in their order
+-- The same for each block, in their order.
 abbrev pub slots_of : List Block → List Slot
 slots_of bs = map slot_of bs
 
--- those of the blocks that have a byte
+-- Those of the blocks that have a byte.
 abbrev pub nonempty : List Slot → List Slot
 nonempty xs = filter (λ x. nat_lt 0 x.size) xs
 
--- each block ends before a newer one begins
+-- Each block ends before a newer one begins.
 abbrev pub AreStacked : List Block → Type 0
 AreStacked bs = AreInOrder (λ b. b.addr) (λ b. b.size) bs
 
--- all these blocks end at or before an address
+-- All these blocks end at or before an address.
 abbrev pub IsPast : ℕ → List Slot → Type 0
 IsPast a xs = All (λ x. x.addr + x.size ≤ a) xs
 
--- the newest of these blocks that has the byte at an address; the blocks are given from the oldest one on
+-- The newest of these blocks that has the byte at an address; the blocks are given from the oldest one on.
 abbrev pub object_in : List Slot → ℕ → Option Object
 object_in xs a = slot_in (reverse xs) a
 
--- the block that the `alloca` at a site made, as an object; none where there is no site
+-- The block that the `alloca` at a site made, as an object; none where there is no site.
 abbrev pub sited : Option Site → Option Object
 sited None = None
 sited (Some site) = Some (objects.Slot site)

@@ -7,7 +7,7 @@ use Rattle.hip_objects.specs.Order.{AreInOrder, first_at}
 use Rattle.hip_objects.specs.declared.globals.GlobalTable.TheInside.{Inside}
 use Rattle.hip_objects.specs.declared.globals.Place.{Place}
 
--- where a global lies that is laid from a place on, and its number
+-- Where a global lies that is laid from a place on, and its number.
 abbrev pub place_of : ℕ → GlobalVar → ℕ → Place
 place_of at g number = record { start = global_start at g; size = (shape g.ty).size; number = number }
 
@@ -20,29 +20,29 @@ places_from persistent at n (g ∷ gs) =
     (place_of at g n ∷ places_from persistent (global_start at g + (shape g.ty).size) (suc n) gs)
     (places_from persistent at (suc n) gs)
 
--- each global ends before a later one begins
+-- Each global ends before a later one begins.
 abbrev pub AreLaid : List Place → Type 0
 AreLaid ps = AreInOrder (λ p. p.start) (λ p. p.size) ps
 
--- the number of the first one that has the byte at an address
+-- The number of the first one that has the byte at an address.
 abbrev pub number_at : ℕ → List Place → Option ℕ
 number_at a ps = first_at (λ p. p.start) (λ p. p.size) (λ p. p.number) a ps
 
--- the base of the region, and where the volatile globals and the persistent ones lie
+-- The base of the region, and where the volatile globals and the persistent ones lie.
 pub record Laid : Type 0 where
   pub base : ℕ
   pub volatile : List Place
   pub persistent : List Place
 
--- the number of the global at an address: a persistent one from the base on, a volatile one below it
+-- The number of the global at an address: a persistent one from the base on, a volatile one below it.
 abbrev pub global_in : Laid → ℕ → Option ℕ
 global_in l a = cond (nat_lt a l.base) (number_at a l.volatile) (number_at a l.persistent)
 
--- what a table holds: the base, and the places of the volatile globals and of the persistent ones
+-- What a table holds: the base, and the places of the volatile globals and of the persistent ones.
 abbrev pub laid_of : Inside → Laid
 laid_of t = record { base = t.base; volatile = t.volatile.items; persistent = t.persistent.items }
 
--- the volatile globals are in the order of their addresses and do not overlap, and so are the persistent ones
+-- The volatile globals are in the order of their addresses and do not overlap, and so are the persistent ones.
 pub record IsTable (t : Inside) : Type 0 where
   pub volatile : AreLaid t.volatile.items
   pub persistent : AreLaid t.persistent.items

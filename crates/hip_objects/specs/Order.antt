@@ -2,17 +2,17 @@
 use Rattle.std.specs.Prelude.{ℕ, ◌+◌, ◌<◌, ◌≤◌, cond, List, [], ◌∷◌, Option, Some, None, length, slice_index_or}
 use Rattle.hip_mem.specs.Memory.{range_contains}
 
--- each ends before a later one begins
+-- Each ends before a later one begins.
 pub record AreInOrder {X : Type 0} (start size : X → ℕ) (xs : List X) : Type 0 where
   pub order : (i j : ℕ) (d : X) → i < j → j < length xs →
       start (slice_index_or xs i d) + size (slice_index_or xs i d) ≤ start (slice_index_or xs j d)
 
--- the first n of them begin at an address or before it, and the others after it
+-- The first n of them begin at an address or before it, and the others after it.
 pub record AreSplit {X : Type 0} (start : X → ℕ) (xs : List X) (a n : ℕ) : Type 0 where
   pub before : (i : ℕ) (d : X) → i < n → i < length xs → start (slice_index_or xs i d) ≤ a
   pub past : (i : ℕ) (d : X) → n ≤ i → i < length xs → a < start (slice_index_or xs i d)
 
--- what the first item that has the byte at an address gives
+-- What the first item that has the byte at an address gives.
 abbrev pub first_at : {X B : Type 0} → (X → ℕ) → (X → ℕ) → (X → B) → ℕ → List X → Option B
 first_at start size stated a [] = None
 first_at start size stated a (x ∷ xs) =

@@ -9,16 +9,16 @@ use Rattle.hip_parse.specs.declared.error.ReadError.{ReadError}
 use Rattle.hip_parse.specs.declared.error.ReadError.TheVariants as errors
 use Rattle.hip_parse.specs.declared.parser.Parser.{Parser}
 
--- the look-ahead token with its line, and the tokens after it; if there is none, the text has ended
+-- The look-ahead token with its line, and the tokens after it; if there is none, the text has ended.
 abbrev pub and_after : Option (Token × ℕ) → List At → List At
 and_after None ts = []
 and_after (Some x) ts = (record { tok = seen x.0; line = x.1 }) ∷ ts
 
--- the tokens from the next one on
+-- The tokens from the next one on.
 unfoldable pub left : Parser → List At
 left p = and_after p.token (cut p.lexer.line 0 p.lexer.rest.now)
 
--- the tokens after the first one; none if there are no tokens
+-- The tokens after the first one; none if there are no tokens.
 abbrev pub tail : List At → List At
 tail [] = []
 tail (t ∷ ts) = ts
@@ -29,12 +29,13 @@ abbrev pub Gives : {X Y : Type 0} → (X → Y) → Result X (Option Fault) → 
 Gives view (Ok x) read after = read ≡ Ok (view x, after)
 Gives view (Err why) read after = read ≡ Err (why, after)
 
--- the failure of a method that takes memory: a refusal as above, or out of memory, where nothing is said of the reading
+-- The failure of a method that takes memory: a refusal as above, or out of memory, where nothing is said of the
+-- reading.
 abbrev pub Fails : {Y : Type 0} → ReadError → Outcome Fault Y → List At → Type 0
 Fails errors.Memory read after = Unit {0}
 Fails (errors.Refused why) read after = read ≡ Err (why, after)
 
--- the same as `Gives`, for a method that takes memory
+-- The same as `Gives`, for a method that takes memory.
 abbrev pub Takes : {X Y : Type 0} → (X → Y) → Result X ReadError → Outcome Fault Y → List At → Type 0
 Takes view (Ok x) read after = read ≡ Ok (view x, after)
 Takes view (Err e) read after = Fails e read after

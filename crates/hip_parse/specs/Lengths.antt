@@ -16,7 +16,7 @@ use Rattle.hip_grammar.specs.Laws.Exactness.{literal_index_read, arg_read, index
 use Rattle.hip_grammar.specs.Laws.BodiesExact.{edge_read, case_read, instr_read, block_read}
 use Rattle.hip_grammar.specs.Laws.TextExact.{scalar_read, param_read}
 
--- if the part is read, no more tokens are left than before
+-- If the part is read, no more tokens are left than before.
 abbrev pub IsWithin : {A : Type 0} → Part Fault A → Type 0
 IsWithin {A} p = (ts : List At) (x : A × List At) → p.read ts ≡ Ok x → length x.1 ≤ length ts
 

@@ -25,7 +25,7 @@ use Rattle.hip_runs.specs.Found.Marks.{pointer_arg}
 use Rattle.hip_runs.specs.Found.Scores.{operands_at}
 use Rattle.hip_plan.specs.Worths.{is_pointer}
 
--- where an instruction stands
+-- Where an instruction stands.
 pub record Stands (P : Program) (s : Site) (i : Instr) : Type 0 where
   pub function : Function
   pub block : Block
@@ -45,7 +45,7 @@ stands P s i e = in_program (slice_get P.functions s.function) refl e
     in_program None f g = absurd (let z : ⊥ = cc in z)
     in_program (Some fn) f g = in_function fn f (slice_get fn.blocks s.block) refl g
 
--- a function's name is no external function's
+-- A function's name is no external function's.
 free : (P : Program) → IsSound P → (name : List ℕ) (n : ℕ) → function_number P name ≡ Some n → call_of name ≡ None
 free P sound name n e =
     let there = function_number-there P name n e in
@@ -81,7 +81,7 @@ filtered (a ∷ rest) = one a.ty a.value (filtered rest)
 pointer_count : (args : List Arg) → length (flat_map pointer_arg args) ≡ count_by is_pointer args
 pointer_count args = filtered args ∙ length-filter is_pointer args
 
--- how many pointer operands a call has
+-- How many pointer operands a call has.
 pub call_operands : (P : Program) → IsSound P → CallsAgree P → (s : Site) (dest : Option (List ℕ)) (ret : Option Scalar) (callee : List ℕ) (args : List Arg) →
     instr_of P s ≡ Some (Call dest ret callee args) → length (operands_at P (instr_of P s)) ≡ cond (is_none (call_of callee)) (count_by is_pointer args) 0
 call_operands P sound agree s dest ret callee args here =

@@ -49,11 +49,11 @@ hoist_is MissingBoth (suc level) path s = call_is level path s
 
 -- ---- the list of all sites that reports ask for
 
--- the list has the program's sites that pass the test
+-- The list has the program's sites that pass the test.
 pub record HasAsked (P : Program) (test : Site → Bool) (list : List Site) : Type 0 where
   pub has : (s : Site) → has_site list s ≡ test s && is_there P s
 
--- whether one of the reports asks for a site
+-- Whether one of the reports asks for a site.
 abbrev pub asked_by : (Report → Site → Bool) → List Report → Site → Bool
 asked_by asks reports s = list_any (λ r. asks r s) reports
 
@@ -73,7 +73,7 @@ all_left P asks all left list e none =
           ∙ ap (λ rs. asked_by asks rs s && is_there P s) e;
     }
 
--- one report more
+-- One report more.
 pub asked_more : (P : Program) (asks : Report → Site → Bool) (all left rest : List Report) (r : Report) (o : Option Site) (old new : List Site) → left ≡ r ∷ rest →
     ((s : Site) → is_site o s ≡ asks r s) → ((s : Site) → has_site new s ≡ (is_site o s && is_there P s) || has_site old s) →
     HasAllBut P asks all left old → HasAllBut P asks all rest new
@@ -112,7 +112,7 @@ pub whole : (P : Program) (asks : Report → Site → Bool) (all left : List Rep
 whole P asks all left list none asked up =
     listed P (asked_by asks all) list (record { has = λ s. ap (λ rs. (asked_by asks rs s && is_there P s) || has_site list s) (sym none) ∙ asked.has s }) up
 
--- a plan whose lists are the defined ones
+-- A plan whose lists are the defined ones.
 pub plan_is : (P : Program) (found : Findings) (flushes fences hoists : List Site) → flushes ≡ (plan_for P found).flush_after → fences ≡ (plan_for P found).fence_after → hoists ≡ (plan_for P found).hoist →
     record { flush_after = flushes; fence_after = fences; hoist = hoists } ≡ plan_for P found
 plan_is P found flushes fences hoists f g h =

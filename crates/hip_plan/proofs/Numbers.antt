@@ -4,7 +4,7 @@ use Rattle.std.specs.List.{list_any}
 use Rattle.std.proofs.lemmas.List.{take_all, take_more}
 use Rattle.std.proofs.lemmas.List.Folds.{list_any-append}
 
--- the set has the numbers of the list
+-- The set has the numbers of the list.
 pub record HasNumbers (numbers set : List ℕ) : Type 0 where
   pub has : (n : ℕ) → list_any (nat_eq n) set ≡ list_any (nat_eq n) numbers
 

@@ -8,11 +8,11 @@ use Rattle.hip_runs.specs.Found.Scores.{is_marked, worth_in, worth_of}
 use Rattle.hip_runs.specs.declared.report.Mark.{Mark}
 use Rattle.hip_plan.specs.Worths.{added_by}
 
--- a sum that fits is what is computed of its bits
+-- A sum that fits is what is computed of its bits.
 pub folded : (a r : ℤ) → FitsSigned w128 r → FitsSigned w128 (a +ℤ r) → to_z w128 (of_z w128 (a +ℤ to_z w128 (of_z w128 r))) ≡ a +ℤ r
 folded a r fits sum_fits = ap (λ z. to_z w128 (of_z w128 (a +ℤ z))) (to_z-of_z w128 r fits) ∙ to_z-of_z w128 (a +ℤ r) sum_fits
 
--- and so is one of two numbers that were computed of their bits
+-- And so is one of two numbers that were computed of their bits.
 pub both_folded : (a r : ℤ) → FitsSigned w128 a → FitsSigned w128 r → FitsSigned w128 (a +ℤ r) →
     to_z w128 (of_z w128 (to_z w128 (of_z w128 a) +ℤ to_z w128 (of_z w128 r))) ≡ a +ℤ r
 both_folded a r here fits sum_fits = ap (λ z. to_z w128 (of_z w128 (z +ℤ to_z w128 (of_z w128 r)))) (to_z-of_z w128 a here) ∙ folded a r fits sum_fits
@@ -28,7 +28,7 @@ pub record IsSmall (r : ℤ) : Type 0 where
   pub least : neg_ℤ (pos 1) ≤ℤ r
   pub most : r ≤ℤ pos 1
 
--- at most n, and at least its negative
+-- At most n, and at least its negative.
 pub record IsWithin (n : ℕ) (r : ℤ) : Type 0 where
   pub least : neg_ℤ (pos n) ≤ℤ r
   pub most : r ≤ℤ pos n
@@ -48,7 +48,7 @@ module _ (hit : List ℕ) (site : Site) (operand : ℕ) where
       go true = worth_small (is_marked hit m.object)
       go false = record { least = omega (arith, ints); most = omega (arith, ints) }
 
-  -- one mark more
+  -- One mark more.
   pub worth_more : (marks : List Mark) (i : ℕ) (d : Mark) (s r : ℤ) → i < length marks → r ≡ added_by hit (get_or marks i d) site operand →
       worth_in hit site operand (drop i marks) s ≡ worth_in hit site operand (drop (i + 1) marks) (s +ℤ r)
   worth_more marks i d s r h e =
@@ -59,12 +59,12 @@ module _ (hit : List ℕ) (site : Site) (operand : ℕ) where
       ∙ ap (λ n. worth_in hit site operand (drop n marks) (cond t (s +ℤ w) s)) (sym (add-one i))
       ∙ ap (λ z. worth_in hit site operand (drop (i + 1) marks) z) (add-cond t s w ∙ ap (λ z. s +ℤ z) (sym e))
 
-  -- one mark more, at the end
+  -- One mark more, at the end.
   pub worth-append : (ms : List Mark) (m : Mark) (s : ℤ) → worth_in hit site operand (ms ++ m ∷ []) s ≡ worth_in hit site operand ms s +ℤ added_by hit m site operand
   worth-append [] m s = add-cond (same_site m.site site && nat_eq m.operand operand) s (worth_of (is_marked hit m.object))
   worth-append (x ∷ ms) m s = worth-append ms m (cond (same_site x.site site && nat_eq x.operand operand) (s +ℤ worth_of (is_marked hit x.object)) s)
 
-  -- a worth is at most the number of marks, and no less than its negative
+  -- A worth is at most the number of marks, and no less than its negative.
   pub worth_within : (ms : List Mark) (s : ℤ) (n : ℕ) → IsWithin n s → IsWithin (n + length ms) (worth_in hit site operand ms s)
   worth_within [] s n h = subst (λ k. IsWithin k s) (let e : n ≡ n + 0 = omega arith in e) h
   worth_within (x ∷ ms) s n h =

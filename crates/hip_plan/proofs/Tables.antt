@@ -20,22 +20,22 @@ use Rattle.hip_plan.specs.Worths.{HasWorths, OperandKey, same_operand, worth_amo
 use Rattle.hip_sites.proofs.SiteOrder.{number-is_eq, then-is_eq}
 use Rattle.hip_plan.proofs.Sums.{IsWithin, add-none, worth-append, worth_within}
 
--- the key of a mark
+-- The key of a mark.
 abbrev pub mark_key : Mark → OperandKey
 mark_key m = (m.site, m.operand)
 
--- the order that keys are compared by
+-- The order that keys are compared by.
 abbrev pub key_cmp : OperandKey → OperandKey → Ordering
 key_cmp a b = ordering_then (site_cmp a.0 b.0) (nat_cmp a.1 b.1)
 
 key-is_eq : (a b : OperandKey) → is_eq (key_cmp a b) ≡ same_operand a b
 key-is_eq a b = then-is_eq (site_cmp a.0 b.0) (nat_cmp a.1 b.1) ∙ ap₂ (λ (x y : Bool). x && y) (cmp-is_eq a.0 b.0) (number-is_eq a.1 b.1)
 
--- the table has at a key what its list of entries has
+-- The table has at a key what its list of entries has.
 pub worth_found : (entries : List (OperandKey × ℤ)) (key : OperandKey) → lookup (is_at (key_cmp key)) entries ≡ lookup (same_operand key) entries
 worth_found entries key = λ i. lookup (λ k. key-is_eq key k i) entries
 
--- marked by one list exactly where by another with the same numbers
+-- Marked by one list exactly where by another with the same numbers.
 pub marked_alike : (xs ys : List ℕ) → ((n : ℕ) → list_any (nat_eq n) xs ≡ list_any (nat_eq n) ys) → (o : Object) → is_marked xs o ≡ is_marked ys o
 marked_alike xs ys same (objects.Global g) = same g
 marked_alike xs ys same (objects.Slot s) = refl
@@ -69,7 +69,7 @@ module _ (old new : List (OperandKey × ℤ)) (hit : List ℕ) (marks : List Mar
           ∙ sym (worth-append hit s k (take i marks) m (pos 0))
           ∙ ap (λ ms. worth_in hit s k ms (pos 0)) (sym (take_more marks i d h))
 
--- a worth in the table is at most the number of marks so far
+-- A worth in the table is at most the number of marks so far.
 pub among_within : (entries : List (OperandKey × ℤ)) (hit : List ℕ) (marks : List Mark) (i : ℕ) (key : OperandKey) (a : ℤ) → i < length marks →
     HasWorths entries hit (take i marks) → a ≡ worth_among entries key → IsWithin i a
 among_within entries hit marks i key a h has is =

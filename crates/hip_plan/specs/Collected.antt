@@ -4,7 +4,7 @@ use Rattle.hip_repairs.specs.Suits.{is_ascending}
 use Rattle.hip_repairs.specs.declared.plan.Plan.{Plan}
 use Rattle.hip_plan.specs.declared.plan_sites.PlanSites.{PlanSites}
 
--- the plan has these sites, each list in ascending order
+-- The plan has these sites, each list in ascending order.
 pub record IsCollected (sites : PlanSites) (plan : Plan) : Type 0 where
   pub flushes_are : plan.flush_after ≡ sites.flush_after
   pub fences_are : plan.fence_after ≡ sites.fence_after

@@ -12,12 +12,12 @@ use Rattle.hip_runs.specs.Found.Scores.{is_marked, worth, worth_in, worth_of}
 use Rattle.hip_runs.specs.declared.report.Mark.{Mark}
 use Rattle.hip_runs.specs.declared.report.Marks.{Marks}
 
--- what a mark adds to the worth of an operand; 0 if it is of another operand
+-- What a mark adds to the worth of an operand; 0 if it is of another operand.
 abbrev pub added_by : List ℕ → Mark → Site → ℕ → ℤ
 added_by hit mark site operand =
     cond (same_site mark.site site && nat_eq mark.operand operand) (worth_of (is_marked hit mark.object)) (pos 0)
 
--- whether an argument has the type `ptr`
+-- Whether an argument has the type `ptr`.
 abbrev pub is_pointer : Arg → Bool
 is_pointer a = has_pointer a.ty
   where
@@ -25,55 +25,55 @@ is_pointer a = has_pointer a.ty
     has_pointer Ptr = true
     has_pointer (Int w) = false
 
--- the greater of a worth and the greatest one so far
+-- The greater of a worth and the greatest one so far.
 abbrev pub greatest : Option ℤ → ℤ → Option ℤ
 greatest None a = Some a
 greatest (Some b) a = Some (cond (int_lt b a) a b)
 
 -- ---- the limit of scores
 
--- no operand has a worth above this one
+-- No operand has a worth above this one.
 abbrev pub IsLimit : Marks → ℤ → Type 0
 IsLimit marks limit = (site : Site) (operand : ℕ) → worth marks site operand ≤ℤ limit
 
--- whether there is a score, and it is not below the limit
+-- Whether there is a score, and it is not below the limit.
 abbrev pub is_at_limit : Option ℤ → ℤ → Bool
 is_at_limit None limit = false
 is_at_limit (Some a) limit = not (int_lt a limit)
 
 -- ---- the table of worths
 
--- a site, and the number of one of its pointer operands
+-- A site, and the number of one of its pointer operands.
 abbrev pub OperandKey : Type 0
 OperandKey = Site × ℕ
 
--- whether two keys are of the same pointer operand of the same site
+-- Whether two keys are of the same pointer operand of the same site.
 abbrev pub same_operand : OperandKey → OperandKey → Bool
 same_operand a b = same_site a.0 b.0 && nat_eq a.1 b.1
 
--- the worth in the table of an operand; 0 if it has none
+-- The worth in the table of an operand; 0 if it has none.
 abbrev pub worth_among : List (OperandKey × ℤ) → OperandKey → ℤ
 worth_among entries key = unwrap_or (lookup (same_operand key) entries) (pos 0)
 
--- the table has the worths by these marks
+-- The table has the worths by these marks.
 pub record HasWorths (entries : List (OperandKey × ℤ)) (hit : List ℕ) (marks : List Mark) : Type 0 where
   pub worth : (site : Site) (operand : ℕ) →
       worth_among entries (site, operand) ≡ worth_in hit site operand marks (pos 0)
 
--- the greater of two numbers
+-- The greater of two numbers.
 abbrev pub greater_one : ℤ → ℤ → ℤ
 greater_one a b = cond (int_lt a b) b a
 
--- the number is at least 0, and at least each worth in the table
+-- The number is at least 0, and at least each worth in the table.
 abbrev pub IsBound : List (OperandKey × ℤ) → ℤ → Type 0
 IsBound entries n = (pos 0 ≤ℤ n) × All (λ e. e.1 ≤ℤ n) entries
 
--- the greatest of 0 and the worths in the table: the least bound
+-- The greatest of 0 and the worths in the table: the least bound.
 pub record IsGreatest (entries : List (OperandKey × ℤ)) (greatest : ℤ) : Type 0 where
   pub bounds : IsBound entries greatest
   pub least : (n : ℤ) → IsBound entries n → greatest ≤ℤ n
 
--- the table has the worths by these marks, and this is the greatest of them and of 0, which has 128 bits
+-- The table has the worths by these marks, and this is the greatest of them and of 0, which has 128 bits.
 pub record IsTable (entries : List (OperandKey × ℤ)) (greatest : ℤ) (marks : Marks) : Type 0 where
   pub worths : HasWorths entries marks.hit marks.pointed
   pub is_greatest : IsGreatest entries greatest

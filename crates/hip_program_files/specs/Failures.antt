@@ -14,28 +14,28 @@ use Rattle.hip_sound.specs.declared.fault.TypeFault.{TypeFault}
 use Rattle.hip_sound.specs.declared.fault.TypeFault.TheVariants as faults
 use Rattle.hip_sound.specs.declared.fault.TypeRefusal.{TypeRefusal}
 
--- a refusal of the reader, which may be out of memory
+-- A refusal of the reader, which may be out of memory.
 abbrev pub failure_of_text : ParseRefusal → Failure ProgramRefusal
 failure_of_text parse.NoMemory = failures.NoMemory
 failure_of_text why = failures.Refused (refusals.Text why)
 
--- a fault at a place, which may be out of memory
+-- A fault at a place, which may be out of memory.
 abbrev pub failure_of_fault : TypeFault → Place → Failure ProgramRefusal
 failure_of_fault faults.NoMemory place = failures.NoMemory
 failure_of_fault fault place = failures.Refused (refusals.Form (record { fault = fault; place = place }))
 
--- a refusal of the checker
+-- A refusal of the checker.
 abbrev pub failure_of_form : TypeRefusal → Failure ProgramRefusal
 failure_of_form why = failure_of_fault why.fault why.place
 
--- a refusal to read the file
+-- A refusal to read the file.
 abbrev pub failure_of_file : ReadRefusal → Failure LoadRefusal
 failure_of_file reads.Missing = failures.Refused loads.Missing
 failure_of_file reads.ReadFault = failures.ReadFault
 failure_of_file reads.TooLarge = failures.Refused loads.TooLarge
 failure_of_file reads.NoMemory = failures.NoMemory
 
--- a failure of the text in the file
+-- A failure of the text in the file.
 abbrev pub failure_of_program : Failure ProgramRefusal → Failure LoadRefusal
 failure_of_program (failures.Refused why) = failures.Refused (loads.Bad why)
 failure_of_program failures.ReadFault = failures.ReadFault

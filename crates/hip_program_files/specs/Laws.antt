@@ -22,7 +22,7 @@ counts_then : (rises : Bool) (old mid new : ℕ) → mid ≡ old → CountsUp ri
 counts_then true old mid new same up = (omega (arith, same, up.0), subst (λ n. Rose n new) same up.1)
 counts_then false old mid new same up = up ∙ same
 
--- where the first of two calls met nothing, both together met what the second met
+-- Where the first of two calls met nothing, both together met what the second met.
 pub met_then : {missed failed : Bool} {old mid new : CabinetState} → HasMet false false old mid
     → HasMet missed failed mid new → HasMet missed failed old new
 met_then {missed} {failed} {old} {mid} {new} first second = record {
@@ -34,7 +34,7 @@ met_then {missed} {failed} {old} {mid} {new} first second = record {
 min_then : (a m n most : ℕ) → min (min (a + m) most + n) most ≡ min (a + (m + n)) most
 min_then a m n most = omega arith
 
--- the fetches of two calls
+-- The fetches of two calls.
 pub fetches_then : (m n : ℕ) {old mid new : CabinetState} → CountsFetches m old mid → CountsFetches n mid new
     → CountsFetches (m + n) old new
 fetches_then m n {old} {mid} {new} first second =
@@ -46,12 +46,12 @@ fetches_then m n {old} {mid} {new} first second =
 
 -- ---- one answer
 
--- the fault without the path that shows a register without an assignment, since another path may show it too
+-- The fault without the path that shows a register without an assignment, since another path may show it too.
 abbrev pub without_path : TypeFault → TypeFault
 without_path (faults.Unassigned path) = faults.Unassigned []
 without_path fault = fault
 
--- the refusal without that path; any other refusal as it is
+-- The refusal without that path; any other refusal as it is.
 abbrev pub without_paths : LoadRefusal → LoadRefusal
 without_paths (loads.Bad (refusals.Form why)) =
     loads.Bad (refusals.Form (record { fault = without_path why.fault; place = why.place }))

@@ -26,7 +26,7 @@ pub record IsRefusedText (text : List ℕ) (why : Fault) (line : ℕ) : Type 0 w
   pub unread : (program : Program) → Reads text program → ⊥
   pub refused : IsRefusal text why line
 
--- the text is refused in this way; out of memory is no such refusal
+-- The text is refused in this way; out of memory is no such refusal.
 abbrev pub RefusesText : List ℕ → ParseRefusal → Type 0
 RefusesText text (parse.Syntax line) = IsRefusedText text faults.Syntax line
 RefusesText text (parse.Unsupported line) = IsRefusedText text faults.Unsupported line
@@ -34,12 +34,12 @@ RefusesText text (parse.Range line) = IsRefusedText text faults.Range line
 RefusesText text (parse.TooDeep line) = IsRefusedText text faults.TooDeep line
 RefusesText text parse.NoMemory = ⊥
 
--- the text reads as no program, or as one that is not sound
+-- The text reads as no program, or as one that is not sound.
 abbrev pub RefusesProgram : List ℕ → ProgramRefusal → Type 0
 RefusesProgram text (refusals.Text why) = RefusesText text why
 RefusesProgram text (refusals.Form why) = (program : Program) × Reads text program × IsRefused program why
 
--- what the check of a program that is read answers
+-- What the check of a program that is read answers.
 abbrev pub ChecksProgram : Program → Result Program (Failure ProgramRefusal) → Type 0
 ChecksProgram program (Ok checked) = (checked ≡ program) × IsSound program
 ChecksProgram program (Err (failures.Refused (refusals.Form why))) = IsRefused program why
@@ -47,7 +47,7 @@ ChecksProgram program (Err (failures.Refused (refusals.Text why))) = ⊥
 ChecksProgram program (Err failures.ReadFault) = ⊥
 ChecksProgram program (Err failures.NoMemory) = Unit {0}
 
--- what reading a text answers; out of memory may come at any time
+-- What reading a text answers; out of memory may come at any time.
 abbrev pub ReadsProgram : List ℕ → Result Program (Failure ProgramRefusal) → Type 0
 ReadsProgram text (Ok program) = Reads text program × IsSound program
 ReadsProgram text (Err (failures.Refused why)) = RefusesProgram text why
@@ -56,37 +56,37 @@ ReadsProgram text (Err failures.NoMemory) = Unit {0}
 
 -- ---- files
 
--- the file has this text, if the cabinet's files are known, and it is not too long
+-- The file has this text, if the cabinet's files are known, and it is not too long.
 pub record IsTextOf (files : Option (List NamedFile)) (name text : List ℕ) : Type 0 where
   pub fits : length text ≤ TEXT_LIMIT
   pub stated : IfSome files (λ fs. file_of fs name ≡ Some text)
 
--- the file's text reads as the program, which is sound
+-- The file's text reads as the program, which is sound.
 pub record IsProgramOf (files : Option (List NamedFile)) (name : List ℕ) (program : Program) : Type 0 where
   pub text : List ℕ
   pub is_text : IsTextOf files name text
   pub reads : Reads text program
   pub sound : IsSound program
 
--- the file is there and has more than 16,777,216 bytes
+-- The file is there and has more than 16,777,216 bytes.
 pub record IsTooLong (files : List NamedFile) (name : List ℕ) : Type 0 where
   pub text : List ℕ
   pub found : file_of files name ≡ Some text
   pub long : TEXT_LIMIT < length text
 
--- the file's text, which is not too long, reads as no program, or as one that is not sound, for this reason
+-- The file's text, which is not too long, reads as no program, or as one that is not sound, for this reason.
 pub record IsBadProgram (files : Option (List NamedFile)) (name : List ℕ) (why : ProgramRefusal) : Type 0 where
   pub text : List ℕ
   pub is_text : IsTextOf files name text
   pub refused : RefusesProgram text why
 
--- why there is no program in the file
+-- Why there is no program in the file.
 abbrev pub HasNoProgram : Option (List NamedFile) → List ℕ → LoadRefusal → Type 0
 HasNoProgram files name loads.Missing = IfSome files (λ fs. file_of fs name ≡ None)
 HasNoProgram files name loads.TooLarge = IfSome files (λ fs. IsTooLong fs name)
 HasNoProgram files name (loads.Bad why) = IsBadProgram files name why
 
--- whether the refusal is that no file has the name of the program
+-- Whether the refusal is that no file has the name of the program.
 abbrev pub is_missing : LoadRefusal → Bool
 is_missing loads.Missing = true
 is_missing loads.TooLarge = false
@@ -97,7 +97,7 @@ pub record HasFailedLoading (old new : CabinetState) (name : List ℕ) : Type 0 
   pub met : HasMet false true old new
   pub current : (new.is_current ≡ false) ⊎ IfSome new.name (λ n. n ≡ name)
 
--- what loading the program of a file answers: one file is fetched; out of memory may come at any time
+-- What loading the program of a file answers: one file is fetched; out of memory may come at any time.
 abbrev pub Loads : List ℕ → CabinetState → CabinetState → Result Program (Failure LoadRefusal) → Type 0
 Loads name old new (Ok program) =
     HasMet false false old new × IsProgramOf old.files name program × CountsFetches 1 old new

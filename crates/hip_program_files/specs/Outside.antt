@@ -3,7 +3,7 @@ use Rattle.std.specs.Prelude.{ℕ, ◌+◌, ◌-◌, ◌^◌, ◌≡◌, ◌≤�
 use Rattle.hip_io.specs.Cabinets.{CabinetState}
 use Rattle.hip_io.specs.Counts.{Rose}
 
--- a count rose in the call, or it is the same
+-- A count rose in the call, or it is the same.
 abbrev pub CountsUp : Bool → ℕ → ℕ → Type 0
 CountsUp true old new = (old ≤ new) × Rose old new
 CountsUp false old new = new ≡ old

@@ -11,7 +11,7 @@ pub written_part : {old new : SinkState} {text : List ℕ} → AppendsPrefix old
     → Writes Done Failed old new text
 written_part p = record { how = p }
 
--- two texts one after the other
+-- Two texts one after the other.
 pub all_of_both : {old mid new : SinkState} {text more : List ℕ} → AppendsAll old mid text → AppendsAll mid new more
     → AppendsAll old new (text ++ more)
 all_of_both {old} {mid} {new} {text} {more} p q =
@@ -22,7 +22,7 @@ pub part_of_both : {old mid new : SinkState} {text more : List ℕ} → AppendsA
 part_of_both {old} {mid} {new} {text} {more} p q =
     let both : Writes Done Failed old new (text ++ more) = and_then (written_all p) (written_part q) in both.how
 
--- a delivery appends nothing
+-- A delivery appends nothing.
 pub delivers : {old mid new : SinkState} {text : List ℕ} → AppendsAll old mid text → AppendsAll mid new []
     → AppendsAll old new text
 delivers {old} {mid} {new} {text} p q = subst (λ t. AppendsAll old new t) (append-nil text) (all_of_both p q)

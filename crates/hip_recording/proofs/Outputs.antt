@@ -21,13 +21,13 @@ use Rattle.hip_recording.specs.declared.refusal.RecordRefusal.{RecordRefusal}
 use Rattle.hip_recording.specs.declared.refusal.RecordRefusal.TheVariants.{NoMemory, WriteFault}
 use Rattle.hip_runs.specs.Seen.{Seen, after_step}
 
--- a machine that goes on, and what its steps print was written
+-- A machine that goes on, and what its steps print was written.
 pub record IsPrinting (P : Program) (I : Input) (m : Seen) (old new : SinkState) : Type 0 where
   pub on : IsGoing P I m
   pub written : AppendsAll old new (run P I m.taken).world.output
 
 module _ (P : Program) (I : Input) (stated : (n : ℕ) → (run P I (suc n)).world.output ≡ (run P I n).world.output ++ printed_by (event P I (run P I n))) where
-  -- what follows the output of the first steps
+  -- What follows the output of the first steps.
   grown : (n d : ℕ) → (more : List ℕ) × ((run P I (n + d)).world.output ≡ (run P I n).world.output ++ more)
   grown n zero = ([], ap (λ k. (run P I k).world.output) (let e : n + 0 ≡ n = omega arith in e) ∙ sym (append-nil (run P I n).world.output))
   grown n (suc d) = go (grown n d)
@@ -39,7 +39,7 @@ module _ (P : Program) (I : Input) (stated : (n : ℕ) → (run P I (suc n)).wor
             ∙ ap (λ text. text ++ printed_by (event P I (run P I (n + d)))) is ∙ append_assoc (run P I n).world.output more (printed_by (event P I (run P I (n + d)))),
       )
 
--- the output after some steps is a prefix of what the run prints
+-- The output after some steps is a prefix of what the run prints.
 pub record IsFront (P : Program) (I : Input) (front : List ℕ) : Type 0 where
   pub missing : List ℕ
   pub ending : Ending
@@ -60,7 +60,7 @@ front_of P I stated n = go (run P I stated.ends.0).world.ending refl stated.ends
           printed = record { steps = stated.ends.0; ended = ends; is = sym more.1 ∙ ap (λ s. s.world.output) last };
         }
 
--- a step that ends a run prints nothing
+-- A step that ends a run prints nothing.
 ends_silent : (x : Event) (e : Ending) → ending_by x ≡ Some e → printed_by x ≡ []
 ends_silent events.Quiet e h = refl
 ends_silent (events.Print z) e h = cc
@@ -111,7 +111,7 @@ module _ {P : Program} {I : Input} {m : Seen} {old mid : SinkState} (stated : Is
 -- ---- the next print
 
 module _ {P : Program} {I : Input} {m : Seen} {old mid : SinkState} (stated : IsStated P I) (is : IsPrinting P I m old mid) {next : Seen} {e : Event} (c : ComesToPrint m next e) where
-  -- before the step that has the event
+  -- Before the step that has the event.
   before_event : IsPrinting P I c.before old mid
   before_event = record {
     on = goes_silently is.on c.silent;
@@ -132,7 +132,7 @@ starts_silent : (P : Program) (I : Input) → (run P I 0).world.output ≡ []
 unfolding run
 starts_silent P I = refl
 
--- before the first step
+-- Before the first step.
 pub started : (P : Program) (I : Input) (s : SinkState) → IsPrinting P I (record { program = P; input = I; taken = 0 }) s s
 started P I s = record {
   on = starts P I;

@@ -13,15 +13,15 @@ use Rattle.hip_runs.specs.declared.event.Event.{Event}
 use Rattle.hip_runs.specs.declared.input.Input.{Input}
 
 module _ {P : Program} {I : Input} {old new : Seen} {e : Event} (stated : IsStated P I) (is : IsGoing P I old) (c : ComesTo old new e) where
-  -- before the step that has the event it goes on
+  -- Before the step that has the event it goes on.
   pub goes_there : IsGoing P I c.before
   goes_there = goes_quietly is c.quiet.steps c.quiet.is c.quiet.quiet
 
-  -- and its trace is as it was
+  -- And its trace is as it was.
   pub trace_there : trace P I c.before.taken ≡ trace P I old.taken
   trace_there = same_trace is c.quiet.steps c.quiet.is c.quiet.quiet
 
-  -- the event is that of the run's step there
+  -- The event is that of the run's step there.
   pub event_there : event P I (run P I c.before.taken) ≡ e
   event_there = here stated goes_there e c.is
 
@@ -31,11 +31,11 @@ module _ {P : Program} {I : Input} {old new : Seen} {e : Event} (stated : IsStat
   pub input_there : new.input ≡ I
   input_there = ap (λ (m : Seen). m.input) c.step ∙ goes_there.input
 
-  -- where the event is no end, the machine goes on
+  -- Where the event is no end, the machine goes on.
   pub comes_on : ending_by e ≡ None → IsGoing P I new
   comes_on goes = subst (λ (m : Seen). IsGoing P I m) (sym c.step) (goes_on stated goes_there e event_there goes)
 
-  -- and has fewer steps left
+  -- And has fewer steps left.
   pub comes_nearer : ending_by e ≡ None → steps_ahead P I new.taken < steps_ahead P I old.taken
   comes_nearer goes =
       let less : steps_ahead P I (after_step c.before).taken < steps_ahead P I c.before.taken = fewer stated goes_there e event_there goes in
@@ -43,6 +43,6 @@ module _ {P : Program} {I : Input} {old new : Seen} {e : Event} (stated : IsStat
       let taken = taken_is is c.quiet.steps c.quiet.is c.quiet.quiet in
       omega (arith, less, next, taken)
 
-  -- where it is an end, the machine has ended
+  -- Where it is an end, the machine has ended.
   pub comes_to_end : (ending : Ending) → ending_by e ≡ Some ending → has_ended (state_of new) ≡ true
   comes_to_end ending ends = ap (λ (m : Seen). has_ended (state_of m)) c.step ∙ over_now stated goes_there e ending event_there ends

@@ -31,12 +31,12 @@ module _ {P : Program} {I : Input} {old new : Seen} (is : IsGoing P I old) (q : 
   pub same_output : (run P I new.taken).world.output ≡ (run P I old.taken).world.output
   same_output = ap (λ n. (run P I n).world.output) silent_taken ∙ laws.same_output P I old.taken q.steps silent_at
 
--- the event to which a run comes is that of its step there
+-- The event to which a run comes is that of its step there.
 pub print_there : {P : Program} {I : Input} {old new : Seen} {e : Event} → IsStated P I → IsGoing P I old
     → (c : ComesToPrint old new e) → event P I (run P I c.before.taken) ≡ e
 print_there {e = e} stated is c = here stated (goes_silently is c.silent) e c.is
 
--- a run that comes to an event which is no end has fewer steps left
+-- A run that comes to an event which is no end has fewer steps left.
 pub prints_nearer : {P : Program} {I : Input} {old new : Seen} {e : Event} → IsStated P I → IsGoing P I old
     → ComesToPrint old new e → ending_by e ≡ None → steps_ahead P I new.taken < steps_ahead P I old.taken
 prints_nearer {P} {I} {old} {new} {e} stated is c goes =

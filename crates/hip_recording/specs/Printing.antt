@@ -8,26 +8,26 @@ use Rattle.hip_runs.specs.declared.input.Input.{Input}
 use Rattle.hip_recording.specs.declared.refusal.RecordRefusal.{RecordRefusal}
 use Rattle.hip_recording.specs.declared.refusal.RecordRefusal.TheVariants as refusals
 
--- the text is all that the run prints, and the run ends in this way
+-- The text is all that the run prints, and the run ends in this way.
 pub record IsPrinted (P : Program) (I : Input) (text : List ℕ) (ending : Ending) : Type 0 where
   pub steps : ℕ
   pub ended : (run P I steps).world.ending ≡ Some ending
   pub is : text ≡ (run P I steps).world.output
 
--- all that the run prints is written, and the answer is its ending
+-- All that the run prints is written, and the answer is its ending.
 pub record HasPrinted (P : Program) (I : Input) (old new : SinkState) (ending : Ending) : Type 0 where
   pub text : List ℕ
   pub printed : IsPrinted P I text ending
   pub written : AppendsAll old new text
 
--- a write has failed, and out has a prefix of the run's text
+-- A write has failed, and out has a prefix of the run's text.
 pub record HasFailed (P : Program) (I : Input) (old new : SinkState) : Type 0 where
   pub text : List ℕ
   pub ending : Ending
   pub printed : IsPrinted P I text ending
   pub written : AppendsPrefix old new text
 
--- out of memory; no write has failed, and out has a prefix of the run's text
+-- Out of memory; no write has failed, and out has a prefix of the run's text.
 pub record HasStopped (P : Program) (I : Input) (old new : SinkState) : Type 0 where
   pub front : List ℕ
   pub missing : List ℕ
@@ -35,7 +35,7 @@ pub record HasStopped (P : Program) (I : Input) (old new : SinkState) : Type 0 w
   pub printed : IsPrinted P I (front ++ missing) ending
   pub written : AppendsAll old new front
 
--- what is written by the answer
+-- What is written by the answer.
 abbrev pub Prints : Program → Input → SinkState → SinkState → Result Ending RecordRefusal → Type 0
 Prints P I old new (Ok ending) = HasPrinted P I old new ending
 Prints P I old new (Err refusals.WriteFault) = HasFailed P I old new

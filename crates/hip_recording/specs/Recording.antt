@@ -13,7 +13,7 @@ use Rattle.hip_recording.specs.declared.record.Recorded.{Recorded}
 use Rattle.hip_recording.specs.declared.refusal.RecordRefusal.{RecordRefusal}
 use Rattle.hip_recording.specs.declared.refusal.RecordRefusal.TheVariants as refusals
 
--- the run's trace is written, a line for each entry, with this ending and this number of entries
+-- The run's trace is written, a line for each entry, with this ending and this number of entries.
 pub record HasPutTrace (P : Program) (I : Input) (old new : SinkState) (done : Ended) : Type 0 where
   pub trace : List Entry
   pub is_trace : IsTrace P I trace
@@ -21,35 +21,35 @@ pub record HasPutTrace (P : Program) (I : Input) (old new : SinkState) (done : E
   pub entries : done.entries ≡ length trace
   pub written : AppendsAll old new (lines_of trace)
 
--- the run's trace is written; the answer has its ending, the number of its entries and what it found
+-- The run's trace is written; the answer has its ending, the number of its entries and what it found.
 pub record HasRecorded (P : Program) (I : Input) (old new : SinkState) (recorded : Recorded) : Type 0 where
   pub put : HasPutTrace P I old new (record { ending = recorded.ending; entries = recorded.entries })
   pub found : IsFound P I recorded.findings
 
--- a write has failed, and out has a prefix of the trace's text
+-- A write has failed, and out has a prefix of the trace's text.
 pub record HasFailedRecording (P : Program) (I : Input) (old new : SinkState) : Type 0 where
   pub trace : List Entry
   pub is_trace : IsTrace P I trace
   pub written : AppendsPrefix old new (lines_of trace)
 
--- out of memory; no write has failed, and out has the lines of the first entries
+-- Out of memory; no write has failed, and out has the lines of the first entries.
 pub record HasStoppedRecording (P : Program) (I : Input) (old new : SinkState) : Type 0 where
   pub front : List Entry
   pub missing : List Entry
   pub is_trace : IsTrace P I (front ++ missing)
   pub written : AppendsAll old new (lines_of front)
 
--- the cause of a refusal, and what is written
+-- The cause of a refusal, and what is written.
 abbrev pub StopsRecording : Program → Input → SinkState → SinkState → RecordRefusal → Type 0
 StopsRecording P I old new refusals.WriteFault = HasFailedRecording P I old new
 StopsRecording P I old new refusals.NoMemory = HasStoppedRecording P I old new
 
--- what is written, by the answer, which has no findings
+-- What is written, by the answer, which has no findings.
 abbrev pub PutsTrace : Program → Input → SinkState → SinkState → Result Ended RecordRefusal → Type 0
 PutsTrace P I old new (Ok done) = HasPutTrace P I old new done
 PutsTrace P I old new (Err refusal) = StopsRecording P I old new refusal
 
--- what is written, by the answer
+-- What is written, by the answer.
 abbrev pub Records : Program → Input → SinkState → SinkState → Result Recorded RecordRefusal → Type 0
 Records P I old new (Ok recorded) = HasRecorded P I old new recorded
 Records P I old new (Err refusal) = StopsRecording P I old new refusal

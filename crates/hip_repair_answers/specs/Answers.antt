@@ -18,7 +18,7 @@ use Rattle.hip_runs.specs.declared.report.Findings.{Findings}
 use Rattle.hip_trace.specs.Texts.{lines_of}
 use Rattle.hip_trace.specs.declared.entry.Entry.{Entry}
 
--- out has a line for each report of the run, and notes how many there are
+-- `out` has a line for each report of the run, and notes how many there are.
 pub record HasChecked (P : Program) (I : Input) (found : Findings) (answer : Answer) : Type 0 where
   pub status_is : answer.status ≡ Done
   pub out_is : answer.out ≡ report_lines P found.reports
@@ -33,8 +33,8 @@ pub record HasRepaired (P : Program) (I : Input) (found : Findings) (answer : An
       ≡ repair_counts (length found.reports) (plan_for P found) (length (clone_numbers P (plan_for P found)))
   pub cured : IsCured P I found
 
--- out has the trace of the repaired program's run on the same input, a line for each entry, and notes has the number of
--- reports of the program's run and that of the repaired program's run
+-- `out` has the trace of the repaired program's run on the same input, a line for each entry, and notes has the
+-- number of reports of the program's run and that of the repaired program's run.
 pub record HasRerun (P : Program) (I : Input) (found : Findings) (answer : Answer) : Type 0 where
   pub trace : List Entry
   pub is_trace : IsTrace (repaired_for P found) I trace
@@ -45,14 +45,14 @@ pub record HasRerun (P : Program) (I : Input) (found : Findings) (answer : Answe
   pub out_is : answer.out ≡ lines_of trace
   pub notes_is : answer.notes ≡ rerun_counts (length found.reports) (length after.reports)
 
--- the answers of `check`: if there is a run, its reports
+-- The answers of `check`: if there is a run, its reports.
 abbrev pub CheckAnswers : CabinetState → CabinetState → List ℕ → List ℕ → Answer → Type 0
 CheckAnswers = TraceAnswers HasChecked
 
--- the answers of `repair`: if there is a run, the program repaired for it
+-- The answers of `repair`: if there is a run, the program repaired for it.
 abbrev pub RepairAnswers : CabinetState → CabinetState → List ℕ → List ℕ → Answer → Type 0
 RepairAnswers = TraceAnswers HasRepaired
 
--- the answers of `rerun`: if there is a run, the trace of the repaired program's run on the same input
+-- The answers of `rerun`: if there is a run, the trace of the repaired program's run on the same input.
 abbrev pub RerunAnswers : CabinetState → CabinetState → List ℕ → List ℕ → Answer → Type 0
 RerunAnswers = TraceAnswers HasRerun

@@ -16,7 +16,7 @@ use Rattle.hip_runs.specs.declared.input.Input.{Input}
 use Rattle.hip_runs.specs.declared.report.Findings.{Findings}
 use Rattle.hip_sound.specs.Sound.{IsSound}
 
--- the program repaired by the plan for what a run found; the direct stores get no flush by cloning
+-- The program repaired by the plan for what a run found; the direct stores get no flush by cloning.
 abbrev pub repaired_for : Program → Findings → Program
 repaired_for P found = repaired P (plan_for P found) (direct P)
 
@@ -35,6 +35,6 @@ pub record IsCuredBy (P : Program) (I : Input) (plan : Plan) (skip : Site → Bo
   pub reads : Reads (show (repaired P plan skip)) (repaired P plan skip)
   pub crashes : IsCrashSafe P I plan skip
 
--- the repair for what a run found does all this, on the run's input
+-- The repair for what a run found does all this, on the run's input.
 abbrev pub IsCured : Program → Input → Findings → Type 0
 IsCured P I found = IsCuredBy P I (plan_for P found) (direct P)

@@ -27,11 +27,11 @@ use Rattle.hip_sound.specs.Sound.{IsSound}
 
 -- ---- `repair`
 
--- what `repair` writes to the notes if there is nothing to repair: five zeros
+-- What `repair` writes to the notes if there is nothing to repair: five zeros.
 abbrev pub no_counts : List ℕ
 no_counts = repair_counts 0 no_repairs 0
 
--- if the run reports nothing, `repair` gives the program's canonical text and five zeros
+-- If the run reports nothing, `repair` gives the program's canonical text and five zeros.
 abbrev pub NothingToRepair : Type 0
 NothingToRepair =
     (P : Program) → (I : Input) → (found : Findings) → (a : Answer) → found.reports ≡ []
@@ -58,7 +58,7 @@ SecondRepair =
     → HasRunOf HasRepaired old new p t
     (record { status = statuses.Done; out = show (repaired_for P found); notes = no_counts })
 
--- the lines of the repaired program's trace are the trace of its run, so the second file has no misfit
+-- The lines of the repaired program's trace are the trace of its run, so the second file has no misfit.
 abbrev pub RerunsAreTraces : Type 0
 RerunsAreTraces =
     (P : Program) → (I : Input) → (found : Findings) → IsSound P → IsInput I → IsValid P I

@@ -15,7 +15,7 @@ use Rattle.hip_runs.specs.declared.input.Input.{Input}
 use Rattle.hip_runs.specs.declared.report.Findings.{Findings}
 
 module _ (P : Program) (I : Input) (found : Findings) (s : Sinks) where
-  -- the answer of `check`: the reports, and on notes how many they are
+  -- The answer of `check`: the reports, and on notes how many they are.
   abbrev pub answer : Answer
   answer =
       record {

@@ -23,11 +23,11 @@ use Rattle.hip_runs.specs.declared.report.Findings.{Findings}
 
 module _ (P : Program) (I : Input) (found : Findings) (repair : Repair) (is : IsRepairFor P found repair)
     (cured : IsCured P I found) (s : Sinks) where
-  -- how many reports, flushes, fences, hoisted calls and clones there are
+  -- How many reports, flushes, fences, hoisted calls and clones there are.
   abbrev pub counts : List ℕ
   counts = repair_counts (length found.reports) repair.plan (length repair.repaired.clones)
 
-  -- the answer of `repair`: the repaired program, and the counts on notes
+  -- The answer of `repair`: the repaired program, and the counts on notes.
   abbrev pub answer : Answer
   answer = record { status = statuses.Done; out = show repair.repaired.checked; notes = counts }
 

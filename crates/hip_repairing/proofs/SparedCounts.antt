@@ -30,7 +30,7 @@ numbered : (functions : List ℕ) (copy f : ℕ) → has_original (numbered_from
 numbered [] copy f = refl
 numbered (x ∷ xs) copy f = ap (λ b. nat_eq f x || b) (numbered xs (suc copy) f)
 
--- the set of numbers has the originals of the clones, except of those that are still to come
+-- The set of numbers has the originals of the clones, except of those that are still to come.
 abbrev pub HasBut : List ℕ → List CloneOf → List CloneOf → Type 0
 HasBut functions rest clones =
     (f : ℕ) → (list_any (nat_eq f) functions || has_original rest f) ≡ has_original clones f

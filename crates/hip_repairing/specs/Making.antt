@@ -16,12 +16,12 @@ use Rattle.hip_runs.specs.declared.report.Findings.{Findings}
 use Rattle.hip_tree.specs.declared.program.Program.{Program}
 use Rattle.hip_tree.specs.declared.site.Site.{Site}
 
--- the repair by this plan; its clones do not flush the stores to skip
+-- The repair by this plan; its clones do not flush the stores to skip.
 pub record IsRepairBy (P : Program) (plan : Plan) (skip : Site → Bool) (repair : Repair) : Type 0 where
   pub plan_is : repair.plan ≡ plan
   pub applied : IsApplied P plan skip repair.repaired
 
--- the repair by the plan for what a run found; the clones do not flush the direct stores
+-- The repair by the plan for what a run found; the clones do not flush the direct stores.
 abbrev pub IsRepairFor : Program → Findings → Repair → Type 0
 IsRepairFor P found repair = IsRepairBy P (plan_for P found) (direct P) repair
 

@@ -17,16 +17,16 @@ is_spared P plan s =
     low_stores P s
     && (list_any (nat_eq s.function) (cloned P plan) && not (direct P s) && not (has_site plan.flush_after s))
 
--- how many there are, each cloned function counted once
+-- How many there are, each cloned function counted once.
 abbrev pub spared_count : Program → Plan → ℕ
 spared_count P plan = length (filter (is_spared P plan) (sites_of P))
 
 -- ---- by lists
 
--- a clone was made of the function of that number
+-- A clone was made of the function of that number.
 abbrev pub has_original : List CloneOf → ℕ → Bool
 has_original clones f = list_any (λ c. nat_eq f c.original) clones
 
--- the site is of one of these functions, and neither direct nor flushed, by these tests
+-- The site is of one of these functions, and neither direct nor flushed, by these tests.
 abbrev pub is_spared_by : List ℕ → (Site → Bool) → (Site → Bool) → Site → Bool
 is_spared_by cloned direct flushed s = list_any (nat_eq s.function) cloned && not (direct s) && not (flushed s)

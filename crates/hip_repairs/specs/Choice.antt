@@ -12,22 +12,22 @@ use Rattle.hip_runs.specs.declared.report.Report.{Report}
 use Rattle.hip_runs.specs.Found.Scores.{score}
 use Rattle.hip_repairs.specs.declared.plan.Plan.{Plan}
 
--- a level, and its score
+-- A level, and its score.
 pub record Candidate : Type 0 where
   pub level : ℕ
   pub score : Option ℤ
 
--- a site without a score is below each that has one
+-- A site without a score is below each that has one.
 abbrev pub is_better : Option ℤ → Option ℤ → Bool
 is_better None (Some b) = true
 is_better (Some a) (Some b) = int_lt a b
 is_better _ None = false
 
--- of two candidates the one with the greater score; the first where scores are equal or neither has one
+-- Of two candidates the one with the greater score; the first where scores are equal or neither has one.
 abbrev pub better : Candidate → Candidate → Candidate
 better best new = cond (is_better best.score new.score) new best
 
--- the best of a candidate and of the given number of levels from a number on
+-- The best of a candidate and of the given number of levels from a number on.
 abbrev pub best_of : Program → Findings → Candidate → ℕ → ℕ → List Site → Candidate
 best_of P found best level zero path = best
 best_of P found best level (suc more) [] = best
@@ -55,26 +55,26 @@ choice P found r = level_for P found r r.kind
 
 -- ---- what a report needs
 
--- whether there is a site, and it is this one
+-- Whether there is a site, and it is this one.
 abbrev pub is_site : Option Site → Site → Bool
 is_site None s = false
 is_site (Some t) s = same_site s t
 
--- whether a report that is repaired at a level needs a flush after a site
+-- Whether a report that is repaired at a level needs a flush after a site.
 abbrev pub asks_flush : Kind → ℕ → List Site → Site → Bool
 asks_flush MissingFence level path s = false
 asks_flush MissingFlush level path s = nat_eq level 0 && is_site (slice_get path 0) s
 asks_flush MissingBoth level path s = nat_eq level 0 && is_site (slice_get path 0) s
 
--- whether it needs a fence after the site: after the flush that the report names, if only the fence is missing; after
--- the store at level 0, if both are missing
+-- Whether it needs a fence after the site: after the flush that the report names, if only the fence is missing; after
+-- the store at level 0, if both are missing.
 abbrev pub asks_fence : Kind → ℕ → Option Site → List Site → Site → Bool
 asks_fence MissingFence level flush path s = is_site flush s
 asks_fence MissingFlush level flush path s = false
 asks_fence MissingBoth level flush path s = nat_eq level 0 && is_site (slice_get path 0) s
 
--- whether it needs the call at the site hoisted: the call of that level on the path, if a flush is missing and the
--- level is not 0
+-- Whether it needs the call at the site hoisted: the call of that level on the path, if a flush is missing and the
+-- level is not 0.
 abbrev pub asks_hoist : Kind → ℕ → List Site → Site → Bool
 asks_hoist MissingFence level path s = false
 asks_hoist MissingFlush zero path s = false
@@ -82,19 +82,19 @@ asks_hoist MissingFlush (suc level) path s = is_site (slice_get path (suc level)
 asks_hoist MissingBoth zero path s = false
 asks_hoist MissingBoth (suc level) path s = is_site (slice_get path (suc level)) s
 
--- some report, repaired at its own level, needs a flush after the site
+-- Some report, repaired at its own level, needs a flush after the site.
 abbrev pub wants_flush : Program → Findings → Site → Bool
 wants_flush P found s = list_any (λ r. asks_flush r.kind (choice P found r) r.path s) found.reports
 
--- some report, repaired at its own level, needs a fence after the site, which is the flush that it names or its store
+-- Some report, repaired at its own level, needs a fence after the site, which is the flush that it names or its store.
 abbrev pub wants_fence : Program → Findings → Site → Bool
 wants_fence P found s = list_any (λ r. asks_fence r.kind (choice P found r) r.flush_site r.path s) found.reports
 
--- some report, repaired at its own level, needs the call at the site hoisted
+-- Some report, repaired at its own level, needs the call at the site hoisted.
 abbrev pub wants_hoist : Program → Findings → Site → Bool
 wants_hoist P found s = list_any (λ r. asks_hoist r.kind (choice P found r) r.path s) found.reports
 
--- the plan: in each list the sites that some report needs there, in the program's order
+-- The plan: in each list the sites that some report needs there, in the program's order.
 abbrev pub plan_for : Program → Findings → Plan
 plan_for P found =
     record {
@@ -103,7 +103,7 @@ plan_for P found =
       hoist = filter (wants_hoist P found) (sites_of P);
     }
 
--- the first plan has each site of the second
+-- The first plan has each site of the second.
 pub record Contains (plan part : Plan) : Type 0 where
   pub flush_after : (s : Site) → has_site part.flush_after s ≡ true → has_site plan.flush_after s ≡ true
   pub fence_after : (s : Site) → has_site part.fence_after s ≡ true → has_site plan.fence_after s ≡ true

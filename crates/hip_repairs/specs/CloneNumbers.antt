@@ -8,12 +8,12 @@ use Rattle.hip_repairs.specs.declared.plan.CloneOf.{CloneOf}
 use Rattle.hip_repairs.specs.declared.plan.Plan.{Plan}
 use Rattle.hip_repairs.specs.Repaired.{wanted_by, clones_of, cloned, repaired, repaired_function}
 
--- pairs of these functions and their clones, which are numbered from a number on
+-- Pairs of these functions and their clones, which are numbered from a number on.
 abbrev pub numbered_from : ℕ → List ℕ → List CloneOf
 numbered_from copy [] = []
 numbered_from copy (f ∷ fs) = record { original = f; copy = copy } ∷ numbered_from (suc copy) fs
 
--- the clones of a plan come after all functions of the program
+-- The clones of a plan come after all functions of the program.
 abbrev pub clone_numbers : Program → Plan → List CloneOf
 clone_numbers P plan = numbered_from (length P.functions) (cloned P plan)
 

@@ -7,7 +7,7 @@ use Rattle.hip_tree.specs.declared.program.Function.{Function}
 use Rattle.hip_tree.specs.declared.program.Program.{Program}
 use Rattle.hip_runs.specs.Actions.{is_turn}
 
--- the two instructions are the same, except for the function that a call names
+-- The two instructions are the same, except for the function that a call names.
 abbrev pub IsSameButCallee : Instr → Instr → Type 0
 IsSameButCallee (Call dest ret callee args) i' = (other : List ℕ) × (i' ≡ Call dest ret other args)
 IsSameButCallee i i' = i' ≡ i
@@ -21,14 +21,14 @@ pub data HasInserted : List Instr → List Instr → Type 0 where
   inserted : {is is' : List Instr} (i' : Instr) → is_turn i' ≡ false → HasInserted is is' →
       HasInserted is (i' ∷ is')
 
--- the two blocks are the same, except for the inserted instructions of the second and the functions that calls name
+-- The two blocks are the same, except for the inserted instructions of the second and the functions that calls name.
 pub record IsCopy (b b' : Block) : Type 0 where
   pub label : b'.label ≡ b.label
   pub phis : b'.phis ≡ b.phis
   pub body : HasInserted b.body b'.body
   pub end : b'.end ≡ b.end
 
--- both lists have as many blocks, and each block of the second is a copy of the one at its place
+-- Both lists have as many blocks, and each block of the second is a copy of the one at its place.
 abbrev pub AreCopies : List Block → List Block → Type 0
 AreCopies [] [] = Unit {0}
 AreCopies (b ∷ bs) (b' ∷ bs') = IsCopy b b' × AreCopies bs bs'

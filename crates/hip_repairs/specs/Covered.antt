@@ -21,28 +21,28 @@ use Rattle.hip_repairs.specs.declared.plan.Plan.{Plan}
 use Rattle.hip_repairs.specs.Clones.{IsClone}
 use Rattle.hip_repairs.specs.Repaired.{wanted_by, clones_of, cloned, repaired, repaired_body}
 
--- one of LLVM's intrinsics for SFENCE and MFENCE (Intel's manual); libpmem's functions that fence are not among them
+-- One of LLVM's intrinsics for SFENCE and MFENCE (Intel's manual); libpmem's functions that fence are not among them.
 abbrev pub is_fence : Option ExternCall → Type 0
 is_fence (Some calls.Sfence) = Unit {0}
 is_fence (Some calls.Mfence) = Unit {0}
 is_fence _ = ⊥
 
--- the instruction is there, and is a call of one of these two intrinsics
+-- The instruction is there, and is a call of one of these two intrinsics.
 abbrev pub IsFenceCall : Option Instr → Type 0
 IsFenceCall (Some (Call dest ret callee args)) = is_fence (call_of callee)
 IsFenceCall _ = ⊥
 
--- the instruction is there, and is a call of function g of the program
+-- The instruction is there, and is a call of function g of the program.
 abbrev pub IsCallOf : Program → ℕ → Option Instr → Type 0
 IsCallOf P g (Some (Call dest ret callee args)) = function_number P callee ≡ Some g
 IsCallOf P g _ = ⊥
 
--- the function has this number or a greater one
+-- The function has this number or a greater one.
 abbrev pub is_numbered_from : ℕ → Option ℕ → Type 0
 is_numbered_from functions None = ⊥
 is_numbered_from functions (Some f) = functions ≤ f
 
--- the instruction is there, and is a call of a function of Q with this number or a greater one
+-- The instruction is there, and is a call of a function of Q with this number or a greater one.
 abbrev pub IsCallFrom : Program → ℕ → Option Instr → Type 0
 IsCallFrom Q functions (Some (Call dest ret callee args)) = is_numbered_from functions (function_number Q callee)
 IsCallFrom Q functions _ = ⊥
@@ -59,7 +59,7 @@ pub record IsAfterCloneCall (Q : Program) (functions : ℕ) (s : State) : Type 0
   pub call : IsCallFrom Q functions (slice_get (body_at Q frame.function frame.block) at)
   pub fence : IsFenceCall (slice_get (body_at Q frame.function frame.block) (suc at))
 
--- j is the last step before n with as many frames as n
+-- j is the last step before n with as many frames as n.
 pub record IsLastBefore (Q : Program) (I : Input) (j n : ℕ) : Type 0 where
   pub before : j < n
   pub same : length (run Q I j).frames ≡ length (run Q I n).frames
@@ -108,14 +108,14 @@ pub record IsCovered (P Q : Program) : Type 0 where
 
 -- ---- the fence after a hoisted call
 
--- where the instruction at a site of the program stands in the repaired body of its function, or in that of the
--- function's clone: after the repaired body of the instructions before it
+-- Where the instruction at a site of the program stands in the repaired body of its function, or in that of the
+-- function's clone: after the repaired body of the instructions before it.
 abbrev pub repaired_place : Program → Plan → (Site → Bool) → Bool → Site → ℕ
 repaired_place P plan skip clone s =
     length (repaired_body (clones_of P plan) (wanted_by plan skip) clone s.function s.block 0
     (take s.index (body_at P s.function s.block)))
 
--- a call of function g is at that place of the block, and a fence directly after it
+-- A call of function g is at that place of the block, and a fence directly after it.
 pub record IsFenced (Q : Program) (g f b place : ℕ) : Type 0 where
   pub call : IsCallOf Q g (slice_get (body_at Q f b) place)
   pub fence : IsFenceCall (slice_get (body_at Q f b) (suc place))
@@ -129,7 +129,7 @@ pub record IsHoisted (P : Program) (plan : Plan) (skip : Site → Bool) (s : Sit
   pub cloned : (c : ℕ) → slice_get (cloned P plan) c ≡ Some s.function →
       IsFenced (repaired P plan skip) clone (length P.functions + c) s.block (repaired_place P plan skip true s)
 
--- each hoisted call of a defined function has become such a call
+-- Each hoisted call of a defined function has become such a call.
 abbrev pub AreHoistsFenced : Program → Plan → (Site → Bool) → Type 0
 AreHoistsFenced P plan skip =
     (s : Site) (dest : Option (List ℕ)) (ret : Option Scalar) (callee : List ℕ) (args : List Arg) (g : ℕ) →

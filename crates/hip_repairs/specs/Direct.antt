@@ -17,31 +17,31 @@ use Rattle.hip_tree.specs.declared.program.Program.{Program}
 use Rattle.hip_tree.specs.declared.site.Site.{Site}
 use Rattle.hip_runs.specs.Places.{blocks_of}
 
--- the instruction is an `alloca` that assigns the register
+-- The instruction is an `alloca` that assigns the register.
 abbrev pub allocates : List ℕ → Instr → Bool
 allocates name (Alloca dest ty align) = bytes_eq dest name
 allocates name _ = false
 
--- an `alloca` of these blocks assigns the register
+-- An `alloca` of these blocks assigns the register.
 abbrev pub allocates_in : List Block → List ℕ → Bool
 allocates_in blocks name = list_any (λ b. list_any (allocates name) b.body) blocks
 
--- a global of that name is volatile; in a sound program at most one global has the name
+-- A global of that name is volatile; in a sound program at most one global has the name.
 abbrev pub is_volatile_global : List GlobalVar → List ℕ → Bool
 is_volatile_global globals name = list_any (λ g. bytes_eq g.name name && not g.persistent) globals
 
--- the constant is the name of a volatile global; a `getelementptr` does not count
+-- The constant is the name of a volatile global; a `getelementptr` does not count.
 abbrev pub names_volatile : List GlobalVar → Const-F Const ConstGep TypedConst → Bool
 names_volatile globals (Const-F.Address name) = is_volatile_global globals name
 names_volatile globals _ = false
 
--- the operand alone shows that the address is never in the region: it is a register that an `alloca` of these blocks
--- assigns, or the name of a volatile global
+-- The operand alone shows that the address is never in the region: it is a register that an `alloca` of these blocks
+-- assigns, or the name of a volatile global.
 abbrev pub is_outside : Program → List Block → Operand → Bool
 is_outside P blocks (Reg name) = allocates_in blocks name
 is_outside P blocks (Fixed value) = names_volatile P.globals (out-Const value)
 
--- the instruction is there, and is a store whose address operand shows this
+-- The instruction is there, and is a store whose address operand shows this.
 abbrev pub stores_outside : Program → List Block → Option Instr → Bool
 stores_outside P blocks (Some (Store ty value addr align)) = is_outside P blocks addr
 stores_outside P blocks _ = false

@@ -15,33 +15,33 @@ use Rattle.hip_repairs.specs.Repaired.{Marked, Clone, Wanted, wanted_by, clones_
 
 -- ---- corresponding steps
 
--- the marked body of the block of function f, or of its clone
+-- The marked body of the block of function f, or of its clone.
 abbrev pub marked_body : Program → List Clone → Wanted → Bool → ℕ → ℕ → List Marked
 marked_body P clones w clone f b = repaired_body clones w clone f b 0 (body_at P f b)
 
--- the marked body of a block of the clone that was made of this function; no instructions if there is no such clone
+-- The marked body of a block of the clone that was made of this function; no instructions if there is no such clone.
 abbrev marked_clone : Program → List Clone → Wanted → Option ℕ → ℕ → List Marked
 marked_clone P clones w None b = []
 marked_clone P clones w (Some f) b = marked_body P clones w true f b
 
--- the marked body of a block of the repaired program, whose clones follow all functions
+-- The marked body of a block of the repaired program, whose clones follow all functions.
 abbrev pub marked_at : Program → Plan → (Site → Bool) → ℕ → ℕ → List Marked
 marked_at P plan skip f b =
     cond (nat_lt f (length P.functions)) (marked_body P (clones_of P plan) (wanted_by plan skip) false f b)
     (marked_clone P (clones_of P plan) (wanted_by plan skip) (slice_get (cloned P plan) (f - length P.functions)) b)
 
--- whether the first of these instructions is inserted; false at the end of a block, where there is none
+-- Whether the first of these instructions is inserted; false at the end of a block, where there is none.
 abbrev pub is_inserted : List Marked → Bool
 is_inserted [] = false
 is_inserted (m ∷ ms) = m.1
 
--- whether the top frame stands at an inserted instruction; false once the run has ended, and where no frame stands
+-- Whether the top frame stands at an inserted instruction; false once the run has ended, and where no frame stands.
 abbrev pub inserted_on : Program → Plan → (Site → Bool) → Option Ending → List Frame → Bool
 inserted_on P plan skip (Some e) fs = false
 inserted_on P plan skip None [] = false
 inserted_on P plan skip None (f ∷ fs) = is_inserted (drop f.place (marked_at P plan skip f.function f.block))
 
--- a state of the repaired program stands at an inserted instruction
+-- A state of the repaired program stands at an inserted instruction.
 abbrev pub stands_inserted : Program → Plan → (Site → Bool) → State → Bool
 stands_inserted P plan skip s = inserted_on P plan skip s.world.ending s.frames
 
@@ -55,21 +55,21 @@ matched P plan skip I (suc n) =
 
 -- ---- what is the same
 
--- the offset and the bytes of a part of a store
+-- The offset and the bytes of a part of a store.
 pub record Content : Type 0 where
   pub offset : ℕ
   pub bytes : List ℕ
 
--- the parts of a cache line, with only their offsets in the region and their bytes
+-- The parts of a cache line, with only their offsets in the region and their bytes.
 abbrev pub contents : Line StorePart → List Content
 contents l = map (λ p. record { offset = p.offset; bytes = p.bytes }) l.parts
 
--- the address and the size of a block on the stack
+-- The address and the size of a block on the stack.
 pub record Extent : Type 0 where
   pub addr : ℕ
   pub size : ℕ
 
--- the blocks on the stack, with only their addresses and sizes: a repair may move the site of an `alloca`
+-- The blocks on the stack, with only their addresses and sizes: a repair may move the site of an `alloca`.
 abbrev pub extents : List Slot → List Extent
 extents slots = map (λ s. record { addr = s.addr; size = s.size }) slots
 
@@ -82,7 +82,7 @@ pub record SameFrame (functions : ℕ) (copied : List ℕ) (f f' : Frame) : Type
   pub mark : f'.mark ≡ f.mark
   pub slots : extents f'.slots ≡ extents f.slots
 
--- both lists have as many frames, and each frame is the same as the one at its place
+-- Both lists have as many frames, and each frame is the same as the one at its place.
 abbrev pub SameFrames : ℕ → List ℕ → List Frame → List Frame → Type 0
 SameFrames functions copied [] [] = Unit {0}
 SameFrames functions copied (f ∷ fs) (f' ∷ fs') = SameFrame functions copied f f'

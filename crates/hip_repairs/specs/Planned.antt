@@ -8,23 +8,23 @@ use Rattle.hip_runs.specs.declared.report.Findings.{Findings}
 use Rattle.hip_repairs.specs.declared.plan.Plan.{Plan}
 use Rattle.hip_repairs.specs.Choice.{wants_flush, wants_fence, wants_hoist, plan_for}
 
--- the sites of the list are the program's sites that pass the test
+-- The sites of the list are the program's sites that pass the test.
 pub record AreSites (P : Program) (test : Site → Bool) (list : List Site) : Type 0 where
   pub has : (s : Site) → has_site (sites_of P) s ≡ true → test s ≡ true → has_site list s ≡ true
   pub site : (s : Site) → has_site list s ≡ true → has_site (sites_of P) s ≡ true
   pub asked : (s : Site) → has_site list s ≡ true → test s ≡ true
 
--- each list of the plan for what was found has the program's sites that some report needs there
+-- Each list of the plan for what was found has the program's sites that some report needs there.
 pub record IsAsked (P : Program) (found : Findings) : Type 0 where
   pub flushes : AreSites P (wants_flush P found) (plan_for P found).flush_after
   pub fences : AreSites P (wants_fence P found) (plan_for P found).fence_after
   pub hoists : AreSites P (wants_hoist P found) (plan_for P found).hoist
 
--- the program's sites that one of two lists has, in the program's order
+-- The program's sites that one of two lists has, in the program's order.
 abbrev pub either_list : Program → List Site → List Site → List Site
 either_list P xs ys = filter (λ s. has_site xs s || has_site ys s) (sites_of P)
 
--- the plan that has what one of two plans has
+-- The plan that has what one of two plans has.
 abbrev pub union : Program → Plan → Plan → Plan
 union P a b =
     record {
@@ -33,7 +33,7 @@ union P a b =
       hoist = either_list P a.hoist b.hoist;
     }
 
--- the plan names only sites of the program
+-- The plan names only sites of the program.
 pub record IsWithin (P : Program) (plan : Plan) : Type 0 where
   pub flush_after : (s : Site) → has_site plan.flush_after s ≡ true → has_site (sites_of P) s ≡ true
   pub fence_after : (s : Site) → has_site plan.fence_after s ≡ true → has_site (sites_of P) s ≡ true

@@ -9,7 +9,7 @@ use Rattle.hip_runs.specs.State.{Frame, site_of}
 use Rattle.hip_runs.specs.Step.{event, run}
 use Rattle.hip_runs.specs.Validity.{IsValid}
 
--- the event is that of a store into the region
+-- The event is that of a store into the region.
 abbrev pub stores_in_region : Event → Type 0
 stores_in_region (events.Store addr value size) = Unit {0}
 stores_in_region _ = ⊥

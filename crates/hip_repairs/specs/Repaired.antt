@@ -26,11 +26,11 @@ use Rattle.hip_repairs.specs.declared.plan.Plan.{Plan}
 
 -- ---- inserted instructions
 
--- LLVM's intrinsic for CLWB, the flush of the cache line that contains an address (Intel's manual, CLWB)
+-- LLVM's intrinsic for CLWB, the flush of the cache line that contains an address (Intel's manual, CLWB).
 abbrev pub clwb_name : List ℕ
 clwb_name = codes "llvm.x86.clwb"
 
--- LLVM's intrinsic for SFENCE, the fence that a CLWB needs after it (Intel's manual, SFENCE)
+-- LLVM's intrinsic for SFENCE, the fence that a CLWB needs after it (Intel's manual, SFENCE).
 abbrev pub sfence_name : List ℕ
 sfence_name = codes "llvm.x86.sse.sfence"
 
@@ -42,36 +42,36 @@ pmem_flush_name = codes "pmem_flush"
 abbrev pub is_wide : Scalar → Option ℕ → Bool
 is_wide ty align = nat_lt (access_align ty align) (scalar_size ty)
 
--- `call void @llvm.x86.clwb(ptr A)`
+-- `call void @llvm.x86.clwb(ptr A)`.
 abbrev pub line_flush : Operand → Instr
 line_flush addr = Call None None clwb_name (record { ty = Ptr; value = addr } ∷ [])
 
--- `call void @pmem_flush(ptr A, i64 S)`
+-- `call void @pmem_flush(ptr A, i64 S)`.
 abbrev pub range_flush : Operand → ℕ → Instr
 range_flush addr size =
     Call None None pmem_flush_name
     (record { ty = Ptr; value = addr } ∷ record { ty = Int W64; value = Fixed (consts.Int (bits W64 size)) } ∷ [])
 
--- the flush of a store: of the range of its bytes if it is wide, and else of its cache line
+-- The flush of a store: of the range of its bytes if it is wide, and else of its cache line.
 abbrev pub flush_of : Scalar → Operand → Option ℕ → Instr
 flush_of ty addr align = cond (is_wide ty align) (range_flush addr (scalar_size ty)) (line_flush addr)
 
--- `call void @llvm.x86.sse.sfence()`
+-- `call void @llvm.x86.sse.sfence()`.
 abbrev pub the_fence : Instr
 the_fence = Call None None sfence_name []
 
 -- ---- blocks
 
--- an instruction of a repaired block, and whether it is inserted
+-- An instruction of a repaired block, and whether it is inserted.
 abbrev pub Marked : Type 0
 Marked = Instr × Bool
 
--- a function that has a clone, and the clone's name
+-- A function that has a clone, and the clone's name.
 pub record Clone : Type 0 where
   pub name : List ℕ
   pub original : List ℕ
 
--- the name of the clone of a function; the function's own name if it has no clone
+-- The name of the clone of a function; the function's own name if it has no clone.
 abbrev pub clone_name : List Clone → List ℕ → List ℕ
 clone_name [] name = name
 clone_name (c ∷ cs) name = cond (bytes_eq c.original name) c.name (clone_name cs name)
@@ -82,12 +82,12 @@ renamed clones (Call dest ret callee args) to_clone =
     Call dest ret (cond to_clone (clone_name clones callee) callee) args
 renamed clones i to_clone = i
 
--- the flush after a store, if one is inserted; nothing after any other instruction
+-- The flush after a store, if one is inserted; nothing after any other instruction.
 abbrev pub added_flush : Instr → Bool → List Marked
 added_flush (Store ty value addr align) wanted = cond wanted ((flush_of ty addr align, true) ∷ []) []
 added_flush i wanted = []
 
--- the fence after an instruction, if one is inserted
+-- The fence after an instruction, if one is inserted.
 abbrev pub added_fence : Bool → List Marked
 added_fence wanted = cond wanted ((the_fence, true) ∷ []) []
 
@@ -99,7 +99,7 @@ pub record Wanted : Type 0 where
   pub hoist : Site → Bool
   pub skip : Site → Bool
 
--- where a plan inserts, by its three lists and the stores to skip
+-- Where a plan inserts, by its three lists and the stores to skip.
 abbrev pub wanted_by : Plan → (Site → Bool) → Wanted
 wanted_by plan skip =
     record {
@@ -115,8 +115,8 @@ abbrev pub inserted_after : Wanted → Bool → Site → Instr → List Marked
 inserted_after w clone s i =
     added_flush i (w.flush_after s || (clone && not (w.skip s))) ++ added_fence (w.fence_after s || w.hoist s)
 
--- the repaired body from place k on, of a function or of its clone; a hoisted call names a clone, and so does each call
--- in a clone
+-- The repaired body from place k on, of a function or of its clone; a hoisted call names a clone, and so does each call
+-- in a clone.
 abbrev pub repaired_body : List Clone → Wanted → Bool → ℕ → ℕ → ℕ → List Instr → List Marked
 repaired_body clones w clone f b k [] = []
 repaired_body clones w clone f b k (i ∷ is) =
@@ -124,11 +124,11 @@ repaired_body clones w clone f b k (i ∷ is) =
     ∷ (inserted_after w clone (record { function = f; block = b; index = k }) i
     ++ repaired_body clones w clone f b (suc k) is)
 
--- the instructions of a repaired body, without their marks
+-- The instructions of a repaired body, without their marks.
 abbrev pub instrs_of : List Marked → List Instr
 instrs_of ms = map (λ m. m.0) ms
 
--- block b of function f, or of its clone, with its repaired body; its label, its phis and its end stay
+-- Block b of function f, or of its clone, with its repaired body; its label, its phis and its end stay.
 abbrev pub repaired_block : List Clone → Wanted → Bool → ℕ → ℕ → Block → Block
 repaired_block clones w clone f b block =
     record {
@@ -138,7 +138,7 @@ repaired_block clones w clone f b block =
       end = block.end;
     }
 
--- the blocks of function f, or of its clone, the first of which has number b, each repaired
+-- The blocks of function f, or of its clone, the first of which has number b, each repaired.
 abbrev pub repaired_blocks : List Clone → Wanted → Bool → ℕ → ℕ → List Block → List Block
 repaired_blocks clones w clone f b [] = []
 repaired_blocks clones w clone f b (x ∷ xs) =
@@ -146,7 +146,7 @@ repaired_blocks clones w clone f b (x ∷ xs) =
 
 -- ---- functions
 
--- function f, or its clone, under a name
+-- Function f, or its clone, under a name.
 abbrev pub repaired_function : List Clone → Wanted → Bool → ℕ → List ℕ → Function → Function
 repaired_function clones w clone f name function =
     record {
@@ -156,79 +156,79 @@ repaired_function clones w clone f name function =
       blocks = repaired_blocks clones w clone f 0 function.blocks;
     }
 
--- functions, the first of which has number f, each repaired under its own name; no clone is among them
+-- Functions, the first of which has number f, each repaired under its own name; no clone is among them.
 abbrev pub repaired_functions : List Clone → Wanted → ℕ → List Function → List Function
 repaired_functions clones w f [] = []
 repaired_functions clones w f (x ∷ xs) =
     repaired_function clones w false f x.name x ∷ repaired_functions clones w (suc f) xs
 
--- the clone of function f under a name; nothing where there is no such function
+-- The clone of function f under a name; nothing where there is no such function.
 abbrev pub clone_in : List Clone → Wanted → ℕ → List ℕ → Option Function → List Function
 clone_in clones w f name None = []
 clone_in clones w f name (Some x) = repaired_function clones w true f name x ∷ []
 
--- the clones of the functions of these numbers, under these names
+-- The clones of the functions of these numbers, under these names.
 abbrev pub clone_functions : Program → List Clone → Wanted → List ℕ → List (List ℕ) → List Function
 clone_functions P clones w (f ∷ fs) (name ∷ names) =
     clone_in clones w f name (slice_get P.functions f) ++ clone_functions P clones w fs names
 clone_functions P clones w _ _ = []
 
--- the numbers of the functions that are cloned: those that calls reach from the callees of hoisted calls
+-- The numbers of the functions that are cloned: those that calls reach from the callees of hoisted calls.
 abbrev pub cloned : Program → Plan → List ℕ
 cloned P plan = callees P plan.hoist
 
--- these functions by their names, each with the name of its clone, as far as both lists go
+-- These functions by their names, each with the name of its clone, as far as both lists go.
 abbrev pub clones_from : Program → List ℕ → List (List ℕ) → List Clone
 clones_from P (f ∷ fs) (name ∷ names) = record { name = name; original = name_of P f } ∷ clones_from P fs names
 clones_from P _ _ = []
 
--- the functions that a plan clones, each with a fresh name for its clone
+-- The functions that a plan clones, each with a fresh name for its clone.
 abbrev pub clones_of : Program → Plan → List Clone
 clones_of P plan = clones_from P (cloned P plan) (fresh_names P (cloned P plan))
 
 -- ---- declarations
 
--- the instruction is a call of the function of that name
+-- The instruction is a call of the function of that name.
 abbrev pub is_call_of : List ℕ → Instr → Bool
 is_call_of name (Call dest ret callee args) = bytes_eq callee name
 is_call_of name _ = false
 
--- whether an instruction of a body is inserted, and calls that function
+-- Whether an instruction of a body is inserted, and calls that function.
 abbrev pub inserts : List ℕ → List Marked → Bool
 inserts name ms = list_any (λ m. m.1 && is_call_of name m.0) ms
 
--- whether a call of that function is inserted in these blocks of function f, or of its clone; the first block has
--- number b
+-- Whether a call of that function is inserted in these blocks of function f, or of its clone; the first block has
+-- number b.
 abbrev pub inserts_in : List ℕ → List Clone → Wanted → Bool → ℕ → ℕ → List Block → Bool
 inserts_in name clones w clone f b [] = false
 inserts_in name clones w clone f b (x ∷ xs) =
     inserts name (repaired_body clones w clone f b 0 x.body) || inserts_in name clones w clone f (suc b) xs
 
--- whether one is inserted in these functions, the first of which has number f; their clones do not count
+-- Whether one is inserted in these functions, the first of which has number f; their clones do not count.
 abbrev pub inserts_from : List ℕ → List Clone → Wanted → ℕ → List Function → Bool
 inserts_from name clones w f [] = false
 inserts_from name clones w f (x ∷ xs) =
     inserts_in name clones w false f 0 x.blocks || inserts_from name clones w (suc f) xs
 
--- whether one is inserted in the clone of function f; false if there is no such function
+-- Whether one is inserted in the clone of function f; false if there is no such function.
 abbrev pub inserts_cloned : List ℕ → List Clone → Wanted → ℕ → Option Function → Bool
 inserts_cloned name clones w f None = false
 inserts_cloned name clones w f (Some x) = inserts_in name clones w true f 0 x.blocks
 
--- whether some inserted call names that function
+-- Whether some inserted call names that function.
 abbrev pub needs : Program → Plan → Wanted → List ℕ → Bool
 needs P plan w name =
     inserts_from name (clones_of P plan) w 0 P.functions
     || list_any (λ f. inserts_cloned name (clones_of P plan) w f (slice_get P.functions f)) (cloned P plan)
 
--- the declaration of a function without a result, if it is needed and none of these declarations has its name; else
--- nothing
+-- The declaration of a function without a result, if it is needed and none of these declarations has its name; else
+-- nothing.
 abbrev pub declared_if : Bool → List Extern → List ℕ → List Scalar → List Extern
 declared_if wanted externs name params =
     cond (wanted && not (is_among (map (λ e. e.name) externs) name))
     (record { ret = None; name = name; params = params } ∷ []) []
 
--- the declarations that inserted calls need and that are absent
+-- The declarations that inserted calls need and that are absent.
 abbrev pub added_externs : Program → Plan → Wanted → List Extern
 added_externs P plan w =
     declared_if (needs P plan w clwb_name) P.externs clwb_name (Ptr ∷ [])

@@ -6,19 +6,19 @@ use Rattle.hip_tree.specs.declared.site.Site.{Site}
 use Rattle.hip_runs.specs.Sites.{is_store, is_flush_call, is_defined_call}
 use Rattle.hip_repairs.specs.declared.plan.Plan.{Plan}
 
--- sites are ordered by function, block and index
+-- Sites are ordered by function, block and index.
 abbrev pub site_before : Site → Site → Bool
 site_before a b =
     nat_lt a.function b.function
     || (nat_eq a.function b.function && (nat_lt a.block b.block || (nat_eq a.block b.block && nat_lt a.index b.index)))
 
--- the order of sites is strict, and of two different sites one is before the other
+-- The order of sites is strict, and of two different sites one is before the other.
 pub record IsStrictOrder : Type 0 where
   pub apart : (a : Site) → site_before a a ≡ false
   pub trans : (a b c : Site) → site_before a b ≡ true → site_before b c ≡ true → site_before a c ≡ true
   pub total : (a b : Site) → (site_before a b ≡ true) ⊎ ((a ≡ b) ⊎ (site_before b a ≡ true))
 
--- each site is before the next one, so no site is there twice; an empty list and one of a single site ascend
+-- Each site is before the next one, so no site is there twice; an empty list and one of a single site ascend.
 abbrev pub is_ascending : List Site → Bool
 is_ascending [] = true
 is_ascending (a ∷ []) = true
@@ -35,6 +35,6 @@ pub record IsSuiting (P : Program) (plan : Plan) : Type 0 where
   pub fences_ascend : is_ascending plan.fence_after ≡ true
   pub hoists_ascend : is_ascending plan.hoist ≡ true
 
--- the plan that repairs nothing
+-- The plan that repairs nothing.
 abbrev pub no_repairs : Plan
 no_repairs = record { flush_after = []; fence_after = []; hoist = [] }

@@ -61,7 +61,7 @@ pub if_ok : {A B : Type 0} (Q : A → Type 0) (R S : Type 0) (r : Result A B) �
 if_ok Q R S (Ok x) h k f = f x h k
 if_ok Q R S (Err e) h k f = h
 
--- a machine in the same run
+-- A machine in the same run.
 pub record IsInRun (m m' : Seen) : Type 0 where
   pub program : m'.program ≡ m.program
   pub input : m'.input ≡ m.input

@@ -19,7 +19,7 @@ pub record Looked (P : Program) (I : Input) (n : ℕ) (c : Notes) : Type 0 where
   pub noted : AreNoted P I n c
   pub calls : needs_calls (event P I (run P I n)) ≡ true → c.calls ≡ levels_of (run P I n).frames
 
--- the calls that stand after a step that needs them stood before it
+-- The calls that stand after a step that needs them stood before it.
 pub looked_before : (m : Seen) {e : Event} → e ≡ event m.program m.input (run m.program m.input (m.taken - 1)) → suc (m.taken - 1) ≡ m.taken → (c c' : Notes) → AreNoted m.program m.input (m.taken - 1) c
     → LooksAt e m c c' → Looked m.program m.input (m.taken - 1) c'
 looked_before m {e} seen next c c' h l = record { noted = looked_at P I n c c' h (stood (needs_calls e) refl) l.rest; calls = calls }

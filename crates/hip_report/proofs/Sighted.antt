@@ -17,11 +17,11 @@ use Rattle.hip_notes.proofs.MarksAhead.{all_before, next_is, next_to}
 use Rattle.hip_notes.proofs.MarksAtHand.{more_alike}
 
 module _ (P : Program) (I : Input) (s : State) (site : Site) where
-  -- where no pointer is left, the marks are those of the next instruction
+  -- Where no pointer is left, the marks are those of the next instruction.
   pub all_marked : (before new : List Mark) (k : ℕ) → next_site P s ≡ Some site → pointer_of P I s k ≡ None → AddAlike before new (marks_to P I s site k) → AddAlike before new (marks_ahead P I s)
   all_marked before new k there none so_far = so_far ∙ ap (met same_mark before) (all_before P I s site (next_is P s site there) k none)
 
-  -- one pointer more
+  -- One pointer more.
   pub one_marked : (before old new : List Mark) (k a : ℕ) → pointer_of P I s k ≡ Some a → AddAlike before old (marks_to P I s site k) → AddAlike before new (old ++ mark_by P I s site k (Some a))
       → AddAlike before new (marks_to P I s site (k + 1))
   one_marked before old new k a is so_far added =
@@ -29,7 +29,7 @@ module _ (P : Program) (I : Input) (s : State) (site : Site) where
       ∙ more_alike before old (marks_to P I s site k) (mark_at P I s site k) so_far
       ∙ ap (λ (ms : List Mark). met same_mark before ms) (next_to P I s site k)
 
--- what is so where the run goes on is so unless the step ends it
+-- What is so where the run goes on is so unless the step ends it.
 unless_going : (e : Event) (before these those : List Mark) → (goes_on e ≡ true → AddAlike before these those) → AddUnlessEnded e before these those
 unless_going (events.End x) before these those h = refl
 unless_going events.Quiet before these those h = h refl
@@ -40,7 +40,7 @@ unless_going (events.Persist l s) before these those h = h refl
 unless_going events.Fence before these those h = h refl
 unless_going (events.Assert a m) before these those h = h refl
 
--- a store has one mark
+-- A store has one mark.
 pub store_marked : (m : Seen) (site : Site) (a : ℕ) (before new : List Mark) → next_site m.program (state_of m) ≡ Some site → PointsTo m a
     → AddAlike before new (mark_by m.program m.input (state_of m) site 0 (Some a)) → AddUnlessEnded (next_event m) before new (marks_ahead m.program m.input (state_of m))
 store_marked m site a before new there points added = unless_going (next_event m) before new (marks_ahead m.program m.input (state_of m)) (λ on.

@@ -22,7 +22,7 @@ has_taken m m' e c sight step going h =
     (subst (λ t. HasTaken (record m { taken = cond t m.taken (suc m.taken) }) e c sight) (sym going)
     (omega arith, subst (λ i. StandsBefore m.program m.input i e c sight) (sym back) h))
 
--- where the run goes on, the machine has taken a step
+-- Where the run goes on, the machine has taken a step.
 pub taken_by : (m : Seen) (e : Event) (c : Notes) (sight : Sight) → HasStepped m e c sight → sight.ended ≡ false → HasTaken m e c sight
 taken_by m e c sight h on =
     let going = sym h.sees.ended ∙ on in
@@ -34,7 +34,7 @@ taken_by m e c sight h on =
       sees = h.sees;
     })
 
--- where the run has ended, the notes stay
+-- Where the run has ended, the notes stay.
 pub stays_noted : (m : Seen) (e : Event) (c : Notes) (sight : Sight) → HasStepped m e c sight → sight.ended ≡ true → AreNoted m.program m.input m.taken c
 stays_noted m e c sight h off =
     let ended = sym h.sees.ended ∙ off in
@@ -59,7 +59,7 @@ no_slot_at (f ∷ fs) a g e = go (λ q. no_slot_at fs a g q) (slot_in f.slots a)
     go rest None q e = rest e
     go rest (Some x) q e = no_slot f.slots a g (q ∙ e)
 
--- the object at an address is a global where the address lies in it
+-- The object at an address is a global where the address lies in it.
 pub the_global : (P : Program) (base a : ℕ) (fs : List Frame) → global_of (object_at P base fs a) ≡ global_at P base a
 the_global P base a fs = by (global_at P base a)
   where

@@ -4,7 +4,7 @@ use Rattle.hip_report.specs.Tracking.{HasNoted, Tracked}
 use Rattle.hip_runs.specs.Step.{has_ended}
 use Rattle.hip_runs.specs.Seen.{Seen, state_of}
 
--- the same run has ended, and all its steps were noted
+-- The same run has ended, and all its steps were noted.
 pub record IsOver (m m' : Seen) (t t' : Tracked) : Type 0 where
   pub program : m'.program ≡ m.program
   pub input : m'.input ≡ m.input

@@ -9,7 +9,7 @@ use Rattle.hip_runs.specs.declared.input.Input.{Input}
 use Rattle.hip_notes.specs.Sights.{needs_calls}
 use Rattle.hip_notes.specs.declared.notes.Notes.{Notes}
 
--- the calls that stand in a machine, the innermost one first
+-- The calls that stand in a machine, the innermost one first.
 abbrev pub standing : Seen → List Level
 standing m = levels_of (state_of m).frames
 

@@ -28,12 +28,12 @@ pub record Tracks (m : Seen) (c : Notes) : Type 0 where
 
 -- ---- what is seen before a step
 
--- the number of the global, if the object is one
+-- The number of the global, if the object is one.
 abbrev pub global_of : Option Object → Option ℕ
 global_of (Some (objects.Global g)) = Some g
 global_of _ = None
 
--- the object of a target, if there is one, is the global at its address
+-- The object of a target, if there is one, is the global at its address.
 abbrev pub TellsGlobal : Program → Input → Option Target → Type 0
 TellsGlobal P I None = Unit {0}
 TellsGlobal P I (Some t) = global_of t.object ≡ global_at P I.base t.addr

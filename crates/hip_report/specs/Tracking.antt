@@ -16,7 +16,7 @@ pub record Tracked : Type 0 where
   pub noted : Option Seen
   pub failed : Bool
 
--- each step that the machine took was noted, where `noted` is the machine after the last noted step
+-- Each step that the machine took was noted, where `noted` is the machine after the last noted step.
 abbrev pub notes_all : Option Seen → Seen → Type 0
 notes_all None m = m.taken ≡ 0
 notes_all (Some s) m = s ≡ m
@@ -32,22 +32,22 @@ MayAdvance t m = (t.failed ≡ true) ⊎ HasNoted t m
 
 -- ---- the inside
 
--- the machine of a source after n steps; none where there is no source yet
+-- The machine of a source after n steps; none where there is no source yet.
 abbrev pub seen_in : Option Source → ℕ → Option Seen
 seen_in None n = None
 seen_in (Some s) n = Some (record { program = s.checked.now; input = s.input.now; taken = n })
 
--- what contracts see of a tracker: the entries of its header, the machine that it noted, and whether it ran out of
--- memory
+-- What contracts see of a tracker: the entries of its header, the machine that it noted, and whether it ran out of
+-- memory.
 abbrev pub tracked_of : Inside → Tracked
 tracked_of t = record { header = t.notes.header; noted = seen_in t.source t.notes.steps; failed = t.failed }
 
--- the notes are those of the noted run, or of the first state of any run
+-- The notes are those of the noted run, or of the first state of any run.
 abbrev pub NotesOf : Option Source → Notes → Type 0
 NotesOf None c = (P : Program) → (I : Input) → AreNoted P I 0 c
 NotesOf (Some s) c = AreNoted s.checked.now s.input.now c.steps c × (longest s.checked.now < 2 ^ 64)
 
--- the source is the program and the input of the machine
+-- The source is the program and the input of the machine.
 abbrev pub IsSource : Option Source → Seen → Type 0
 IsSource None m = ⊥
 IsSource (Some s) m = (s.checked.now ≡ m.program) × (s.input.now ≡ m.input)

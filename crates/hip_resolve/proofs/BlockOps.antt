@@ -27,7 +27,7 @@ known_at s d b block h k i e = instr_known s.program.now d.sound s.number b s.fu
 
 -- ---- places
 
--- a block begins after the end of the one before it
+-- A block begins after the end of the one before it.
 pub next_block : (s : Scope) → Describes s → (b : ℕ) (block : Block) → block_at s.program.now s.number b ≡ Some block → entry s.program.now s.number (b + 1) ≡ entry s.program.now s.number b + length block.body + 1
 next_block s d b block h =
     let at = is_at s d b block h in
@@ -39,7 +39,7 @@ next_block s d b block h =
 
 -- ---- the slots that calls keep
 
--- a call that keeps fewer slots does the same
+-- A call that keeps fewer slots does the same.
 pub does_kept : (P : Program) (base f : ℕ) (t : Tables) (frame : ℕ) (o : Op) (i : Instr) → frame ≤ length (names_at P f) → Does P base f t o i → Does P base f t (with_frame frame o) i
 does_kept P base f t frame (ops.Value dest value) i few d = d
 does_kept P base f t frame (ops.Memory memory) i few d = d

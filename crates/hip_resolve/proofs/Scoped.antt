@@ -58,7 +58,7 @@ names_map : {A : Type 0} (f : A → Register) (xs : List A) → names_of (map f 
 names_map f [] = refl
 names_map f (x ∷ xs) = ap (λ ns. (f x).name ∷ ns) (names_map f xs)
 
--- the registers of a block: those of its phis, then those of its body
+-- The registers of a block: those of its phis, then those of its body.
 pub block_met : (names : List (List ℕ)) (b : Block) →
     met bytes_eq (met bytes_eq names (map (λ p. p.dest) b.phis)) (flat_map (λ i. names_of (assigned_by i)) b.body) ≡ met bytes_eq names (names_of (block_registers b))
 block_met names b =
@@ -67,7 +67,7 @@ block_met names b =
     ∙ ap (λ ns. met bytes_eq names (names_of (phi_registers b.phis) ++ ns)) (sym (names_each assigned_by b.body))
     ∙ ap (met bytes_eq names) (sym (names_both (phi_registers b.phis) (body_registers b.body)))
 
--- the registers of a function: the parameters, then those of its blocks
+-- The registers of a function: the parameters, then those of its blocks.
 pub function_met : (fn : Function) → AllDiffer (register_names fn) →
     met bytes_eq (met bytes_eq [] (map (λ p. p.name) fn.params)) (flat_map (λ b. names_of (block_registers b)) fn.blocks) ≡ register_names fn
 function_met fn d =

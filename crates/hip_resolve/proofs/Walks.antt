@@ -36,7 +36,7 @@ named_lower {labels} {named} {low} less l le = record { at = λ label c h e. let
 pub named_more : {labels xs ys : List (List ℕ)} {low : ℕ} → LeadsNoLower labels xs low → LeadsNoLower labels ys low → LeadsNoLower labels (xs ++ ys) low
 named_more {labels} {xs} {ys} {low} a b = record { at = λ label c h e. ⊎_elim (λ l. a.at label c l e) (λ r. b.at label c r e) (among-either xs ys label h) }
 
--- the labels of the first cases, and of one more
+-- The labels of the first cases, and of one more.
 pub case_taken : (cases : List Case) (k : ℕ) (x : Case) → k < length cases → x ≡ get_or cases k x →
     map (λ (c : Case). c.label) (take (k + 1) cases) ≡ map (λ (c : Case). c.label) (take k cases) ++ x.label ∷ []
 case_taken cases k x lt is = ap (λ n. map (λ (c : Case). c.label) (take n cases)) (add-one k) ∙ go cases k lt is
@@ -48,7 +48,7 @@ case_taken cases k x lt is = ap (λ n. map (λ (c : Case). c.label) (take n case
 
 -- ---- slots
 
--- an instruction assigns one register at most
+-- An instruction assigns one register at most.
 pub one_assigned : (i : Instr) → length (assigned_by i) ≤ 1
 one_assigned (Binary dest op flags width a b) = omega arith
 one_assigned (Compare dest pred ty a b) = omega arith
@@ -84,7 +84,7 @@ module _ (fn : Function) where
       let r = slots_next bs b block e in
       omega (arith, l, m, r)
 
-  -- the slots up to the end of a block
+  -- The slots up to the end of a block.
   pub slots_on : (b : ℕ) (block : Block) → slice_get fn.blocks b ≡ Some block → slots_to fn (suc b) ≡ slots_to fn b + length (block_registers block)
   slots_on b block e = let r = slots_next fn.blocks b block e in omega (arith, r)
 
@@ -108,7 +108,7 @@ module _ (fn : Function) where
   take_whole [] = refl
   take_whole (x ∷ xs) = ap (λ ys. x ∷ ys) (take_whole xs)
 
-  -- all slots are those of the registers
+  -- All slots are those of the registers.
   pub slots_all : length (register_names fn) ≡ slots_to fn (length fn.blocks)
   slots_all =
       let m = length-map (parameter_registers fn ++ flat_map block_registers fn.blocks) (λ (r : Register). r.name) in
@@ -118,8 +118,8 @@ module _ (fn : Function) where
 
   -- ---- the walk
 
-  -- The blocks from `at` on have extents. `lowest` is not above any of the other blocks to which they lead, and `extent`
-  -- is the least of theirs.
+  -- The blocks from `at` on have extents. `lowest` is not above any of the other blocks to which they lead, and
+  -- `extent` is the least of theirs.
   pub record Walked (extents : List ℕ) (at lowest extent : ℕ) : Type 0 where
     pub own : (b : ℕ) → at ≤ b → b < length fn.blocks → slots_to fn (suc b) ≤ slice_index extents b
     pub few : (b : ℕ) → at ≤ b → b < length fn.blocks → slice_index extents b ≤ slots_to fn (length fn.blocks)
@@ -154,7 +154,7 @@ module _ (fn : Function) where
     bounded = omega arith;
   }
 
-  -- no block to which a block leads is below the lowest one that its end names
+  -- No block to which a block leads is below the lowest one that its end names.
   pub leads_no_lower : (labels : List (List ℕ)) (d c low : ℕ) (block : Block) → labels ≡ map (λ b. b.label) fn.blocks → slice_get fn.blocks d ≡ Some block → LeadsNoLower labels (end_labels block.end) low → LeadsTo fn d c → low ≤ c
   leads_no_lower labels d c low block e here n l =
       let named : IsAmong (end_labels block.end) l.label = subst (λ ls. IsAmong ls l.label) (ap (λ (o : Option Block). unwrap_or (option_map (λ (x : Block). end_labels x.end) o) []) here) l.named in
@@ -166,7 +166,7 @@ module _ (fn : Function) where
 
   module _ (extents : List ℕ) (at lowest extent : ℕ) (w : Walked extents at lowest extent) (d : ℕ) (block : Block) (here : slice_get fn.blocks d ≡ Some block) (next : at ≡ suc d) (long : length extents ≡ length fn.blocks) (low chosen : ℕ)
       (is : chosen ≡ cond (nat_lt d lowest) (slots_to fn at) extent) (below : low ≤ lowest) (leads : (c : ℕ) → LeadsTo fn d c → low ≤ c) where
-    -- what the extent of the block has to be
+    -- What the extent of the block has to be.
     record Fits (e : ℕ) : Type 0 where
       pub own : slots_to fn at ≤ e
       pub least : (b : ℕ) → at ≤ b → b < length fn.blocks → e ≤ slice_index extents b
@@ -198,7 +198,7 @@ module _ (fn : Function) where
     abbrev pub new : List ℕ
     new = slice_set extents d chosen
 
-    -- what holds of the block and of those that were passed
+    -- What holds of the block and of those that were passed.
     on_each : (Q : ℕ → ℕ → Type 0) → Q d chosen → ((b : ℕ) → at ≤ b → Q b (slice_index extents b)) → (b : ℕ) → d ≤ b → Q b (slice_index new b)
     on_each Q first later b le =
         ⊎_elim (λ s. subst (λ k. Q k (slice_index new k)) s (subst (Q d) (sym there) first))
@@ -210,7 +210,7 @@ module _ (fn : Function) where
         other : d < b → slice_index new b ≡ slice_index extents b
         other lt = get_or-set_other extents d b chosen 0 (λ z. let q : ⊥ = omega (arith, z, lt) in q)
 
-    -- the walk after one block more
+    -- The walk after one block more.
     pub walk_on : Walked new d low chosen
     walk_on =
         let n = length fn.blocks in
@@ -245,7 +245,7 @@ module _ (fn : Function) where
   among_at (x ∷ xs) q (inl e) = (0, ap Some e)
   among_at (x ∷ xs) q (inr h) = let r = among_at xs q h in (suc r.0, r.1)
 
-  -- a name at the front of a list has a number there
+  -- A name at the front of a list has a number there.
   front_number : (xs ys : List (List ℕ)) (q : List ℕ) (slot : ℕ) → IsAmong xs q → number_of (xs ++ ys) q ≡ Some slot → slot < length xs
   front_number xs ys q slot h e =
       let at = among_at xs q h in
@@ -268,7 +268,7 @@ module _ (fn : Function) where
       let split : flat_map block_registers fn.blocks ≡ front ++ back = ap (flat_map block_registers) (sym (take-append-drop k fn.blocks)) ∙ flat_map-append block_registers (take k fn.blocks) (drop k fn.blocks) in
       ap (λ rs. names_of (ps ++ rs)) split ∙ ap names_of (sym (append_assoc ps front back)) ∙ names_both (ps ++ front) back
 
-  -- a register of the first blocks has one of the first slots
+  -- A register of the first blocks has one of the first slots.
   in_front : (k : ℕ) (q : List ℕ) (slot : ℕ) → IsAmong (front_names k) q → number_of (register_names fn) q ≡ Some slot → slot < slots_to fn k
   in_front k q slot h e =
       subst (λ n. slot < n) (front_long k)
@@ -296,7 +296,7 @@ module _ (fn : Function) where
             let own = a.own b (slice_get_within fn.blocks b block r) in
             omega (arith, front, own)
 
-    -- extents do not fall along a path
+    -- Extents do not fall along a path.
     climbs : (x : ℕ) (blocks earlier : List ℕ) (b : ℕ) → x ∷ blocks ≡ earlier ++ b ∷ [] → IsChain fn x blocks → slice_index extents x ≤ slice_index extents b
     climbs x [] [] b e chain = let same : x ≡ b = cc in subst (λ k. slice_index extents x ≤ slice_index extents k) same (omega arith)
     climbs x [] (p ∷ []) b e chain = absurd (let z : ⊥ = cc in z)
@@ -333,7 +333,7 @@ module _ (fn : Function) where
         (among-either (flat_map (whole_block_names fn) m.earlier) (whole_block_names fn b) q r))
         (among-either (names_of (parameter_registers fn)) _ q m.assigned)
 
--- a list of extents is one of the extents of a function
+-- A list of extents is one of the extents of a function.
 pub extents_are : (P : Program) (f : ℕ) (fn : Function) (xs : List ℕ) → slice_get P.functions f ≡ Some fn → AreExtents fn xs → HasExtents P f xs
 extents_are P f fn xs here a = record {
   as_long = a.as_long ∙ sym (ap (λ o. length (blocks_in o)) here);

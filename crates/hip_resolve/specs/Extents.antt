@@ -9,11 +9,11 @@ use Rattle.hip_code.specs.declared.op.Control.TheVariants as controls
 use Rattle.hip_code.specs.declared.op.Op.{Op}
 use Rattle.hip_code.specs.declared.op.Op.TheVariants as ops
 
--- how many slots the parameters of a function and the registers of its first k blocks take
+-- How many slots the parameters of a function and the registers of its first k blocks take.
 abbrev pub slots_to : Function → ℕ → ℕ
 slots_to fn k = length (parameter_registers fn) + length (flat_map block_registers (take k fn.blocks))
 
--- none of these labels is that of a block below a number
+-- None of these labels is that of a block below a number.
 pub record LeadsNoLower (labels named : List (List ℕ)) (lowest : ℕ) : Type 0 where
   pub at : (label : List ℕ) (c : ℕ) → IsAmong named label → number_of labels label ≡ Some c → lowest ≤ c
 
@@ -25,7 +25,7 @@ pub record AreExtents (fn : Function) (extents : List ℕ) : Type 0 where
   pub few : (b : ℕ) → b < length fn.blocks → slice_index extents b ≤ slots_to fn (length fn.blocks)
   pub rise : (b c : ℕ) → LeadsTo fn b c → slice_index extents b ≤ slice_index extents c
 
--- the op with that number of slots that a call keeps; an op of another kind stays as it is
+-- The op with that number of slots that a call keeps; an op of another kind stays as it is.
 abbrev pub with_frame : ℕ → Op → Op
 with_frame frame (ops.Control (controls.Call call)) = ops.Control (controls.Call (record call { frame = frame }))
 with_frame frame o = o

@@ -12,22 +12,22 @@ use Rattle.hip_code.specs.declared.op.Op.{Op}
 use Rattle.hip_scope.specs.Growth.{Grows}
 use Rattle.hip_scope.specs.Scopes.{Does, Ends}
 
--- the op at the place of the instruction resolves it, however the tables grow, and keeps the slots of the block's
--- extent if it is a call
+-- The op at the place of the instruction resolves it, however the tables grow, and keeps the slots of the block's
+-- extent if it is a call.
 pub record HasMade (P : Program) (base : ℕ) (ops : List Op) (t : Tables) (f b k : ℕ) (i : Instr) : Type 0 where
   pub op : Op
   pub here : slice_get ops (entry P f b + k) ≡ Some op
   pub does : (u : Tables) → Grows t u → Does P base f u op i
   pub extent : keeps_extent P f b op
 
--- the same for the end of a block
+-- The same for the end of a block.
 pub record HasMadeEnd (P : Program) (base : ℕ) (ops : List Op) (t : Tables) (f b : ℕ) (block : Block) : Type 0 where
   pub op : Op
   pub here : slice_get ops (entry P f b + length block.body) ≡ Some op
   pub end_is : is_end op ≡ true
   pub ends : (u : Tables) → Grows t u → Ends P base f b u op block.end
 
--- each place of the code below the number of ops has its op
+-- Each place of the code below the number of ops has its op.
 pub record IsFront (P : Program) (base : ℕ) (ops : List Op) (t : Tables) : Type 0 where
   pub body : (f b k : ℕ) (block : Block) (i : Instr) → block_at P f b ≡ Some block →
       slice_get block.body k ≡ Some i → entry P f b + k < length ops → HasMade P base ops t f b k i

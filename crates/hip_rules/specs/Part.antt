@@ -4,65 +4,65 @@ use Rattle.hip_tokens.specs.Tokens.{Tok}
 use Rattle.hip_rules.specs.Rule.{Rule, Verdict, Yes, No, done, one, both, ◌or◌, many, perhaps}
 use Rattle.hip_rules.specs.Reader.{Reader, done_at, one_at, both_at, either_at, many_at, perhaps_at, leaders_at, on_ok, by_head}
 
--- a rule that derives values of type A, and a reader of them; laws show that the reader is exact for the rule
+-- A rule that derives values of type A, and a reader of them; laws show that the reader is exact for the rule.
 pub record Part (F A : Type 0) : Type 1 where
   pub rule : Rule F A
   pub read : Reader F A
 
--- no token, and this value
+-- No token, and this value.
 abbrev pub gives : {F A : Type 0} → A → Part F A
 gives a = record { rule = done a; read = done_at a }
 
--- one token, by what the test says of it: a value, or that it is refused
+-- One token, by what the test says of it: a value, or that it is refused.
 abbrev pub token : {F A : Type 0} → (Tok → Verdict F A) → Part F A
 token p = record { rule = one p; read = one_at p }
 
--- one part, and then the part that its value selects
+-- One part, and then the part that its value selects.
 infixl 10 ◌>>=◌
 abbrev pub ◌>>=◌ : {F A B : Type 0} → Part F A → (A → Part F B) → Part F B
 l >>= f = record { rule = both l.rule (λ x. (f x).rule); read = both_at l.read (λ x. (f x).read) }
 
--- the first case if the next token passes, else the second
+-- The first case if the next token passes, else the second.
 abbrev pub either : {F A : Type 0} → (Tok → Bool) → Part F A → Part F A → Part F A
 either k l m = record { rule = l.rule or m.rule; read = either_at k l.read m.read }
 
--- any number of parts, as long as the next token passes
+-- Any number of parts, as long as the next token passes.
 abbrev pub repeated : {F A : Type 0} → (Tok → Bool) → Part F A → Part F (List A)
 repeated k l = record { rule = many l.rule; read = many_at k l.read }
 
--- one part if the next token passes, else none
+-- One part if the next token passes, else none.
 abbrev pub optional : {F A : Type 0} → (Tok → Bool) → Part F A → Part F (Option A)
 optional k l = record { rule = perhaps l.rule; read = perhaps_at k l.read }
 
--- a token that passes
+-- A token that passes.
 abbrev pub the : {F : Type 0} → (Tok → Bool) → Tok → Verdict F (Unit {0})
 the k t = if k t then Yes tt else No
 
--- one token that passes, with no value; any other is refused without a reason
+-- One token that passes, with no value; any other is refused without a reason.
 abbrev pub passing : {F : Type 0} → (Tok → Bool) → Part F (Unit {0})
 passing k = token (the k)
 
--- one more part, after a token that passes
+-- One more part, after a token that passes.
 unfoldable pub one_more_by : {F A : Type 0} → (Tok → Bool) → Part F A → Part F A
 one_more_by k l = passing k >>= λ _. l
 
--- at least one part, with such a token between each two
+-- At least one part, with such a token between each two.
 unfoldable pub separated : {F A : Type 0} → (Tok → Bool) → Part F A → Part F (List A)
 separated k l = l >>= λ first. repeated k (one_more_by k l) >>= λ others. gives (first ∷ others)
 
--- no part, up to a closing token
+-- No part, up to a closing token.
 unfoldable pub none_up_to : {F A : Type 0} → (Tok → Bool) → Part F (List A)
 none_up_to close = passing close >>= λ _. gives []
 
--- at least one part, with such a token between each two, up to a closing token
+-- At least one part, with such a token between each two, up to a closing token.
 unfoldable pub some_up_to : {F A : Type 0} → (Tok → Bool) → (Tok → Bool) → Part F A → Part F (List A)
 some_up_to k close l = separated k l >>= λ items. passing close >>= λ _. gives items
 
--- any number of parts, with such a token between each two, up to a closing token
+-- Any number of parts, with such a token between each two, up to a closing token.
 unfoldable pub listed : {F A : Type 0} → (Tok → Bool) → (Tok → Bool) → Part F A → Part F (List A)
 listed k close l = either close (none_up_to close) (some_up_to k close l)
 
--- any number of parts, with no value
+-- Any number of parts, with no value.
 unfoldable pub skipped : {F A : Type 0} → (Tok → Bool) → Part F A → Part F (Unit {0})
 skipped k l = repeated k l >>= λ _. gives tt
 

@@ -3,26 +3,26 @@
 use Rattle.std.specs.Prelude.{◌≡◌, List, [], ◌∷◌, ◌++◌, Option, Some, None, ◌⊎◌}
 use Rattle.hip_tokens.specs.Tokens.{Tok, At}
 
--- the second place is at or after the first
+-- The second place is at or after the first.
 abbrev pub Later : List At → List At → Type 0
 Later a b = (w : List At) × (a ≡ w ++ b)
 
 -- A rule that derives values of type A, and refuses a token for a reason of type F.
 pub record Rule (F A : Type 0) : Type 1 where
-  -- the tokens from the first place to the second derive the value
+  -- The tokens from the first place to the second derive the value.
   pub Derives : List At → A → List At → Type 0
-  -- they are a front of the rule
+  -- They are a front of the rule.
   pub Front : List At → List At → Type 0
-  -- they are a front, and the token at the second place is refused for this reason
+  -- They are a front, and the token at the second place is refused for this reason.
   pub Refuses : F → List At → List At → Type 0
 
--- what a place for one token makes of a token: its value, or a refusal, perhaps with a reason of this place
+-- What a place for one token makes of a token: its value, or a refusal, perhaps with a reason of this place.
 pub data Verdict (F A : Type 0) : Type 0 where
   Yes : A → Verdict F A
   Because : F → Verdict F A
   No : Verdict F A
 
--- no token
+-- No token.
 unfoldable pub done : {F A : Type 0} → A → Rule F A
 done {F} {A} a = record {
   Derives = λ ts x rest. (rest ≡ ts) × (x ≡ a);
@@ -58,7 +58,7 @@ l or m = record {
   Refuses = λ why ts rest. l.Refuses why ts rest ⊎ m.Refuses why ts rest;
 }
 
--- each value in turn is derived
+-- Each value in turn is derived.
 abbrev pub AllDerive : {F A : Type 0} → Rule F A → List At → List A → List At → Type 0
 AllDerive l ts [] rest = rest ≡ ts
 AllDerive l ts (x ∷ xs) rest = (m : List At) × l.Derives ts x m × AllDerive l m xs rest

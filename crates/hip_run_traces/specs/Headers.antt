@@ -11,26 +11,26 @@ use Rattle.hip_runs.specs.declared.limits.TheConstants.{MOST_NUMBERS, MOST_TURNS
 use Rattle.hip_trace.specs.declared.entry.Entry.{Entry}
 use Rattle.hip_trace.specs.declared.entry.Entry.TheVariants.{Start, Register, Input as Number, Image}
 
--- how many entries of a trace are its header, and the input that they give, if they give one
+-- How many entries of a trace are its header, and the input that they give, if they give one.
 pub data Header : Type 0 where
-  -- only the first n entries are valid, and n is less than two
+  -- Only the first n entries are valid, and n is less than two.
   Stops : (entries : ℕ) → Header
-  -- the first n entries are valid, and give an input
+  -- The first n entries are valid, and give an input.
   Gives : (entries : ℕ) → Input → Header
 
 -- ---- which entries are valid, and what they give
 
--- the limit of turns, at most 2^40
+-- The limit of turns, at most 2^40.
 abbrev pub valid_limit : Option Entry → Option ℕ
 valid_limit (Some (Start limit)) = if nat_le limit MOST_TURNS then Some limit else None
 valid_limit _ = None
 
--- the base of the region, where the size is that of the program's region
+-- The base of the region, where the size is that of the program's region.
 abbrev pub valid_base : Program → Option Entry → Option ℕ
 valid_base P (Some (Register base size)) = if is_base base && (size == region_size P) then Some base else None
 valid_base P _ = None
 
--- whether there are no bytes
+-- Whether there are no bytes.
 abbrev pub is_empty : List ℕ → Bool
 is_empty [] = true
 is_empty (b ∷ bs) = false
@@ -46,48 +46,48 @@ abbrev pub is_next_line : Program → Input → ℕ → List ℕ → Bool
 is_next_line P I addr bytes =
     nat_le (I.base + length I.image) addr && (nat_le (addr + LINE_SIZE) (I.base + region_size P) && some_byte bytes)
 
--- an IMAGE entry adds the bytes up to the end of its line; those between two lines are 0
+-- An IMAGE entry adds the bytes up to the end of its line; those between two lines are 0.
 abbrev pub with_line : Program → Input → ℕ → List ℕ → Option Input
 with_line P I addr bytes =
     if is_next_line P I addr bytes
     then Some (record I { image = I.image ++ (zeros (addr - (I.base + length I.image)) ++ bytes) }) else None
 
--- the input so far with what the next piece gives; none if the piece is no INPUT or IMAGE that is valid there
+-- The input so far with what the next piece gives; none if the piece is no INPUT or IMAGE that is valid there.
 abbrev pub with_entry : Program → Input → Option Entry → Option Input
 with_entry P I (Some (Number number)) = with_number I number
 with_entry P I (Some (Image addr bytes)) = with_line P I addr bytes
 with_entry P I _ = None
 
--- the input with its initial bytes filled up with 0 to the end of the region
+-- The input with its initial bytes filled up with 0 to the end of the region.
 abbrev pub filled : Program → Input → Input
 filled P I = record I { image = I.image ++ zeros (region_size P - length I.image) }
 
 -- ---- the header
 
--- the header ends after n entries if the next piece gives no input, and else goes on with the input that it gives
+-- The header ends after n entries if the next piece gives no input, and else goes on with the input that it gives.
 abbrev pub go_on : Program → Input → ℕ → (Input → Header) → Option Input → Header
 go_on P I count rest None = Gives count (filled P I)
 go_on P I count rest (Some more) = rest more
 
--- the header, where n entries gave the input so far and these pieces follow
+-- The header, where n entries gave the input so far and these pieces follow.
 abbrev pub header_from : Program → Input → ℕ → List (Option Entry) → Header
 header_from P I count [] = Gives count (filled P I)
 header_from P I count (e ∷ es) = go_on P I count (λ more. header_from P more (suc count) es) (with_entry P I e)
 
--- the header, where the second piece gave this base and these pieces follow; it has one entry if the piece gave none
+-- The header, where the second piece gave this base and these pieces follow; it has one entry if the piece gave none.
 abbrev pub past_register : Program → ℕ → List (Option Entry) → Option ℕ → Header
 past_register P limit es None = Stops 1
 past_register P limit es (Some base) =
     header_from P (record { base = base; image = []; numbers = []; limit = limit }) 2 es
 
--- the header, where the first piece gave this limit and these pieces follow; it has no entry if the piece gave none,
--- and one if no piece follows
+-- The header, where the first piece gave this limit and these pieces follow; it has no entry if the piece gave none,
+-- and one if no piece follows.
 abbrev pub past_start : Program → List (Option Entry) → Option ℕ → Header
 past_start P es None = Stops 0
 past_start P [] (Some limit) = Stops 1
 past_start P (e ∷ es) (Some limit) = past_register P limit es (valid_base P e)
 
--- the header of a trace, from what its pieces spell
+-- The header of a trace, from what its pieces spell.
 unfoldable pub header : Program → List (Option Entry) → Header
 header P [] = Stops 0
 header P (e ∷ es) = past_start P es (valid_limit e)

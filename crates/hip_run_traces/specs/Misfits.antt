@@ -9,7 +9,7 @@ use Rattle.hip_runs.specs.declared.input.Input.{Input}
 use Rattle.hip_trace.specs.Pieces.{spelled}
 use Rattle.hip_trace.specs.declared.entry.Entry.{Entry}
 
--- the kind of a piece that should not be there, or should be another
+-- The kind of a piece that should not be there, or should be another.
 abbrev pub kind_of : Option Entry → MisfitKind → MisfitKind
 kind_of None otherwise = Malformed
 kind_of (Some e) otherwise = otherwise
@@ -28,7 +28,7 @@ pub record FirstDiffers (whole : Bool) (pieces : List (Option Entry)) (trace : L
   pub before : take count pieces ≡ map (λ e. Some e) (take count trace)
   pub here : DiffersAt whole (slice_get pieces count) (slice_get trace count) kind
 
--- after a header of less than two entries, the next piece is missing or is no valid entry
+-- After a header of less than two entries, the next piece is missing or is no valid entry.
 abbrev pub StopsAt : Bool → Option (Option Entry) → MisfitKind → Type 0
 StopsAt whole None kind = (whole ≡ true) × (kind ≡ Early)
 StopsAt whole (Some piece) kind = kind ≡ kind_of piece Differs

@@ -8,7 +8,7 @@ use Rattle.hip_runs.specs.declared.input.Input.{Input}
 use Rattle.hip_trace.specs.Texts.{lines_of}
 use Rattle.hip_trace.specs.declared.entry.Entry.{Entry}
 
--- the text is the trace of the run, a line for each entry, and the run has ended in this way
+-- The text is the trace of the run, a line for each entry, and the run has ended in this way.
 pub record IsTraceText (P : Program) (I : Input) (text : List ℕ) (ending : Ending) : Type 0 where
   pub trace : List Entry
   pub is_trace : IsTrace P I trace

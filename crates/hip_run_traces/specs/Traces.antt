@@ -18,7 +18,7 @@ use Rattle.hip_trace.specs.declared.entry.TrapWord.TheVariants as words
 
 -- ---- events
 
--- the word of a TRAP entry for each kind of trap
+-- The word of a TRAP entry for each kind of trap.
 abbrev pub trap_word : TrapKind → TrapWord
 trap_word traps.DivZero = words.DivZero
 trap_word traps.DivOverflow = words.DivOverflow
@@ -30,7 +30,7 @@ trap_word traps.Depth = words.Depth
 trap_word traps.InputEnd = words.InputEnd
 trap_word traps.Unreachable = words.Unreachable
 
--- the entry of a run's ending: STOP with the number that `main` returned, TRAP with its word, or CUT
+-- The entry of a run's ending: STOP with the number that `main` returned, TRAP with its word, or CUT.
 abbrev pub entry_of_ending : Ending → Entry
 entry_of_ending (endings.Stop code) = entries.Stop code
 entry_of_ending (endings.Trap kind) = entries.Trap (trap_word kind)
@@ -50,7 +50,7 @@ entry_of_event (events.End ending) = Some (entry_of_ending ending)
 
 -- ---- before the first step
 
--- an IMAGE for each of n cache lines that has a byte other than 0; the first line begins at an address
+-- An IMAGE for each of n cache lines that has a byte other than 0; the first line begins at an address.
 abbrev pub image_entries : ℕ → ℕ → List ℕ → List Entry
 image_entries zero addr bytes = []
 image_entries (suc n) addr bytes =
@@ -58,7 +58,7 @@ image_entries (suc n) addr bytes =
     ++ image_entries n (addr + LINE_SIZE) (drop LINE_SIZE bytes)
 
 -- START, REGISTER, an INPUT for each number in order, and an IMAGE for each cache line of the initial region that has a
--- byte other than 0, in ascending order
+-- byte other than 0, in ascending order.
 unfoldable pub header_of : Input → List Entry
 header_of I =
     entries.Start I.limit ∷ entries.Register I.base (length I.image)
@@ -67,12 +67,12 @@ header_of I =
 
 -- ---- the trace
 
--- an entry, as a list; empty where there is none
+-- An entry, as a list; empty where there is none.
 abbrev pub entry_list : Option Entry → List Entry
 entry_list None = []
 entry_list (Some e) = e ∷ []
 
--- the entry of the next step, as a list; a run that has ended takes no more steps
+-- The entry of the next step, as a list; a run that has ended takes no more steps.
 abbrev pub next_entries : Program → Input → State → List Entry
 next_entries P I s = if has_ended s then [] else entry_list (entry_of_event (event P I s))
 
@@ -81,7 +81,7 @@ unfoldable pub trace : Program → Input → ℕ → List Entry
 trace P I zero = header_of I
 trace P I (suc n) = trace P I n ++ next_entries P I (run P I n)
 
--- each entry as a piece that spells it
+-- Each entry as a piece that spells it.
 abbrev pub stated : List Entry → List (Option Entry)
 stated es = map (λ e. Some e) es
 

@@ -46,39 +46,39 @@ use Rattle.hip_externs.specs.declared.call.ExternCall.TheVariants as calls
 use Rattle.hip_runs.specs.declared.event.TrapKind.TheVariants as traps
 use Rattle.hip_runs.specs.declared.limits.TheConstants.{MOST_FRAMES}
 
--- what an instruction or the end of a block does, with the values of its operands in place of the operands
+-- What an instruction or the end of a block does, with the values of its operands in place of the operands.
 pub data Action : Type 0 where
   Traps : TrapKind → Action
-  -- a register takes a value
+  -- A register takes a value.
   Assigns : Option (List ℕ) → ℕ → Action
-  -- a register takes the address of a new block on the stack, which has a size
+  -- A register takes the address of a new block on the stack, which has a size.
   Allocates : List ℕ → (addr size : ℕ) → Action
-  -- bytes are stored from an address on
+  -- Bytes are stored from an address on.
   Stores : (addr : ℕ) → List ℕ → Action
-  -- the cache lines of a range are flushed; they are flushed and a fence is taken; a fence is taken
+  -- The cache lines of a range are flushed; they are flushed and a fence is taken; a fence is taken.
   Flushes : (addr size : ℕ) → Action
   Persists : (addr size : ℕ) → Action
   Fences : Action
-  -- a range of the region is checked
+  -- A range of the region is checked.
   Asserts : (addr size : ℕ) → Action
   Prints : ℤ → Action
-  -- a register takes the next input number, and these are left
+  -- A register takes the next input number, and these are left.
   Reads : Option (List ℕ) → ℤ → List ℤ → Action
-  -- a frame is made for the function of that number, with these registers; its result goes into a register
+  -- A frame is made for the function of that number, with these registers; its result goes into a register.
   Calls : ℕ → Registers → Option (List ℕ) → Action
-  -- control goes to the block of that number, with these registers
+  -- Control goes to the block of that number, with these registers.
   Jumps : ℕ → Registers → Action
-  -- the frame's function returns a value
+  -- The frame's function returns a value.
   Returns : ℕ → Action
 
 -- ---- addresses that are valid
 
--- whether the n bytes from address a on lie between `from` and `to`; for n = 0, whether a lies between them or is one
--- of them
+-- Whether the n bytes from address a on lie between `from` and `to`; for n = 0, whether a lies between them or is one
+-- of them.
 abbrev pub is_within : ℕ → ℕ → ℕ → ℕ → Bool
 is_within from to a n = nat_le from a && nat_le (a + n) to
 
--- whether n bytes from address a on lie in the region
+-- Whether n bytes from address a on lie in the region.
 abbrev pub in_region : Input → ℕ → ℕ → Bool
 in_region I a n = is_within I.base (I.base + length I.image) a n
 
@@ -88,7 +88,7 @@ abbrev pub are_valid : Program → Input → World → ℕ → ℕ → Bool
 are_valid P I w a n =
     is_within volatile_start (volatile_end P) a n || (is_within stack_start w.mark a n || in_region I a n)
 
--- the memory in a run
+-- The memory in a run.
 abbrev pub memory_of : Program → Input → World → Memory
 memory_of P I w = record { base = I.base; volatile = volatile_bytes P I.base; region = I.image; writes = w.writes }
 
@@ -100,18 +100,18 @@ accessed P I w a n align go =
 
 -- ---- values
 
--- the trap of a run for each trap of an integer operation
+-- The trap of a run for each trap of an integer operation.
 abbrev pub trap_of : NumTrap → TrapKind
 trap_of num_traps.DivZero = traps.DivZero
 trap_of num_traps.DivOverflow = traps.DivOverflow
 trap_of num_traps.ShiftRange = traps.ShiftRange
 
--- a register takes the result of an integer operation, or the run traps as the operation does
+-- A register takes the result of an integer operation, or the run traps as the operation does.
 abbrev pub calculated : List ℕ → Result Bits NumTrap → Action
 calculated dest (Ok b) = Assigns (Some dest) b.value
 calculated dest (Err trap) = Traps (trap_of trap)
 
--- a test as a number: 1 if it holds, else 0
+-- A test as a number: 1 if it holds, else 0.
 abbrev pub truth : Bool → ℕ
 truth true = 1
 truth false = 0
@@ -125,7 +125,7 @@ cast_value casts.Trunc from to v = v % modulus (width_of to)
 cast_value casts.Ptrtoint from to v = v % modulus (width_of to)
 cast_value casts.Inttoptr from to v = v % modulus (width_of to)
 
--- an index of an integer type, sign-extended to 64 bits
+-- An index of an integer type, sign-extended to 64 bits.
 abbrev pub index_value : Scalar → ℕ → ℕ
 index_value s v = wrapped W64 (signed (width_of s) (bits (width_of s) v).value)
 
@@ -133,7 +133,7 @@ index_value s v = wrapped W64 (signed (width_of s) (bits (width_of s) v).value)
 abbrev pub index_values : List GlobalVar → ℕ → Registers → List Arg → List ℕ
 index_values globals base registers args = map (λ a. index_value a.ty (value_of globals base registers a.value)) args
 
--- the value that bytes in memory give under a scalar type: an i1 is the lowest bit
+-- The value that bytes in memory give under a scalar type: an i1 is the lowest bit.
 abbrev pub read_value : Scalar → List ℕ → ℕ
 read_value s bytes = little_endian bytes % modulus (width_of s)
 
@@ -147,12 +147,12 @@ allocated w dest size align =
 
 -- ---- calls
 
--- the call of function g: its parameters take the values in order; a trap if there is no such function
+-- The call of function g: its parameters take the values in order; a trap if there is no such function.
 abbrev pub bound_call : Option Function → ℕ → List ℕ → Option (List ℕ) → Action
 bound_call None g values dest = Traps traps.Unreachable
 bound_call (Some f) g values dest = Calls g (bound f.params values) dest
 
--- the call of the function of that number; a trap if there is no number, since no function has the callee's name
+-- The call of the function of that number; a trap if there is no number, since no function has the callee's name.
 abbrev pub numbered_call : Program → Option ℕ → List ℕ → Option (List ℕ) → Action
 numbered_call P None values dest = Traps traps.Unreachable
 numbered_call P (Some g) values dest = bound_call (slice_get P.functions g) g values dest
@@ -163,15 +163,15 @@ unfoldable pub entered : Program → ℕ → List ℕ → List ℕ → Option (L
 entered P below callee values dest =
     cond (nat_lt below (MOST_FRAMES - 1)) (numbered_call P (function_number P callee) values dest) (Traps traps.Depth)
 
--- the value of argument k of a call, counted from 0; 0 if there are fewer
+-- The value of argument k of a call, counted from 0; 0 if there are fewer.
 abbrev pub arg_value : List ℕ → ℕ → ℕ
 arg_value values k = unwrap_or (slice_get values k) 0
 
--- the flush of a range; it traps if a byte of the range is not valid
+-- The flush of a range; it traps if a byte of the range is not valid.
 unfoldable pub flushing : Program → Input → World → ℕ → ℕ → Action → Action
 flushing P I w a n go = cond (nat_eq n 0) go (cond (are_valid P I w a n) go (Traps traps.Address))
 
--- what `read_i64` does with these input numbers left: it gives the first of them, and traps if none is left
+-- What `read_i64` does with these input numbers left: it gives the first of them, and traps if none is left.
 abbrev pub read_next : Option (List ℕ) → List ℤ → Action
 read_next dest [] = Traps traps.InputEnd
 read_next dest (z ∷ rest) = Reads dest z rest
@@ -201,7 +201,7 @@ extern_action P I w calls.PmAssert values dest =
 extern_action P I w call values dest =
     line_action P I w (row_of call).effect (arg_value values 0) (flushed_size (row_of call).params values)
 
--- a call of an external function, or else of a defined one
+-- A call of an external function, or else of a defined one.
 abbrev pub call_action : Program → Input → World → ℕ → Option ExternCall → List ℕ → List ℕ
     → Option (List ℕ) → Action
 call_action P I w below (Some call) callee values dest = extern_action P I w call values dest
@@ -240,8 +240,8 @@ instr_action P I w below rs (Call dest ret callee args) =
 
 -- ---- ends of blocks
 
--- the value of the operand that a phi has for control from the block with a label, by its first edge of that label; 0
--- if no edge has it
+-- The value of the operand that a phi has for control from the block with a label, by its first edge of that label; 0
+-- if no edge has it.
 abbrev pub edge_value : List GlobalVar → ℕ → Registers → List Edge → List ℕ → ℕ
 edge_value globals base rs [] from = 0
 edge_value globals base rs (e ∷ es) from =
@@ -253,8 +253,8 @@ after_phis globals base rs from [] = rs
 after_phis globals base rs from (p ∷ ps) =
     (p.dest, edge_value globals base rs p.edges from) ∷ after_phis globals base rs from ps
 
--- control goes from the frame's block to the block of that number, whose phis take their values; a trap without a
--- number
+-- Control goes from the frame's block to the block of that number, whose phis take their values; a trap without a
+-- number.
 abbrev pub jump_to : Program → Input → Frame → Option ℕ → Action
 jump_to P I f None = Traps traps.Unreachable
 jump_to P I f (Some b) =
@@ -266,7 +266,7 @@ jump_to P I f (Some b) =
 unfoldable pub jump : Program → Input → Frame → List ℕ → Action
 jump P I f label = jump_to P I f (block_number (blocks_of P f.function) label)
 
--- the label of the case with the value, else the other one
+-- The label of the case with the value, else the other one.
 abbrev pub case_label : ℕ → List Case → List ℕ → List ℕ
 case_label v [] other = other
 case_label v (c ∷ cs) other = cond (nat_eq c.value.value v) c.label (case_label v cs other)
@@ -289,7 +289,7 @@ end_action P I f (Some ends.Unreachable) = Traps traps.Unreachable
 
 -- ---- what comes next
 
--- whether an external call is a flush or a fence
+-- Whether an external call is a flush or a fence.
 abbrev pub is_flush_or_fence : Option ExternCall → Bool
 is_flush_or_fence None = false
 is_flush_or_fence (Some c) = is_flush c || is_fence c
@@ -299,12 +299,12 @@ abbrev pub is_turn : Instr → Bool
 is_turn (Call dest ret callee args) = not (is_flush_or_fence (call_of callee))
 is_turn _ = true
 
--- an action, and whether it is a turn
+-- An action, and whether it is a turn.
 pub record Deed : Type 0 where
   pub turn : Bool
   pub action : Action
 
--- what the instruction at the frame's place does, or the block's end
+-- What the instruction at the frame's place does, or the block's end.
 abbrev pub deed_of : Program → Input → World → ℕ → Frame → Option End → List Instr → Deed
 deed_of P I w below f end [] = record { turn = true; action = end_action P I f end }
 deed_of P I w below f end (i ∷ rest) = record { turn = is_turn i; action = instr_action P I w below f.registers i }

@@ -7,11 +7,11 @@ use Rattle.hip_runs.specs.declared.input.Input.{Input}
 use Rattle.hip_runs.specs.State.{StorePart, State}
 use Rattle.hip_types.specs.declared.areas.TheConstants.{LINE_SIZE}
 
--- whether a part covers the byte at an offset of the region
+-- Whether a part covers the byte at an offset of the region.
 abbrev pub covers : StorePart → ℕ → Bool
 covers p b = nat_le p.offset b && nat_lt b (p.offset + length p.bytes)
 
--- the value that a part gives the byte at an offset of the region, where it covers that byte
+-- The value that a part gives the byte at an offset of the region, where it covers that byte.
 abbrev pub byte_of : StorePart → ℕ → ℕ
 byte_of p b = slice_index p.bytes (b - p.offset)
 
@@ -20,33 +20,33 @@ byte_of p b = slice_index p.bytes (b - p.offset)
 abbrev pub IsCrashImage : Input → State → List ℕ → Type 0
 IsCrashImage I s content = IsImage covers byte_of I.image s.lines content
 
--- a pick gives each line a number from its durable number to its length
+-- A pick gives each line a number from its durable number to its length.
 abbrev pub IsCrashPick : State → (ℕ → ℕ) → Type 0
 IsCrashPick s pick = IsPick covers byte_of s.lines pick
 
--- the crash image of a pick: in each line the initial bytes, changed by as many first parts as the pick says
+-- The crash image of a pick: in each line the initial bytes, changed by as many first parts as the pick says.
 abbrev pub crash_image : Input → State → (ℕ → ℕ) → List ℕ
 crash_image I s pick = image_of covers byte_of s.lines pick I.image
 
 -- ---- whether a content is a crash image, line by line
 
--- whether, in line j, the content is `first` changed by the line's first q parts
+-- Whether, in line j, the content is `first` changed by the line's first q parts.
 abbrev pub is_line_after : List ℕ → List ℕ → ℕ → Line StorePart → ℕ → Bool
 is_line_after first content j l q =
     list_all
     (λ b. nat_eq (slice_index content b) (byte_after covers byte_of (take q l.parts) b (slice_index first b)))
     (range_with_len (LINE_SIZE * j) LINE_SIZE)
 
--- whether this holds for some number of parts that has all durable ones
+-- Whether this holds for some number of parts that has all durable ones.
 abbrev pub is_line_image : List ℕ → List ℕ → ℕ → Line StorePart → Bool
 is_line_image first content j l =
     list_any (is_line_after first content j l) (range_with_len l.durable (suc (length l.parts) - l.durable))
 
--- whether this holds in each of these lines, the first of which has number j
+-- Whether this holds in each of these lines, the first of which has number j.
 abbrev pub are_line_images : List ℕ → List ℕ → ℕ → List (Line StorePart) → Bool
 are_line_images first content j [] = true
 are_line_images first content j (l ∷ ls) = is_line_image first content j l && are_line_images first content (suc j) ls
 
--- `IsCrashImage` as a test: the content is as long as the initial region, and each line is one that a crash may leave
+-- `IsCrashImage` as a test: the content is as long as the initial region, and each line is one that a crash may leave.
 abbrev pub is_crash_image : Input → State → List ℕ → Bool
 is_crash_image I s content = nat_eq (length content) (length I.image) && are_line_images I.image content 0 s.lines

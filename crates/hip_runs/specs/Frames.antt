@@ -6,7 +6,7 @@ use Rattle.hip_runs.specs.Sites.{called_number}
 use Rattle.hip_runs.specs.State.{Frame, State, site_of}
 use Rattle.hip_runs.specs.Step.{next}
 
--- a frame before and after a step that keeps it
+-- A frame before and after a step that keeps it.
 pub record IsSameCall (f f' : Frame) : Type 0 where
   pub function : f'.function ≡ f.function
   pub mark : f'.mark ≡ f.mark

@@ -12,32 +12,32 @@ use Rattle.hip_types.specs.declared.number.Scalar.TheVariants.{Int, Ptr}
 use Rattle.hip_globals.specs.Values.{const_value}
 use Rattle.hip_runs.specs.State.{Registers}
 
--- the value of a register; 0 if it has none
+-- The value of a register; 0 if it has none.
 abbrev pub look_up : Registers → List ℕ → ℕ
 look_up [] name = 0
 look_up (r ∷ rs) name = cond (bytes_eq r.0 name) r.1 (look_up rs name)
 
--- a register takes a value; the result of a call may go nowhere
+-- A register takes a value; the result of a call may go nowhere.
 abbrev pub assigned : Option (List ℕ) → ℕ → Registers → Registers
 assigned None value registers = registers
 assigned (Some name) value registers = (name, value) ∷ registers
 
--- the value of an operand, where the region begins at a base
+-- The value of an operand, where the region begins at a base.
 abbrev pub value_of : List GlobalVar → ℕ → Registers → Operand → ℕ
 value_of globals base registers (Reg name) = look_up registers name
 value_of globals base registers (Fixed constant) = const_value globals base constant
 
--- the values of a call's arguments, in order, where the region begins at a base
+-- The values of a call's arguments, in order, where the region begins at a base.
 abbrev pub values_of : List GlobalVar → ℕ → Registers → List Arg → List ℕ
 values_of globals base registers args = map (λ a. value_of globals base registers a.value) args
 
--- the registers of a new frame: each parameter has its argument
+-- The registers of a new frame: each parameter has its argument.
 abbrev pub bound : List Param → List ℕ → Registers
 bound [] values = []
 bound (p ∷ ps) [] = []
 bound (p ∷ ps) (v ∷ vs) = (p.name, v) ∷ bound ps vs
 
--- how many bytes a scalar takes in memory
+-- How many bytes a scalar takes in memory.
 abbrev pub scalar_size : Scalar → ℕ
 scalar_size (Int w) = bytes_of w
 scalar_size Ptr = 8

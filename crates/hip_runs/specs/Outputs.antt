@@ -5,12 +5,12 @@ use Rattle.hip_runs.specs.declared.event.Ending.{Ending}
 use Rattle.hip_runs.specs.declared.event.Event.{Event}
 use Rattle.hip_runs.specs.declared.event.Event.TheVariants as events
 
--- a number is printed in signed decimal, with a line feed
+-- A number is printed in signed decimal, with a line feed.
 abbrev pub printed_by : Event → List ℕ
 printed_by (events.Print z) = signed_decimal z ++ codes "\n"
 printed_by _ = []
 
--- how the run ended, if the event is its end
+-- How the run ended, if the event is its end.
 abbrev pub ending_by : Event → Option Ending
 ending_by (events.End e) = Some e
 ending_by _ = None

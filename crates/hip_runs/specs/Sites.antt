@@ -13,17 +13,17 @@ use Rattle.hip_runs.specs.State.{Level, Flush, StorePart, State, levels_of}
 
 -- ---- what an instruction is
 
--- whether an instruction is there and is a `store`
+-- Whether an instruction is there and is a `store`.
 abbrev pub is_store : Option Instr → Bool
 is_store (Some (Store ty value addr align)) = true
 is_store _ = false
 
--- an external function that flushes, and takes no fence
+-- An external function that flushes, and takes no fence.
 abbrev pub only_flushes : Option ExternCall → Bool
 only_flushes None = false
 only_flushes (Some c) = is_flush c && not (is_fence c)
 
--- the external function that flushes and then fences
+-- The external function that flushes and then fences.
 abbrev pub persists : Option ExternCall → Bool
 persists None = false
 persists (Some c) = is_flush c && is_fence c
@@ -39,12 +39,12 @@ abbrev pub is_persist_call : Option Instr → Bool
 is_persist_call (Some (Call dest ret callee args)) = persists (call_of callee)
 is_persist_call _ = false
 
--- the number of the function of the program that an instruction calls, if it does
+-- The number of the function of the program that an instruction calls, if it does.
 abbrev pub called_number : Program → Option Instr → Option ℕ
 called_number P (Some (Call dest ret callee args)) = function_number P callee
 called_number P _ = None
 
--- a call of a function of the program
+-- A call of a function of the program.
 abbrev pub is_defined_call : Program → Option Instr → Bool
 is_defined_call P i = is_some (called_number P i)
 

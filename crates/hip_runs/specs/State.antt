@@ -10,13 +10,13 @@ pub record Level : Type 0 where
   pub call : Site
   pub birth : ℕ
 
--- a block on the stack that an `alloca` made: its address and size in bytes, and the site of the `alloca`
+-- A block on the stack that an `alloca` made: its address and size in bytes, and the site of the `alloca`.
 pub record Slot : Type 0 where
   pub addr : ℕ
   pub size : ℕ
   pub site : Site
 
--- the values of registers by their names, the newest first
+-- The values of registers by their names, the newest first.
 abbrev pub Registers : Type 0
 Registers = List (List ℕ × ℕ)
 
@@ -33,7 +33,7 @@ pub record Frame : Type 0 where
   pub dest : Option (List ℕ)
   pub level : Option Level
 
--- a flush: how many steps had been taken before it, and its site
+-- A flush: how many steps had been taken before it, and its site.
 pub record Flush : Type 0 where
   pub step : ℕ
   pub site : Site
@@ -51,8 +51,8 @@ pub record StorePart : Type 0 where
   pub first_flush : Option Flush
   pub fenced : Bool
 
--- what was printed, all writes in order, the turns taken, the input numbers left, the stack's mark, and how the run
--- ended
+-- What was printed, all writes in order, the turns taken, the input numbers left, the stack's mark, and how the run
+-- ended.
 pub record World : Type 0 where
   pub output : List ℕ
   pub writes : List Write
@@ -61,28 +61,28 @@ pub record World : Type 0 where
   pub mark : ℕ
   pub ending : Option Ending
 
--- how many steps were taken, and how many entries the trace has so far
+-- How many steps were taken, and how many entries the trace has so far.
 pub record Counts : Type 0 where
   pub steps : ℕ
   pub entries : ℕ
 
--- the frames are listed from the top one down
+-- The frames are listed from the top one down.
 pub record State : Type 0 where
   pub world : World
   pub frames : List Frame
   pub lines : List (Line StorePart)
   pub counts : Counts
 
--- the calls with one more at the front, if there is one; the bottom frame has none
+-- The calls with one more at the front, if there is one; the bottom frame has none.
 abbrev pub level_list : Option Level → List Level → List Level
 level_list None rest = rest
 level_list (Some l) rest = l ∷ rest
 
--- the calls that made the frames, from the top one down
+-- The calls that made the frames, from the top one down.
 abbrev pub levels_of : List Frame → List Level
 levels_of [] = []
 levels_of (f ∷ fs) = level_list f.level (levels_of fs)
 
--- the site of a frame's place; at the end of a block there is no instruction
+-- The site of a frame's place; at the end of a block there is no instruction.
 abbrev pub site_of : Frame → Site
 site_of f = record { function = f.function; block = f.block; index = f.place }

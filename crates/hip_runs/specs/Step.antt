@@ -20,13 +20,13 @@ use Rattle.hip_runs.specs.StoredParts.Persistence.{stored_lines, flushes_lines, 
 use Rattle.hip_runs.specs.declared.event.Event.TheVariants as events
 use Rattle.hip_types.specs.declared.areas.TheConstants.{LINE_SIZE}
 
--- the state of a world, frames from the top one down, cache lines and counts
+-- The state of a world, frames from the top one down, cache lines and counts.
 abbrev pub state : World → List Frame → List (Line StorePart) → Counts → State
 state w fs ls counts = record { world = w; frames = fs; lines = ls; counts = counts }
 
 -- ---- events
 
--- the address of the cache line that contains address a of the region
+-- The address of the cache line that contains address a of the region.
 abbrev pub first_line : Input → ℕ → ℕ
 first_line I a = I.base + LINE_SIZE * ((a - I.base) / LINE_SIZE)
 
@@ -34,7 +34,7 @@ first_line I a = I.base + LINE_SIZE * ((a - I.base) / LINE_SIZE)
 abbrev pub lines_size : Input → ℕ → ℕ → ℕ
 lines_size I a n = LINE_SIZE * (((a - I.base) + n - 1) / LINE_SIZE + 1) - LINE_SIZE * ((a - I.base) / LINE_SIZE)
 
--- whether the frame above these frames is the bottom one
+-- Whether the frame above these frames is the bottom one.
 abbrev pub is_bottom : List Frame → Bool
 is_bottom [] = true
 is_bottom (f ∷ fs) = false
@@ -54,52 +54,52 @@ event_of I fs (Prints z) = events.Print z
 event_of I fs (Returns v) = cond (is_bottom fs) (events.End (Stop (signed W32 (bits W32 v).value))) events.Quiet
 event_of I fs _ = events.Quiet
 
--- a step has an entry in the trace, unless it is quiet or only prints
+-- A step has an entry in the trace, unless it is quiet or only prints.
 abbrev pub has_entry : Event → Bool
 has_entry events.Quiet = false
 has_entry (events.Print z) = false
 has_entry _ = true
 
--- the counts after a step with this event: one step more, and one entry more if the event has one
+-- The counts after a step with this event: one step more, and one entry more if the event has one.
 abbrev pub counted : Event → Counts → Counts
 counted e c = record { steps = suc c.steps; entries = cond (has_entry e) (suc c.entries) c.entries }
 
 -- ---- effects
 
--- one turn more was taken
+-- One turn more was taken.
 abbrev pub with_turn : World → World
 with_turn w = record w { turns = suc w.turns }
 
--- the run ends here
+-- The run ends here.
 abbrev pub stop : Ending → World → List Frame → List (Line StorePart) → Counts → State
 stop e w fs ls after = state (record w { ending = Some e }) fs ls after
 
--- the frame after its instruction
+-- The frame after its instruction.
 abbrev pub next : Frame → Frame
 next f = record f { place = suc f.place }
 
--- a register of the frame takes a value; the frame stays as it is if no register does
+-- A register of the frame takes a value; the frame stays as it is if no register does.
 abbrev pub with_register : Option (List ℕ) → ℕ → Frame → Frame
 with_register dest value f = record f { registers = assigned dest value f.registers }
 
--- a new block on the stack; all bytes from the old mark to the new one become zeros
+-- A new block on the stack; all bytes from the old mark to the new one become zeros.
 abbrev pub with_block : ℕ → ℕ → World → World
 with_block a n w =
     record w { writes = w.writes ++ record { addr = w.mark; bytes = zeros ((a + n) - w.mark) } ∷ []; mark = a + n }
 
--- the frame has one block on the stack more, of n bytes from address a, made by the `alloca` at its place
+-- The frame has one block on the stack more, of n bytes from address a, made by the `alloca` at its place.
 abbrev pub with_slot : ℕ → ℕ → Frame → Frame
 with_slot a n f = record f { slots = record { addr = a; size = n; site = site_of f } ∷ f.slots }
 
--- bytes were written from an address on, after all writes before
+-- Bytes were written from an address on, after all writes before.
 abbrev pub with_bytes : ℕ → List ℕ → World → World
 with_bytes a bytes w = record w { writes = w.writes ++ record { addr = a; bytes = bytes } ∷ [] }
 
--- a number is printed in signed decimal, with a line feed
+-- A number is printed in signed decimal, with a line feed.
 abbrev pub with_output : ℤ → World → World
 with_output z w = record w { output = w.output ++ (signed_decimal z ++ codes "\n") }
 
--- these input numbers are left
+-- These input numbers are left.
 abbrev pub with_left : List ℤ → World → World
 with_left rest w = record w { left = rest }
 
@@ -147,89 +147,89 @@ perform I w f fs ls before after (Returns v) = leave v w f fs ls after
 
 -- ---- steps
 
--- the turns have reached the limit, and the next step is a turn
+-- The turns have reached the limit, and the next step is a turn.
 abbrev pub is_cut : Input → World → Deed → Bool
 is_cut I w d = d.turn && not (nat_lt w.turns I.limit)
 
--- the event of a deed above these frames: the cut of the run if it is cut, else that of the action
+-- The event of a deed above these frames: the cut of the run if it is cut, else that of the action.
 abbrev pub event_at : Input → World → List Frame → Deed → Event
 event_at I w fs d = cond (is_cut I w d) (events.End Cut) (event_of I fs d.action)
 
--- the state after the top frame's deed: if the run is cut, only its ending and the counts are new; else the action is
--- done, after one more turn if the deed is one
+-- The state after the top frame's deed: if the run is cut, only its ending and the counts are new; else the action is
+-- done, after one more turn if the deed is one.
 unfoldable pub carry_out : Input → World → Frame → List Frame → List (Line StorePart) → Counts → Counts
     → Deed → State
 carry_out I w f fs ls before after d =
     cond (is_cut I w d) (stop Cut w (f ∷ fs) ls after)
     (perform I (cond d.turn (with_turn w) w) f fs ls before after d.action)
 
--- what the top frame does next
+-- What the top frame does next.
 abbrev pub deed_at : Program → Input → World → Frame → List Frame → Deed
 deed_at P I w f fs = deed_of P I w (length fs) f (end_at P f) (code_at P f)
 
--- the state after the top frame's next deed; if no frame stands, all stays as it is, the counts too
+-- The state after the top frame's next deed; if no frame stands, all stays as it is, the counts too.
 unfoldable pub on_frames : Program → Input → World → List (Line StorePart) → Counts → List Frame → State
 on_frames P I w ls counts [] = state w [] ls counts
 on_frames P I w ls counts (f ∷ fs) =
     carry_out I w f fs ls counts (counted (event_at I w fs (deed_at P I w f fs)) counts) (deed_at P I w f fs)
 
--- a run that has ended stays as it is
+-- A run that has ended stays as it is.
 unfoldable pub on_ending : Program → Input → State → Option Ending → State
 on_ending P I s (Some e) = s
 on_ending P I s None = on_frames P I s.world s.lines s.counts s.frames
 
--- the state after one more step of a run on an input; the same state if the run has ended
+-- The state after one more step of a run on an input; the same state if the run has ended.
 unfoldable pub step : Program → Input → State → State
 step P I s = on_ending P I s s.world.ending
 
--- the event of the top frame's next deed; quiet if no frame stands
+-- The event of the top frame's next deed; quiet if no frame stands.
 abbrev pub event_on_frames : Program → Input → World → List Frame → Event
 event_on_frames P I w [] = events.Quiet
 event_on_frames P I w (f ∷ fs) = event_at I w fs (deed_at P I w f fs)
 
--- the ending again if the run has ended, else the event of the top frame's next deed
+-- The ending again if the run has ended, else the event of the top frame's next deed.
 abbrev pub event_on_ending : Program → Input → State → Option Ending → Event
 event_on_ending P I s (Some e) = events.End e
 event_on_ending P I s None = event_on_frames P I s.world s.frames
 
--- the event of the next step; after the end of the run its ending again
+-- The event of the next step; after the end of the run its ending again.
 unfoldable pub event : Program → Input → State → Event
 event P I s = event_on_ending P I s s.world.ending
 
 -- ---- runs
 
--- the number of `main`; 0 if there is none, which does not occur in a sound program
+-- The number of `main`; 0 if there is none, which does not occur in a sound program.
 abbrev pub numbered_main : Option ℕ → ℕ
 numbered_main None = 0
 numbered_main (Some f) = f
 
--- the number of the first function with the name `main`; 0 if there is none, which does not occur in a sound program
+-- The number of the first function with the name `main`; 0 if there is none, which does not occur in a sound program.
 abbrev pub main_number : Program → ℕ
 main_number P = numbered_main (function_number P (codes "main"))
 
--- whether one of the bytes is other than 0
+-- Whether one of the bytes is other than 0.
 abbrev pub some_byte : List ℕ → Bool
 some_byte [] = false
 some_byte (zero ∷ bs) = some_byte bs
 some_byte (suc b ∷ bs) = true
 
--- how many of the first n cache lines have an initial byte other than 0
+-- How many of the first n cache lines have an initial byte other than 0.
 abbrev pub image_lines : ℕ → List ℕ → ℕ
 image_lines zero bytes = 0
 image_lines (suc n) bytes = cond (some_byte (take LINE_SIZE bytes)) 1 0 + image_lines n (drop LINE_SIZE bytes)
 
--- how many entries come before a run's first step: START, REGISTER, an INPUT for each number, and an IMAGE for each
--- cache line of the initial region that has a byte other than 0
+-- How many entries come before a run's first step: START, REGISTER, an INPUT for each number, and an IMAGE for each
+-- cache line of the initial region that has a byte other than 0.
 abbrev pub header_entries : Input → ℕ
 header_entries I = 2 + length I.numbers + image_lines (length I.image / LINE_SIZE) I.image
 
--- the world before the first step: nothing was printed or written, no turn was taken, all input numbers are left, and
--- the stack is empty
+-- The world before the first step: nothing was printed or written, no turn was taken, all input numbers are left, and
+-- the stack is empty.
 abbrev pub start_world : Input → World
 start_world I = record { output = []; writes = []; turns = 0; left = I.numbers; mark = stack_start; ending = None }
 
--- the bottom frame before the first step: at the start of the entry block of the function `main`, whose number this
--- is, with no value in a register
+-- The bottom frame before the first step: at the start of the entry block of the function `main`, whose number this
+-- is, with no value in a register.
 abbrev pub start_frame : ℕ → Frame
 start_frame main =
     record {
@@ -243,17 +243,17 @@ start_frame main =
       level = None;
     }
 
--- `main` stands at its first instruction
+-- `main` stands at its first instruction.
 abbrev pub start : Program → Input → State
 start P I =
     state (start_world I) (start_frame (main_number P) ∷ []) (fresh_lines (length I.image / LINE_SIZE))
     (record { steps = 0; entries = header_entries I })
 
--- the state after n steps
+-- The state after n steps.
 unfoldable pub run : Program → Input → ℕ → State
 run P I zero = start P I
 run P I (suc n) = step P I (run P I n)
 
--- whether a run has ended: it stopped, trapped or was cut
+-- Whether a run has ended: it stopped, trapped or was cut.
 abbrev pub has_ended : State → Bool
 has_ended s = is_some s.world.ending

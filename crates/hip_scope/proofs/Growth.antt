@@ -42,7 +42,7 @@ makes_same t Fact h = record { grows = grows_same t; lasts = λ v g. h v }
 pub makes_also : {t u : Tables} {Fact Other : Tables → Type 0} → Makes t u Fact → ((v : Tables) → Fact v → Other v) → Makes t u Other
 makes_also m f = record { grows = m.grows; lasts = λ v g. f v (m.lasts v g) }
 
--- the same of what a call gives where it gives something
+-- The same of what a call gives where it gives something.
 pub given_also : {A E : Type 0} (t u : Tables) {Fact Other : A → Tables → Type 0} (r : Result A E) → IfOk r (λ o. Makes t u (Fact o))
     → ((o : A) (v : Tables) → Fact o v → Other o v) → IfOk r (λ o. Makes t u (Other o))
 given_also t u (Ok o) m f = makes_also m (f o)
@@ -65,11 +65,11 @@ there (y ∷ xs) rest x = there xs rest x
 pub get_extended : {A : Type 0} {xs ys : List A} (k : ℕ) (x : A) → Extends xs ys → slice_get xs k ≡ Some x → slice_get ys k ≡ Some x
 get_extended {A} {xs} {ys} k x e h = subst (λ (l : List A). slice_get l k ≡ Some x) (sym e.is) (get_kept xs e.rest k x h)
 
--- the last item stands after those before it
+-- The last item stands after those before it.
 pub get_last : {A : Type 0} (xs : List A) (x : A) → slice_get (xs ++ x ∷ []) (length xs) ≡ Some x
 get_last xs x = there xs [] x
 
--- a constant is put after the others
+-- A constant is put after the others.
 pub makes_constant : (t : Tables) (v : ℕ) (constants : List ℕ) → constants ≡ t.constants ++ v ∷ [] →
     Makes t (record t { constants = constants }) (λ w. slice_get w.constants (length t.constants) ≡ Some v)
 makes_constant t v constants e = record {
@@ -85,7 +85,7 @@ makes_constant t v constants e = record {
 
 -- ---- spans
 
--- what stands from a place to the end, stays where it stands
+-- What stands from a place to the end, stays where it stands.
 pub span_is : {A : Type 0} {xs ys : List A} (from count : ℕ) → Extends xs ys → from + count ≡ length xs → slice_range ys from (from + count) ≡ drop from xs
 span_is {A} {xs} {ys} from count e long =
     let within : from ≤ length xs = omega arith in
@@ -100,7 +100,7 @@ span_is {A} {xs} {ys} from count e long =
 pub span_within : {A : Type 0} {xs ys : List A} (from count : ℕ) → Extends xs ys → from + count ≡ length xs → from + count ≤ length ys
 span_within {A} {xs} {ys} from count e long = let l = ap length e.is in let m = length-append xs e.rest in omega (arith, l, m, long)
 
--- a move is put into the table
+-- A move is put into the table.
 pub grows_moves : (t : Tables) (more moves : List Move) → moves ≡ t.moves ++ more → Grows t (record t { moves = moves })
 grows_moves t more moves e = record {
   constants = extends_same t.constants;

@@ -192,7 +192,7 @@ module _ (P : Program) (s : IsSound P) (f b : ℕ) (fn : Function) (block : Bloc
   known_by k (Call (Some dest) ret callee args) e t g a h =
       (assigned_known k (Call (Some dest) ret callee args) dest e (inl refl), args_known names args h.all, sound-calls P s f b k fn block (Some dest) ret callee args at e)
 
-  -- what the resolver has to know of an instruction
+  -- What the resolver has to know of an instruction.
   pub instr_known : (k : ℕ) (i : Instr) → slice_get block.body k ≡ Some i → InstrKnown P (names_at P f) i
   instr_known k i e =
       subst (λ o. InstrKnown P (names_in o) i) (sym at.function)
@@ -200,7 +200,7 @@ module _ (P : Program) (s : IsSound P) (f b : ℕ) (fn : Function) (block : Bloc
       (all-at (λ i. TypesFit (InstrItem i)) block.body k i (s.types_fit f b fn block at).body e)
       (all-at (λ i. TypesAgree P fn (InstrItem i)) block.body k i (s.types_agree f b fn block at).body e) (own_known k i e))
 
-  -- and of the end
+  -- And of the end.
   pub end_known : EndKnown (names_at P f) block.«end»
   end_known =
       let named = (s.names_exist f b fn block at).last in
@@ -208,7 +208,7 @@ module _ (P : Program) (s : IsSound P) (f b : ℕ) (fn : Function) (block : Bloc
       let all : UsesKnown names (end_uses block.«end») = record { all = uses_known names (end_uses block.«end») named.registers fit } in
       subst (λ o. EndKnown (names_in o) block.«end») (sym at.function) (end_by names block.«end» all)
 
--- a function has a first block
+-- A function has a first block.
 pub entry_block : (P : Program) → IsSound P → (f : ℕ) (fn : Function) → slice_get P.functions f ≡ Some fn → (block : Block) × (slice_get fn.blocks 0 ≡ Some block)
 entry_block P s f fn here =
     let whole = (spelled_exact P).1 s.spelled in
@@ -220,7 +220,7 @@ entry_block P s f fn here =
     first_of [] h = absurd (let q : ⊥ = cc in q)
     first_of (b ∷ bs) h = (b, refl)
 
--- names that stand at two places differ
+-- Names that stand at two places differ.
 pub earlier_none : (xs : List (List ℕ)) (k j : ℕ) (x : List ℕ) → AllDiffer xs → slice_get xs k ≡ Some x → j < k → slice_get xs j ≡ Some x → ⊥
 earlier_none [] k j x d e lt f = cc
 earlier_none (y ∷ xs) zero j x d e lt f = absurd (let q : ⊥ = omega (arith, lt) in q)
@@ -232,7 +232,7 @@ earlier_none (y ∷ xs) (suc k) zero x d e lt f = d.0 (subst (λ n. IsAmong xs n
     there_among (y ∷ xs) (suc k) x e = inr (there_among xs k x e)
 earlier_none (y ∷ xs) (suc k) (suc j) x d e lt f = earlier_none xs k j x d.1 e (omega (arith, lt)) f
 
--- the names of a function's registers differ
+-- The names of a function's registers differ.
 registers_among : (bs : List Block) (q : List ℕ) → IsAmong (names_of (flat_map block_registers bs)) q → IsAmong (flat_map names_in_block bs) q
 registers_among [] q h = h
 registers_among (b ∷ bs) q h =
@@ -256,7 +256,7 @@ names_differ P s f fn here =
     (registers_differ fn.blocks (differ_second (names_of (parameter_registers fn)) (flat_map names_in_block fn.blocks) d))
     (λ q h t. differ_apart (names_of (parameter_registers fn)) (flat_map names_in_block fn.blocks) d q h (registers_among fn.blocks q t)))
 
--- the number of a parameter is its place
+-- The number of a parameter is its place.
 pub param_number : (P : Program) → IsSound P → (f : ℕ) (fn : Function) → slice_get P.functions f ≡ Some fn → (k : ℕ) (p : Param) → slice_get fn.params k ≡ Some p → number_of (register_names fn) p.name ≡ Some k
 param_number P s f fn here k p e =
     let there : slice_get (register_names fn) k ≡ Some p.name =
@@ -280,7 +280,7 @@ edges_known names ty (e ∷ es) h =
     All-cons (λ (e : named_edge.Edge). OperandKnown names e.value) e es (All-head (λ (u : Use). OperandKnown names u.operand) _ (edge_uses ty es) h)
     (edges_known names ty es (All-tail (λ (u : Use). OperandKnown names u.operand) _ (edge_uses ty es) h))
 
--- what is known of a phi of a block, to which the end of another leads
+-- What is known of a phi of a block, to which the end of another leads.
 pub phi_known : (P : Program) → IsSound P → (f b c : ℕ) (fn : Function) (to from : Block) → IsBlockAt P f c fn to → IsBlockAt P f b fn from → IsAmong (end_labels from.«end») to.label →
     (k : ℕ) (p : Phi) → slice_get to.phis k ≡ Some p → PhiKnown (names_at P f) from.label p
 phi_known P s f b c fn to from at before named k p e =

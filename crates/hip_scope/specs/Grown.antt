@@ -2,6 +2,6 @@
 use Rattle.hip_code.specs.Numbers.{Tables}
 use Rattle.hip_scope.specs.declared.growing.Growing.{Growing}
 
--- the entries that the tables have so far
+-- The entries that the tables have so far.
 abbrev pub grown : Growing → Tables
 grown g = record { constants = g.constants; terms = g.terms; moves = g.moves; edges = g.edges; cases = g.cases }

@@ -2,12 +2,12 @@
 use Rattle.std.specs.Prelude.{◌≡◌, List, ◌++◌}
 use Rattle.hip_code.specs.Numbers.{Tables}
 
--- the second list is the first one with more after it
+-- The second list is the first one with more after it.
 pub record Extends {A : Type 0} (xs ys : List A) : Type 0 where
   pub rest : List A
   pub is : ys ≡ xs ++ rest
 
--- each table is as it was, with more after it
+-- Each table is as it was, with more after it.
 pub record Grows (t u : Tables) : Type 0 where
   pub constants : Extends t.constants u.constants
   pub terms : Extends t.terms u.terms
@@ -20,7 +20,7 @@ pub record Makes (t u : Tables) (Fact : Tables → Type 0) : Type 0 where
   pub grows : Grows t u
   pub lasts : (v : Tables) → Grows u v → Fact v
 
--- only constants are put into the tables
+-- Only constants are put into the tables.
 pub record OnlyConstants (t u : Tables) : Type 0 where
   pub terms : u.terms ≡ t.terms
   pub moves : u.moves ≡ t.moves

@@ -22,21 +22,21 @@ use Rattle.std.specs.Prelude.{ℕ, ◌≡◌, true, List, Some, None, slice_get}
 use Rattle.hip_tree.specs.declared.block.End.{End}
 use Rattle.hip_tree.specs.declared.block.End.TheVariants as ends
 
--- the operand is a register of the function, or a constant whose types fit
+-- The operand is a register of the function, or a constant whose types fit.
 abbrev pub OperandKnown : List (List ℕ) → named.Operand → Type 0
 OperandKnown names (Reg name) = IsAmong names name
 OperandKnown names (Fixed value) = All Fits (types_in value)
 
--- the operand of each argument is known: a register of the function, or a constant whose types fit
+-- The operand of each argument is known: a register of the function, or a constant whose types fit.
 abbrev pub ArgsKnown : List (List ℕ) → List Arg → Type 0
 ArgsKnown names args = All (λ a. OperandKnown names a.value) args
 
--- the register of a call's result, if there is one
+-- The register of a call's result, if there is one.
 abbrev pub ResultKnown : List (List ℕ) → Option (List ℕ) → Type 0
 ResultKnown names None = Unit {0}
 ResultKnown names (Some name) = IsAmong names name
 
--- registers are the function's, types fit, no alignment is 0, indices lead into the type, and callees are there
+-- Registers are the function's, types fit, no alignment is 0, indices lead into the type, and callees are there.
 abbrev pub InstrKnown : Program → List (List ℕ) → Instr → Type 0
 InstrKnown P names (Binary dest op flags width a b) = IsAmong names dest × OperandKnown names a × OperandKnown names b
 InstrKnown P names (Compare dest pred ty a b) = IsAmong names dest × OperandKnown names a × OperandKnown names b
@@ -55,7 +55,7 @@ InstrKnown P names (Gep dest inbounds ty base indices) =
 InstrKnown P names (Call dest ret callee args) =
     ResultKnown names dest × ArgsKnown names args × (CallsFunction P callee ret args ⊎ CallsExtern callee ret args)
 
--- the operand of an end is known, if it has one
+-- The operand of an end is known, if it has one.
 abbrev pub EndKnown : List (List ℕ) → End → Type 0
 EndKnown names (ends.Br label) = Unit {0}
 EndKnown names (ends.CondBr x first second) = OperandKnown names x
@@ -64,17 +64,17 @@ EndKnown names (ends.Ret None) = Unit {0}
 EndKnown names (ends.Ret (Some arg)) = OperandKnown names arg.value
 EndKnown names ends.Unreachable = Unit {0}
 
--- the phi's register and operands are known, and it has an operand for control from the label
+-- The phi's register and operands are known, and it has an operand for control from the label.
 pub record PhiKnown (names : List (List ℕ)) (from : List ℕ) (p : Phi) : Type 0 where
   pub dest : IsAmong names p.dest
   pub edges : All (λ e. OperandKnown names e.value) p.edges
   pub from_is : IsAmong (map (λ e. e.label) p.edges) from
 
--- the same for each of the phis
+-- The same for each of the phis.
 pub record PhisKnown (names : List (List ℕ)) (from : List ℕ) (ps : List Phi) : Type 0 where
   pub at : (k : ℕ) (p : Phi) → slice_get ps k ≡ Some p → PhiKnown names from p
 
--- the operand is the place of a constant, which is this number
+-- The operand is the place of a constant, which is this number.
 abbrev pub IsConstant : List ℕ → Operand → ℕ → Type 0
 IsConstant constants (Constant place) value = slice_get constants place ≡ Some value
 IsConstant constants (Register slot) value = ⊥

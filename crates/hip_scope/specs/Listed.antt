@@ -10,20 +10,20 @@ use Rattle.hip_runs.specs.Places.{blocks_of}
 use Rattle.hip_code.specs.Extents.{IsExtent}
 use Rattle.hip_scope.specs.PhiNumbers.{HasTables}
 
--- the list has `count` numbers, each given by its place
+-- The list has `count` numbers, each given by its place.
 pub record Lists (numbers : List ℕ) (count : ℕ) (number : ℕ → ℕ) : Type 0 where
   pub as_long : length numbers ≡ count
   pub at : (k : ℕ) → k < count → slice_get numbers k ≡ Some (number k)
 
--- the registers of each function have different names
+-- The registers of each function have different names.
 pub record RegistersDiffer (fs : List Function) : Type 0 where
   pub at : (g : ℕ) (fn : Function) → slice_get fs g ≡ Some fn → AllDiffer (register_names fn)
 
--- for each block the list has the tables of its phis
+-- For each block the list has the tables of its phis.
 pub record SourcesOf (sources : List (List (NameTable ℕ))) (bs : List Block) : Type 0 where
   pub at : (b : ℕ) (block : Block) → slice_get bs b ≡ Some block → HasTables sources b block.phis
 
--- the list has an extent for each block of function f
+-- The list has an extent for each block of function f.
 pub record HasExtents (P : Program) (f : ℕ) (extents : List ℕ) : Type 0 where
   pub as_long : length extents ≡ length (blocks_of P f)
   pub at : (b extent : ℕ) → slice_get extents b ≡ Some extent → IsExtent P f b extent

@@ -22,15 +22,15 @@ use Rattle.hip_scope.specs.PhiNumbers.{HasTables}
 use Rattle.hip_scope.specs.declared.scope.Known.{Known}
 use Rattle.hip_scope.specs.declared.scope.Scope.{Scope}
 
--- the names of the function's registers
+-- The names of the function's registers.
 abbrev pub names_of : Scope → List (List ℕ)
 names_of s = names_at s.program.now s.number
 
--- the list has a number for each function
+-- The list has a number for each function.
 abbrev pub OfFunctions : Program → List ℕ → (ℕ → ℕ) → Type 0
 OfFunctions P numbers number = Lists numbers (length P.functions) number
 
--- the program is sound, and the tables of names, addresses and places are the program's
+-- The program is sound, and the tables of names, addresses and places are the program's.
 pub record IsKnown (k : Known) : Type 0 where
   pub sound : IsSound k.program.now
   pub addresses : address_beside k.addresses.now ≡ global_address k.program.now.globals k.base
@@ -38,7 +38,7 @@ pub record IsKnown (k : Known) : Type 0 where
   pub starts : OfFunctions k.program.now k.starts.now (λ g. entry k.program.now g 0)
   pub sizes : OfFunctions k.program.now k.sizes.now (λ g. length (names_at k.program.now g))
 
--- the program is sound, and the tables of names, addresses and places are those of the program and of the function
+-- The program is sound, and the tables of names, addresses and places are those of the program and of the function.
 pub record Describes (s : Scope) : Type 0 where
   pub sound : IsSound s.program.now
   pub addresses : address_beside s.addresses.now ≡ global_address s.program.now.globals s.base
@@ -54,18 +54,18 @@ pub record Describes (s : Scope) : Type 0 where
       → HasTables s.sources b block.phis
   pub extents : HasExtents s.program.now s.number s.extents
 
--- the operand resolves one of the function
+-- The operand resolves one of the function.
 abbrev pub StandsFor : Scope → Tables → Operand → named.Operand → Type 0
 StandsFor s t o x = IsOperandIn s.program.now s.base s.number t o x
 
--- the op does what the instruction does, on each input whose region begins at the base
+-- The op does what the instruction does, on each input whose region begins at the base.
 pub record Does (P : Program) (base f : ℕ) (t : Tables) (o : Op) (i : Instr) : Type 0 where
   pub on : (I : Input) → I.base ≡ base → Resolves P I f t o i
 
--- the op does what the end of block b does, on each input whose region begins at the base
+-- The op does what the end of block b does, on each input whose region begins at the base.
 pub record Ends (P : Program) (base f b : ℕ) (t : Tables) (o : Op) (e : End) : Type 0 where
   pub on : (I : Input) → I.base ≡ base → EndResolves P I f b t o e
 
--- the same for an instruction of the function
+-- The same for an instruction of the function.
 abbrev pub DoesHere : Scope → Tables → Op → Instr → Type 0
 DoesHere s t o i = Does s.program.now s.base s.number t o i

@@ -54,12 +54,12 @@ keys_ascend (a ∷ b ∷ rest) h =
 
 -- ---- tables by sites
 
--- a table has at a site what its list of entries has
+-- A table has at a site what its list of entries has.
 pub table_has : {X : Type 0} (entries : List (Site × X)) (s : Site)
     → lookup (is_at (site_cmp s)) entries ≡ lookup (same_site s) entries
 table_has entries s = λ i. lookup (λ k. cmp-is_eq s k i) entries
 
--- what a table has after one entry more
+-- What a table has after one entry more.
 pub table_updated : {X : Type 0} (old new : List (Site × X)) (site : Site) (v : Option X)
     → ((q : Site) → lookup (is_at (site_cmp q)) new ≡ cond (is_at (site_cmp site) q) v (lookup (is_at (site_cmp q)) old))
     → (q : Site) → lookup (same_site q) new ≡ cond (same_site q site) v (lookup (same_site q) old)
@@ -68,11 +68,11 @@ table_updated old new site v updates q =
 
 -- ---- sets of numbers
 
--- a set of numbers has a number exactly where its list does
+-- A set of numbers has a number exactly where its list does.
 pub numbers_have : (numbers : List ℕ) (n : ℕ) → list_any (is_at (nat_cmp n)) numbers ≡ list_any (nat_eq n) numbers
 numbers_have numbers n = λ i. list_any (λ k. number-is_eq n k i) numbers
 
--- what a set has after one number more
+-- What a set has after one number more.
 pub number_inserted : (old new : List ℕ) (number n : ℕ)
     → list_any (is_at (nat_cmp n)) new ≡ cond (is_at (nat_cmp number) n) true (list_any (is_at (nat_cmp n)) old)
     → list_any (nat_eq n) new ≡ nat_eq n number || list_any (nat_eq n) old

@@ -17,7 +17,7 @@ use Rattle.hip_sound.specs.Sound.{IsBlockAt, IsTyped}
 
 -- ---- calls
 
--- the callee is a function, which has this result and these parameters
+-- The callee is a function, which has this result and these parameters.
 pub record CallsFunction (P : Program) (callee : List ℕ) (ret : Option Scalar) (args : List Arg) : Type 0 where
   pub number : ℕ
   pub function : Function
@@ -26,14 +26,14 @@ pub record CallsFunction (P : Program) (callee : List ℕ) (ret : Option Scalar)
   pub result : function.ret ≡ ret
   pub params : map (λ p. p.ty) function.params ≡ map (λ a. a.ty) args
 
--- the callee is an external function, which has this result and these parameters
+-- The callee is an external function, which has this result and these parameters.
 pub record CallsExtern (callee : List ℕ) (ret : Option Scalar) (args : List Arg) : Type 0 where
   pub signature : Signature
   pub known : known_signature callee ≡ Some signature
   pub result : signature.ret ≡ ret
   pub params : signature.params ≡ map (λ a. a.ty) args
 
--- each call names a function or an external function that has its result and its arguments' types
+-- Each call names a function or an external function that has its result and its arguments' types.
 abbrev pub CallsAgree : Program → Type 0
 CallsAgree P =
     (f b i : ℕ) (fn : Function) (block : Block) (dest : Option (List ℕ)) (ret : Option Scalar) (callee : List ℕ)
@@ -43,32 +43,32 @@ CallsAgree P =
 
 -- ---- operands
 
--- each operand of a block has the type that its place states
+-- Each operand of a block has the type that its place states.
 pub record IsTypedBlock (fn : Function) (block : Block) : Type 0 where
   pub phis : (i : ℕ) (p : Phi) → slice_get block.phis i ≡ Some p → All (IsTyped fn) (phi_uses p)
   pub body : (i : ℕ) (instr : Instr) → slice_get block.body i ≡ Some instr → All (IsTyped fn) (instr_uses instr)
   pub last : All (IsTyped fn) (end_uses block.end)
 
--- each operand of each block of the program has the type that its place states
+-- Each operand of each block of the program has the type that its place states.
 abbrev pub OperandsAgree : Program → Type 0
 OperandsAgree P = (f b : ℕ) (fn : Function) (block : Block) → IsBlockAt P f b fn block → IsTypedBlock fn block
 
 -- ---- labels
 
--- some block has the label
+-- Some block has the label.
 pub record HasBlock (fn : Function) (label : List ℕ) : Type 0 where
   pub number : ℕ
   pub block : Block
   pub here : slice_get fn.blocks number ≡ Some block
   pub named : block.label ≡ label
 
--- each label that the end of a block names is the label of a block of the same function
+-- Each label that the end of a block names is the label of a block of the same function.
 abbrev pub LabelsExist : Program → Type 0
 LabelsExist P =
     (f b : ℕ) (fn : Function) (block : Block) → IsBlockAt P f b fn block
     → All (HasBlock fn) (end_labels block.end)
 
--- a phi has an edge for each block whose end names the phi's own block
+-- A phi has an edge for each block whose end names the phi's own block.
 abbrev pub PhisAgree : Program → Type 0
 PhisAgree P =
     (f b c i : ℕ) (fn : Function) (block prior : Block) (p : Phi) → IsBlockAt P f b fn block →

@@ -5,27 +5,27 @@ use Rattle.hip_sound.specs.Check.{Check, asks, and_then, nothing_asked}
 use Rattle.hip_sound.specs.declared.fault.Fault.TheVariants as breaks
 use Rattle.hip_sound.specs.declared.fault.Place.{Place}
 
--- a name, and the place at which it is declared
+-- A name, and the place at which it is declared.
 pub record Named : Type 0 where
   pub name : List ℕ
   pub place : Place
 
--- each name differs from those before it in the list and from the names `earlier`
+-- Each name differs from those before it in the list and from the names `earlier`.
 abbrev pub differ_after : List (List ℕ) → List Named → Check
 differ_after earlier [] = nothing_asked
 differ_after earlier (x ∷ xs) =
     and_then (asks (¬ IsAmong earlier x.name) (not (is_among earlier x.name)) breaks.Duplicate x.place)
     (differ_after (earlier ++ x.name ∷ []) xs)
 
--- each name differs from those before it; the first name that does not is found, at its own place
+-- Each name differs from those before it; the first name that does not is found, at its own place.
 abbrev pub all_differ : List Named → Check
 all_differ names = differ_after [] names
 
--- the items of a list, each with its number, turned into something else
+-- The items of a list, each with its number, turned into something else.
 abbrev pub numbered_from : {A B : Type 0} → ℕ → (ℕ → A → B) → List A → List B
 numbered_from n make [] = []
 numbered_from n make (x ∷ xs) = make n x ∷ numbered_from (n + 1) make xs
 
--- the same, with numbers from 0
+-- The same, with numbers from 0.
 abbrev pub numbered : {A B : Type 0} → (ℕ → A → B) → List A → List B
 numbered make xs = numbered_from 0 make xs

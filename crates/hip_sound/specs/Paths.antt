@@ -8,21 +8,21 @@ use Rattle.hip_sound.specs.declared.point.Point.{Point}
 use Rattle.hip_sound.specs.declared.point.Point.TheVariants.{Before, AtEnd}
 use Rattle.hip_sound.specs.Registers.{Register, block_registers, phi_registers, body_registers, parameter_registers, end_labels}
 
--- the label of the function's block of that number; none if the block does not exist
+-- The label of the function's block of that number; none if the block does not exist.
 abbrev pub label_at : Function → ℕ → Option (List ℕ)
 label_at f b = option_map (λ block. block.label) (slice_get f.blocks b)
 
--- the labels that the end of the block of that number names; empty if the block does not exist
+-- The labels that the end of the block of that number names; empty if the block does not exist.
 abbrev pub labels_named_at : Function → ℕ → List (List ℕ)
 labels_named_at f b = unwrap_or (option_map (λ block. end_labels block.end) (slice_get f.blocks b)) []
 
--- the end of one block names the label of the other
+-- The end of one block names the label of the other.
 pub record LeadsTo (f : Function) (b c : ℕ) : Type 0 where
   pub label : List ℕ
   pub here : label_at f c ≡ Some label
   pub named : IsAmong (labels_named_at f b) label
 
--- each block of the list is led to by the one before it, the first by b
+-- Each block of the list is led to by the one before it, the first by b.
 abbrev pub IsChain : Function → ℕ → List ℕ → Type 0
 IsChain f b [] = Unit {0}
 IsChain f b (c ∷ cs) = LeadsTo f b c × IsChain f c cs
@@ -35,25 +35,25 @@ pub record IsPathTo (f : Function) (path : List ℕ) (last : ℕ) : Type 0 where
   pub earlier : List ℕ
   pub last_is : path ≡ earlier ++ last ∷ []
 
--- the registers that a block assigns before a point of it
+-- The registers that a block assigns before a point of it.
 abbrev pub registers_before : Point → Block → List Register
 registers_before (Before k) b = phi_registers b.phis ++ body_registers (take k b.body)
 registers_before AtEnd b = block_registers b
 
--- the names of registers, in their order
+-- The names of registers, in their order.
 abbrev pub names_of : List Register → List (List ℕ)
 names_of rs = map (λ r. r.name) rs
 
--- the names of the registers that the block of that number assigns; empty if the block does not exist
+-- The names of the registers that the block of that number assigns; empty if the block does not exist.
 abbrev pub whole_block_names : Function → ℕ → List (List ℕ)
 whole_block_names f b = unwrap_or (option_map (λ block. names_of (block_registers block)) (slice_get f.blocks b)) []
 
--- the names of registers that the block of that number assigns before the point; empty if the block does not exist
+-- The names of registers that the block of that number assigns before the point; empty if the block does not exist.
 abbrev pub names_before : Function → Point → ℕ → List (List ℕ)
 names_before f point b =
     unwrap_or (option_map (λ block. names_of (registers_before point block)) (slice_get f.blocks b)) []
 
--- what is assigned on a path before a point in its last block; the path is given as the blocks before the last one
+-- What is assigned on a path before a point in its last block; the path is given as the blocks before the last one.
 abbrev pub assigned_on : Function → List ℕ → ℕ → Point → List (List ℕ)
 assigned_on f earlier last point =
     names_of (parameter_registers f) ++ (flat_map (whole_block_names f) earlier ++ names_before f point last)

@@ -44,85 +44,85 @@ use Rattle.hip_sound.specs.declared.fault.Place.{Place}
 
 -- ---- what can be called
 
--- the signature in the first declaration of an external function of that name; none if no declaration has it
+-- The signature in the first declaration of an external function of that name; none if no declaration has it.
 abbrev pub extern_of : List Extern → List ℕ → Option Signature
 extern_of [] name = None
 extern_of (e ∷ es) name =
     if bytes_eq e.name name then Some (record { ret = e.ret; params = e.params }) else extern_of es name
 
--- the result and the parameters' types of the first function of that name; none if no function has it
+-- The result and the parameters' types of the first function of that name; none if no function has it.
 abbrev pub function_of : List Function → List ℕ → Option Signature
 function_of [] name = None
 function_of (f ∷ fs) name =
     if bytes_eq f.name name then Some (record { ret = f.ret; params = map (λ p. p.ty) f.params })
     else function_of fs name
 
--- the first signature if it exists, else the second, which may be none
+-- The first signature if it exists, else the second, which may be none.
 abbrev pub first_of : Option Signature → Option Signature → Option Signature
 first_of (Some s) other = Some s
 first_of None other = other
 
--- the signature of the extern or function of that name
+-- The signature of the extern or function of that name.
 abbrev pub callee_of : Program → List ℕ → Option Signature
 callee_of P name = first_of (extern_of P.externs name) (function_of P.functions name)
 
 -- ---- what the places of a function refer to
 
--- the program and the function of a place, and the function's registers
+-- The program and the function of a place, and the function's registers.
 pub record Scope : Type 0 where
   pub program : Program
   pub function : Function
   pub registers : List Register
 
--- the scope of the places of a function of the program
+-- The scope of the places of a function of the program.
 abbrev pub scope_of : Program → Function → Scope
 scope_of P f = record { program = P; function = f; registers = registers_of f }
 
--- each name of the second list is in the first one; true if the second is empty
+-- Each name of the second list is in the first one; true if the second is empty.
 abbrev pub are_among : List (List ℕ) → List (List ℕ) → Bool
 are_among known names = list_all (is_among known) names
 
--- the registers and globals that the uses name exist
+-- The registers and globals that the uses name exist.
 abbrev pub uses_known : Scope → List Use → Bool
 uses_known s us =
     list_all (λ n. is_some (find_register s.registers n)) (used_registers us)
     && are_among (global_names s.program) (used_globals us)
 
--- `Fits` as a test: neither the type nor a type in it has too many bytes, and it is not nested too deep
+-- `Fits` as a test: neither the type nor a type in it has too many bytes, and it is not nested too deep.
 abbrev pub fits_test : Ty → Bool
 fits_test t = nat_le (shape t).largest LARGEST_TYPE && nat_le (shape t).depth DEEPEST_NESTING
 
--- the check that all of these types fit: TooLarge at the place if one does not
+-- The check that all of these types fit: TooLarge at the place if one does not.
 abbrev pub types_fit : List Ty → Place → Check
 types_fit ts place = asks (All Fits ts) (list_all fits_test ts) breaks.TooLarge place
 
--- the register that was found has that type; false if none was found, or if it is that of a void call
+-- The register that was found has that type; false if none was found, or if it is that of a void call.
 abbrev pub has_type : Scalar → Option (Option Scalar) → Bool
 has_type ty (Some (Some t)) = same_scalar t ty
 has_type ty _ = false
 
--- a register has the type that its use states, a constant its shape
+-- A register has the type that its use states, a constant its shape.
 abbrev pub use_agrees : List Register → Operand → Scalar → Bool
 use_agrees registers (Reg name) ty = has_type ty (find_register registers name)
 use_agrees registers (Fixed value) ty = has_shape value (type_of ty)
 
--- each operand agrees with the type that its place states
+-- Each operand agrees with the type that its place states.
 abbrev pub uses_agree : Scope → List Use → Bool
 uses_agree s us = list_all (λ u. use_agrees s.registers u.operand u.ty) us
 
 -- ---- instructions
 
--- from an integer to an integer of more bits
+-- From an integer to an integer of more bits.
 abbrev pub widens : Scalar → Scalar → Bool
 widens (scalars.Int v) (scalars.Int w) = nat_lt (bits_of v) (bits_of w)
 widens _ _ = false
 
--- the scalar is an integer of some width, and no pointer
+-- The scalar is an integer of some width, and no pointer.
 abbrev pub is_integer : Scalar → Bool
 is_integer (scalars.Int w) = true
 is_integer scalars.Ptr = false
 
--- `zext` and `sext` widen, `trunc` narrows, the other two go between pointers and integers
+-- `zext` and `sext` widen, `trunc` narrows, the other two go between pointers and integers.
 abbrev pub cast_agrees : CastOp → Scalar → Scalar → Bool
 cast_agrees casts.Zext from to = widens from to
 cast_agrees casts.Sext from to = widens from to
@@ -136,19 +136,19 @@ abbrev pub literal_field : List Ty → Const-F Const ConstGep TypedConst → Opt
 literal_field fields (Const-F.Int b) = slice_get fields (index_of b)
 literal_field fields _ = None
 
--- the field of a struct that an index names: a register names none, a constant the one that it numbers
+-- The field of a struct that an index names: a register names none, a constant the one that it numbers.
 abbrev pub named_field : List Ty → Operand → Option Ty
 named_field fields (Reg name) = None
 named_field fields (Fixed value) = literal_field fields (out-Const value)
 
--- the type that an index enters: an array's element, or the field that a literal names
+-- The type that an index enters: an array's element, or the field that a literal names.
 abbrev pub entered_by : Operand → Ty-F Ty → Option Ty
 entered_by index (Ty-F.Array n element) = Some element
 entered_by index (Ty-F.Struct fields) = named_field fields index
 entered_by index _ = None
 
--- each of these indices, if any, enters an aggregate: the first one the type, each other one what the index before it
--- gave
+-- Each of these indices, if any, enters an aggregate: the first one the type, each other one what the index before it
+-- gave.
 abbrev pub args_enter : List Arg → Ty → Bool
 args_enter [] t = true
 args_enter (index ∷ indices) t = goes_in (args_enter indices) (entered_by index.value (out-Ty t))
@@ -166,12 +166,12 @@ signature_agrees ret args None = false
 signature_agrees ret args (Some s) =
     same_result s.ret ret && all_pass (map (λ t a. same_scalar t a) s.params) (map (λ a. a.ty) args)
 
--- a call without a result has no register; one with a result has one or none
+-- A call without a result has no register; one with a result has one or none.
 abbrev pub register_agrees : Option (List ℕ) → Option Scalar → Bool
 register_agrees (Some dest) None = false
 register_agrees _ _ = true
 
--- the rules for types of conversions, paths of elements and calls, beyond those of operands; other instructions pass
+-- The rules for types of conversions, paths of elements and calls, beyond those of operands; other instructions pass.
 abbrev pub instr_agrees : Scope → Instr → Bool
 instr_agrees s (Cast dest op from a to) = cast_agrees op from to
 instr_agrees s (Gep dest inbounds ty base indices) = gep_agrees indices ty
@@ -179,19 +179,19 @@ instr_agrees s (Call dest ret callee args) =
     signature_agrees ret args (callee_of s.program callee) && register_agrees dest ret
 instr_agrees s _ = true
 
--- a declared external function or a function has the callee's name; an instruction that is no call passes
+-- A declared external function or a function has the callee's name; an instruction that is no call passes.
 abbrev pub callee_known : Scope → Instr → Bool
 callee_known s (Call dest ret callee args) = is_some (callee_of s.program callee)
 callee_known s _ = true
 
--- the type that an `alloca` makes room for or a `getelementptr` steps over; no other instruction names one of memory
+-- The type that an `alloca` makes room for or a `getelementptr` steps over; no other instruction names one of memory.
 abbrev pub written_types : Instr → List Ty
 written_types (Alloca dest ty align) = ty ∷ []
 written_types (Gep dest inbounds ty base indices) = ty ∷ []
 written_types _ = []
 
--- the rules of an instruction, in this order: registers, globals and a callee that it names exist (Unknown), types
--- that are written in it, in constants too, fit (TooLarge), and types agree (Mismatch)
+-- The rules of an instruction, in this order: registers, globals and a callee that it names exist (Unknown), types
+-- that are written in it, in constants too, fit (TooLarge), and types agree (Mismatch).
 abbrev pub instr_check : Scope → Instr → Place → Check
 instr_check s i place =
     and_then (asks_true (uses_known s (instr_uses i) && callee_known s i) breaks.Unknown place)
@@ -200,47 +200,47 @@ instr_check s i place =
 
 -- ---- ends
 
--- a value of the function's result type is returned, or no value if the function is void (LLVM, "ret")
+-- A value of the function's result type is returned, or no value if the function is void (LLVM, "ret").
 abbrev pub returned_agrees : Option Arg → Option Scalar → Bool
 returned_agrees None None = true
 returned_agrees (Some arg) (Some ty) = same_scalar arg.ty ty
 returned_agrees _ _ = false
 
--- a `ret` returns what a function with this result has to return; every other end of a block passes
+-- A `ret` returns what a function with this result has to return; every other end of a block passes.
 abbrev pub returns : Option Scalar → End → Bool
 returns ret (Ret arg) = returned_agrees arg ret
 returns ret _ = true
 
--- if the end of a block is a `ret`, it returns what the function of the scope has to return
+-- If the end of a block is a `ret`, it returns what the function of the scope has to return.
 abbrev pub end_agrees : Scope → End → Bool
 end_agrees s e = returns s.function.ret e
 
--- the test passes at each item of a list with each later one
+-- The test passes at each item of a list with each later one.
 abbrev pub each_pair : {A : Type 0} → (A → A → Bool) → List A → Bool
 each_pair test [] = true
 each_pair test (x ∷ xs) = list_all (test x) xs && each_pair test xs
 
--- the values of two cases differ, by their number or by their width
+-- The values of two cases differ, by their number or by their width.
 abbrev pub differ : Case → Case → Bool
 differ c d = not (same_bits c.value d.value)
 
--- no two cases of a switch have the same value (LLVM, "switch")
+-- No two cases of a switch have the same value (LLVM, "switch").
 abbrev pub cases_differ : List Case → Bool
 cases_differ cases = each_pair differ cases
 
--- the cases of a switch, without the default; none at any other end of a block
+-- The cases of a switch, without the default; none at any other end of a block.
 abbrev pub end_cases : End → List Case
 end_cases (Switch width value other cases) = cases
 end_cases _ = []
 
--- the label is that of the entry block, the first one; false if there are no blocks
+-- The label is that of the entry block, the first one; false if there are no blocks.
 abbrev pub is_entry : List Block → List ℕ → Bool
 is_entry [] label = false
 is_entry (b ∷ bs) label = bytes_eq b.label label
 
--- the rules of a block's end, in this order: registers, globals and labels that it names exist (Unknown), types that
+-- The rules of a block's end, in this order: registers, globals and labels that it names exist (Unknown), types that
 -- are written in it fit (TooLarge), types agree (Mismatch), values of a switch's cases differ (Duplicate), and it
--- does not name the entry block (BadEdge; LLVM, "Functions": the entry block has no predecessors)
+-- does not name the entry block (BadEdge; LLVM, "Functions": the entry block has no predecessors).
 abbrev pub end_check : Scope → End → Place → Check
 end_check s e place =
     and_then
@@ -252,25 +252,25 @@ end_check s e place =
 
 -- ---- phis
 
--- the end of the block names the label
+-- The end of the block names the label.
 abbrev pub is_predecessor : List ℕ → Block → Bool
 is_predecessor label b = is_among (end_labels b.end) label
 
--- the labels of the blocks whose end names the label
+-- The labels of the blocks whose end names the label.
 abbrev pub predecessors : List Block → List ℕ → List (List ℕ)
 predecessors [] label = []
 predecessors (b ∷ bs) label = if is_predecessor label b then b.label
     ∷ predecessors bs label else predecessors bs label
 
--- two edges with the same label carry the same operand
+-- Two edges with the same label carry the same operand.
 abbrev pub carry_alike : Edge → Edge → Bool
 carry_alike e d = not (bytes_eq e.label d.label) || same_operand e.value d.value
 
--- all edges with the same label carry the same operand
+-- All edges with the same label carry the same operand.
 abbrev pub repeats_agree : List Edge → Bool
 repeats_agree edges = each_pair carry_alike edges
 
--- the labels that edges of a phi come from, in order, each as often as it is named
+-- The labels that edges of a phi come from, in order, each as often as it is named.
 abbrev pub edge_labels : List Edge → List (List ℕ)
 edge_labels edges = map (λ e. e.label) edges
 
@@ -280,9 +280,9 @@ abbrev pub edges_agree : List (List ℕ) → List Edge → Bool
 edges_agree before edges =
     are_among (edge_labels edges) before && (are_among before (edge_labels edges) && repeats_agree edges)
 
--- the rules of a phi of the block of that label, in this order: registers, globals and labels that it names exist
+-- The rules of a phi of the block of that label, in this order: registers, globals and labels that it names exist
 -- (Unknown), types that are written in it fit (TooLarge), operands have its type (Mismatch), and its edges agree with
--- the predecessors of the block (BadEdge)
+-- the predecessors of the block (BadEdge).
 abbrev pub phi_check : Scope → List ℕ → Phi → Place → Check
 phi_check s label p place =
     and_then

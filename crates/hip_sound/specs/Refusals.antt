@@ -8,7 +8,7 @@ use Rattle.hip_sound.specs.declared.fault.TypeFault.{TypeFault}
 use Rattle.hip_sound.specs.declared.fault.TypeFault.TheVariants as faults
 use Rattle.hip_sound.specs.declared.fault.TypeRefusal.{TypeRefusal}
 
--- a check's fault among the faults of a program; those of spelling, of paths and of memory come from no check
+-- A check's fault among the faults of a program; those of spelling, of paths and of memory come from no check.
 abbrev pub fault_of : Fault → TypeFault
 fault_of breaks.Duplicate = faults.Duplicate
 fault_of breaks.Unknown = faults.Unknown
@@ -19,7 +19,7 @@ fault_of breaks.BadGlobal = faults.BadGlobal
 fault_of breaks.BadEdge = faults.BadEdge
 fault_of breaks.TooLarge = faults.TooLarge
 
--- the first fault of a program that is not sound
+-- The first fault of a program that is not sound.
 pub record IsRefused (P : Program) (refusal : TypeRefusal) : Type 0 where
   pub unsound : ¬ IsSound P
   pub first : IsFirstFault P refusal

@@ -25,16 +25,16 @@ pub record Register : Type 0 where
   pub name : List ℕ
   pub ty : Option Scalar
 
--- a list of one register, which has that type
+-- A list of one register, which has that type.
 abbrev register : List ℕ → Scalar → List Register
 register name ty = record { name = name; ty = Some ty } ∷ []
 
--- the register that a call names for its result, without a type if the call is void; empty if it names none
+-- The register that a call names for its result, without a type if the call is void; empty if it names none.
 abbrev called_register : Option (List ℕ) → Option Scalar → List Register
 called_register None ret = []
 called_register (Some name) ret = record { name = name; ty = ret } ∷ []
 
--- the register that an instruction assigns
+-- The register that an instruction assigns.
 abbrev pub assigned_by : Instr → List Register
 assigned_by (Binary dest op flags width a b) = register dest (Int width)
 assigned_by (Compare dest pred ty a b) = register dest (Int W1)
@@ -46,41 +46,41 @@ assigned_by (Store ty value addr align) = []
 assigned_by (Gep dest inbounds ty base indices) = register dest Ptr
 assigned_by (Call dest ret callee args) = called_register dest ret
 
--- the registers that phis assign, in order, each with its phi's type
+-- The registers that phis assign, in order, each with its phi's type.
 abbrev pub phi_registers : List Phi → List Register
 phi_registers phis = map (λ p. record { name = p.dest; ty = Some p.ty }) phis
 
--- the registers that the instructions of a body assign, in order; stores and calls without a register add none
+-- The registers that the instructions of a body assign, in order; stores and calls without a register add none.
 abbrev pub body_registers : List Instr → List Register
 body_registers body = flat_map assigned_by body
 
--- the registers that a block assigns: those of its phis, then those of its body
+-- The registers that a block assigns: those of its phis, then those of its body.
 abbrev pub block_registers : Block → List Register
 block_registers b = phi_registers b.phis ++ body_registers b.body
 
--- the parameters of a function as registers, in order
+-- The parameters of a function as registers, in order.
 abbrev pub parameter_registers : Function → List Register
 parameter_registers f = map (λ p. record { name = p.name; ty = Some p.ty }) f.params
 
--- all registers of a function: its parameters, then what its blocks assign, in the order of the text
+-- All registers of a function: its parameters, then what its blocks assign, in the order of the text.
 abbrev pub registers_of : Function → List Register
 registers_of f = parameter_registers f ++ flat_map block_registers f.blocks
 
--- the type of the first register of that name: `None` if no register has it, `Some None` for that of a void call
+-- The type of the first register of that name: `None` if no register has it, `Some None` for that of a void call.
 abbrev pub find_register : List Register → List ℕ → Option (Option Scalar)
 find_register [] name = None
 find_register (r ∷ rs) name = if bytes_eq r.name name then Some r.ty else find_register rs name
 
--- an operand and the type that its place states
+-- An operand and the type that its place states.
 pub record Use : Type 0 where
   pub operand : Operand
   pub ty : Scalar
 
--- the use of an operand at a place that states that type
+-- The use of an operand at a place that states that type.
 abbrev pub use_of : Operand → Scalar → Use
 use_of operand ty = record { operand = operand; ty = ty }
 
--- the operands of arguments, or of indices, each with the type that is written beside it
+-- The operands of arguments, or of indices, each with the type that is written beside it.
 abbrev pub arg_uses : List Arg → List Use
 arg_uses args = map (λ a. use_of a.value a.ty) args
 
@@ -98,12 +98,12 @@ instr_uses (Store ty value addr align) = use_of value ty ∷ use_of addr Ptr ∷
 instr_uses (Gep dest inbounds ty base indices) = use_of base Ptr ∷ arg_uses indices
 instr_uses (Call dest ret callee args) = arg_uses args
 
--- the operand that is returned, with the type written beside it; none at `ret void`
+-- The operand that is returned, with the type written beside it; none at `ret void`.
 abbrev returned_uses : Option Arg → List Use
 returned_uses None = []
 returned_uses (Some arg) = use_of arg.value arg.ty ∷ []
 
--- the operand of a block's end, if it has one: a branch's condition (i1), a switch's value, or what is returned
+-- The operand of a block's end, if it has one: a branch's condition (i1), a switch's value, or what is returned.
 abbrev pub end_uses : End → List Use
 end_uses (Br label) = []
 end_uses (CondBr cond first second) = use_of cond (Int W1) ∷ []
@@ -111,15 +111,15 @@ end_uses (Switch width value other cases) = use_of value (Int width) ∷ []
 end_uses (Ret arg) = returned_uses arg
 end_uses Unreachable = []
 
--- the operands of edges, in order, all at the type of their phi
+-- The operands of edges, in order, all at the type of their phi.
 abbrev pub edge_uses : Scalar → List Edge → List Use
 edge_uses ty edges = map (λ e. use_of e.value ty) edges
 
--- the operands of a phi, one for each edge, at the phi's type
+-- The operands of a phi, one for each edge, at the phi's type.
 abbrev pub phi_uses : Phi → List Use
 phi_uses p = edge_uses p.ty p.edges
 
--- the blocks that an end names, by their labels
+-- The blocks that an end names, by their labels.
 abbrev pub end_labels : End → List (List ℕ)
 end_labels (Br label) = label ∷ []
 end_labels (CondBr cond first second) = first ∷ second ∷ []
@@ -127,29 +127,29 @@ end_labels (Switch width value other cases) = other ∷ map (λ c. c.label) case
 end_labels (Ret arg) = []
 end_labels Unreachable = []
 
--- the name of the register that an operand is; none for a constant
+-- The name of the register that an operand is; none for a constant.
 abbrev pub operand_registers : Operand → List (List ℕ)
 operand_registers (Reg name) = name ∷ []
 operand_registers (Fixed value) = []
 
--- the names of globals in an operand that is a constant; none for a register
+-- The names of globals in an operand that is a constant; none for a register.
 abbrev operand_globals : Operand → List (List ℕ)
 operand_globals (Reg name) = []
 operand_globals (Fixed value) = names_in value
 
--- the types that are written inside an operand that is a constant; none for a register
+-- The types that are written inside an operand that is a constant; none for a register.
 abbrev operand_types : Operand → List Ty
 operand_types (Reg name) = []
 operand_types (Fixed value) = types_in value
 
--- the names of the registers that are used, in the order of the uses, each as often as it is used
+-- The names of the registers that are used, in the order of the uses, each as often as it is used.
 abbrev pub used_registers : List Use → List (List ℕ)
 used_registers us = flat_map (λ u. operand_registers u.operand) us
 
--- the names of globals in the constants that are used, in the order of the uses, each as often as it is used
+-- The names of globals in the constants that are used, in the order of the uses, each as often as it is used.
 abbrev pub used_globals : List Use → List (List ℕ)
 used_globals us = flat_map (λ u. operand_globals u.operand) us
 
--- the types that are written inside the constants that are used, not the scalar types that the uses state
+-- The types that are written inside the constants that are used, not the scalar types that the uses state.
 abbrev pub used_constant_types : List Use → List Ty
 used_constant_types us = flat_map (λ u. operand_types u.operand) us

@@ -44,69 +44,69 @@ use Rattle.hip_sound.specs.declared.fault.TypeRefusal.{TypeRefusal}
 
 -- ---- names of globals, externs and functions differ, the three lists taken in this order
 
--- a name with the place at which it is declared
+-- A name with the place at which it is declared.
 abbrev named : List ℕ → Place → Named
 named name place = record { name = name; place = place }
 
--- the names of globals, each at its global's number from 0
+-- The names of globals, each at its global's number from 0.
 abbrev pub global_declarations : List GlobalVar → List Named
 global_declarations globals = numbered (λ n g. named g.name (places.Global n)) globals
 
--- the names of external functions, each at its declaration's number from 0
+-- The names of external functions, each at its declaration's number from 0.
 abbrev pub extern_declarations : List Extern → List Named
 extern_declarations externs = numbered (λ n e. named e.name (places.Extern n)) externs
 
--- the names of functions, each at the head of its function, by number from 0
+-- The names of functions, each at the head of its function, by number from 0.
 abbrev pub function_declarations : List Function → List Named
 function_declarations functions = numbered (λ n f. named f.name (places.Head n)) functions
 
--- the names at the top of a program: of globals, then of external functions, then of functions
+-- The names at the top of a program: of globals, then of external functions, then of functions.
 abbrev pub declarations : Program → List Named
 declarations P = global_declarations P.globals ++ extern_declarations P.externs ++ function_declarations P.functions
 
--- the check that the names at the top of a program differ: Duplicate at the first one that is equal to an earlier one
+-- The check that the names at the top of a program differ: Duplicate at the first one that is equal to an earlier one.
 abbrev pub names_check : Program → Check
 names_check P = all_differ (declarations P)
 
 -- ---- globals: their types fit, their initialisers have their types' shape and name globals
 
--- the rules of the global of number n, in this order: its type and those in its initialiser fit (TooLarge), and the
--- initialiser has the shape of the type (BadGlobal) and names only globals that are known (Unknown)
+-- The rules of the global of number n, in this order: its type and those in its initialiser fit (TooLarge), and the
+-- initialiser has the shape of the type (BadGlobal) and names only globals that are known (Unknown).
 abbrev pub global_check : List (List ℕ) → ℕ → GlobalVar → Check
 global_check known n g =
     and_then (types_fit (g.ty ∷ types_in g.init) (places.Global n))
     (and_then (asks_true (has_shape g.init g.ty) breaks.BadGlobal (places.Global n))
     (asks_true (list_all (is_among known) (names_in g.init)) breaks.Unknown (places.Global n)))
 
--- the rules of each global, in order; an initialiser may name every global, its own and later ones too
+-- The rules of each global, in order; an initialiser may name every global, its own and later ones too.
 abbrev pub globals_check : Program → Check
 globals_check P = each (global_check (global_names P)) P.globals
 
 -- ---- the table has each external function, and nothing else has a name of the table
 
--- the table of external functions does not have the name
+-- The table of external functions does not have the name.
 abbrev pub is_free : List ℕ → Bool
 is_free name = is_none (call_of name)
 
--- the declaration has the result and the parameters' types of the signature; false if there is no signature
+-- The declaration has the result and the parameters' types of the signature; false if there is no signature.
 abbrev pub is_of : Extern → Option Signature → Bool
 is_of e None = false
 is_of e (Some s) = same_result e.ret s.ret && all_pass (map same_scalar s.params) e.params
 
--- the check that the name of global n is not in the table: BadExtern at the global
+-- The check that the name of global n is not in the table: BadExtern at the global.
 abbrev pub free_global : ℕ → GlobalVar → Check
 free_global n g = asks_true (is_free g.name) breaks.BadExtern (places.Global n)
 
--- the check that the name of external declaration n is in the table, with the same signature: BadExtern at the
--- declaration
+-- The check that the name of external declaration n is in the table, with the same signature: BadExtern at the
+-- declaration.
 abbrev pub declared : ℕ → Extern → Check
 declared n e = asks_true (is_of e (known_signature e.name)) breaks.BadExtern (places.Extern n)
 
--- the check that the name of function n is not in the table: BadExtern at the head of the function
+-- The check that the name of function n is not in the table: BadExtern at the head of the function.
 abbrev pub free_function : ℕ → Function → Check
 free_function n f = asks_true (is_free f.name) breaks.BadExtern (places.Head n)
 
--- the checks by the table of external functions, in this order: globals, declarations, functions
+-- The checks by the table of external functions, in this order: globals, declarations, functions.
 abbrev pub externs_check : Program → Check
 externs_check P =
     and_then (each free_global P.globals) (and_then (each declared P.externs) (each free_function P.functions))
@@ -123,36 +123,36 @@ sizes_check P =
 
 -- ---- `main` is there, has no parameters and returns an i32
 
--- the result of a function is an i32; false if the function is void
+-- The result of a function is an i32; false if the function is void.
 abbrev pub is_i32 : Option Scalar → Bool
 is_i32 (Some (scalars.Int W32)) = true
 is_i32 _ = false
 
--- there is no parameter
+-- There is no parameter.
 abbrev pub no_params : List Param → Bool
 no_params [] = true
 no_params _ = false
 
--- the function, whatever its name is, has no parameters and returns an i32
+-- The function, whatever its name is, has no parameters and returns an i32.
 abbrev pub is_main : Function → Bool
 is_main f = no_params f.params && is_i32 f.ret
 
--- the first function with the name `main` has no parameters and returns an i32; false if no function has the name
+-- The first function with the name `main` has no parameters and returns an i32; false if no function has the name.
 abbrev pub has_main : List Function → Bool
 has_main [] = false
 has_main (f ∷ fs) = if bytes_eq f.name (codes "main") then is_main f else has_main fs
 
--- the check that there is such a `main`: NoMain, placed at the whole program
+-- The check that there is such a `main`: NoMain, placed at the whole program.
 abbrev pub main_check : Program → Check
 main_check P = asks_true (has_main P.functions) breaks.NoMain places.Whole
 
 -- ---- parameters, labels and registers of a function differ
 
--- the site of phi i, or of instruction i of the body, in block b of function f; all are numbered from 0
+-- The site of phi i, or of instruction i of the body, in block b of function f; all are numbered from 0.
 abbrev pub site : ℕ → ℕ → ℕ → Site
 site f b i = record { function = f; block = b; index = i }
 
--- each name with its place; a parameter and a label have the function's head as their place
+-- Each name with its place; a parameter and a label have the function's head as their place.
 abbrev pub named_in : ℕ → Declares Named
 named_in f = record {
   parameter = λ p. named p.name (places.Head f);
@@ -161,100 +161,100 @@ named_in f = record {
   instr = λ b i r. named r.name (places.Body (site f b i));
 }
 
--- the parameters, labels and registers of the function of number f, in the order of its text, each at its place
+-- The parameters, labels and registers of the function of number f, in the order of its text, each at its place.
 abbrev pub inner_names : ℕ → Function → List Named
 inner_names f fn = declared_by (named_in f) fn
 
--- the check that the names inside function f differ: Duplicate at the first one that is equal to an earlier one
+-- The check that the names inside function f differ: Duplicate at the first one that is equal to an earlier one.
 abbrev pub inner_check : ℕ → Function → Check
 inner_check f fn = all_differ (inner_names f fn)
 
--- parameters, labels and registers differ in each function; two functions may share them
+-- Parameters, labels and registers differ in each function; two functions may share them.
 abbrev pub inner_names_check : Program → Check
 inner_names_check P = each inner_check P.functions
 
 -- ---- each place of each function
 
--- the rules of phi i of block b of function f; `label` is that block's label
+-- The rules of phi i of block b of function f; `label` is that block's label.
 abbrev pub phi_at : Scope → List ℕ → ℕ → ℕ → ℕ → Phi → Check
 phi_at s label f b i p = phi_check s label p (places.Phi (site f b i))
 
--- the rules of instruction i in the body of block b of function f
+-- The rules of instruction i in the body of block b of function f.
 abbrev pub instr_at : Scope → ℕ → ℕ → ℕ → Instr → Check
 instr_at s f b i instr = instr_check s instr (places.Body (site f b i))
 
--- the rules of the places of block b of function f, in order: its phis, its body, its end
+-- The rules of the places of block b of function f, in order: its phis, its body, its end.
 abbrev pub block_check : Scope → ℕ → ℕ → Block → Check
 block_check s f b block =
     and_then (each (phi_at s block.label f b) block.phis)
     (and_then (each (instr_at s f b) block.body) (end_check s block.end (places.End f b)))
 
--- the rules of the places of the function of number f, block by block
+-- The rules of the places of the function of number f, block by block.
 abbrev pub function_check : Program → ℕ → Function → Check
 function_check P f fn = each (block_check (scope_of P fn) f) fn.blocks
 
--- the rules of all places, function by function
+-- The rules of all places, function by function.
 abbrev pub places_check : Program → Check
 places_check P = each (function_check P) P.functions
 
 -- ---- every path to a use of a register assigns the register
 
--- a use of a register: the place of its fault, and its point in the function
+-- A use of a register: the place of its fault, and its point in the function.
 pub record RegisterUse : Type 0 where
   pub place : Place
   pub block : ℕ
   pub point : Point
   pub name : List ℕ
 
--- the use of a register at a point of block b, with the place at which its fault is reported
+-- The use of a register at a point of block b, with the place at which its fault is reported.
 abbrev pub use_at : Place → ℕ → Point → List ℕ → RegisterUse
 use_at place b point name = record { place = place; block = b; point = point; name = name }
 
--- the number of the first block of that label, where blocks count from n, as a list: empty if no block has it
+-- The number of the first block of that label, where blocks count from n, as a list: empty if no block has it.
 abbrev pub block_number_from : ℕ → List Block → List ℕ → List ℕ
 block_number_from n [] label = []
 block_number_from n (b ∷ bs) label = if bytes_eq b.label label then n ∷ [] else block_number_from (n + 1) bs label
 
--- a phi's operand is used at the end of the predecessor
+-- A phi's operand is used at the end of the predecessor.
 abbrev pub edge_register_uses : List Block → Place → Scalar → Edge → List RegisterUse
 edge_register_uses blocks place ty e =
     flat_map (λ b. map (use_at place b AtEnd) (used_registers (record { operand = e.value; ty = ty } ∷ [])))
     (block_number_from 0 blocks e.label)
 
--- the registers that a phi takes, edge by edge, all placed at the phi; an edge gives none if no block has its label
+-- The registers that a phi takes, edge by edge, all placed at the phi; an edge gives none if no block has its label.
 abbrev pub phi_register_uses : List Block → Place → Phi → List RegisterUse
 phi_register_uses blocks place p = flat_map (edge_register_uses blocks place p.ty) p.edges
 
--- an instruction's registers are used before it
+-- An instruction's registers are used before it.
 abbrev pub instr_register_uses : ℕ → ℕ → ℕ → Instr → List RegisterUse
 instr_register_uses f b i instr =
     map (use_at (places.Body (site f b i)) b (Before i)) (used_registers (instr_uses instr))
 
--- the register that the end of a block uses, after all that the block assigns
+-- The register that the end of a block uses, after all that the block assigns.
 abbrev pub end_register_uses : ℕ → ℕ → End → List RegisterUse
 end_register_uses f b end = map (use_at (places.End f b) b AtEnd) (used_registers (end_uses end))
 
--- the uses of registers in block b of function f: in its phis, in its body, at its end
+-- The uses of registers in block b of function f: in its phis, in its body, at its end.
 abbrev pub block_register_uses : List Block → ℕ → ℕ → Block → List RegisterUse
 block_register_uses blocks f b block =
     joined (numbered (λ i p. phi_register_uses blocks (places.Phi (site f b i)) p) block.phis)
     ++ joined (numbered (instr_register_uses f b) block.body) ++ end_register_uses f b block.end
 
--- the uses of registers in a function, in the order of their places
+-- The uses of registers in a function, in the order of their places.
 abbrev pub register_uses : ℕ → Function → List RegisterUse
 register_uses f fn = joined (numbered (block_register_uses fn.blocks f) fn.blocks)
 
--- every path to the use assigns the register
+-- Every path to the use assigns the register.
 abbrev pub UseIsAssigned : Function → RegisterUse → Type 0
 UseIsAssigned fn u = IsAssigned fn u.block u.point u.name
 
--- every path to each use of a register in the function assigns the register (f is its number, for places)
+-- Every path to each use of a register in the function assigns the register (f is its number, for places).
 abbrev pub AllAssigned : Function → ℕ → Type 0
 AllAssigned fn f = All (UseIsAssigned fn) (register_uses f fn)
 
 -- ---- what passes the checks
 
--- a program that is spelled, that passes each check, and whose uses are assigned on every path
+-- A program that is spelled, that passes each check, and whose uses are assigned on every path.
 pub record Passes (P : Program) : Type 0 where
   pub spelled : IsSpelled P
   pub names : (names_check P).Holds
@@ -266,7 +266,7 @@ pub record Passes (P : Program) : Type 0 where
   pub places : (places_check P).Holds
   pub assigned : (f : ℕ) (fn : Function) → slice_get P.functions f ≡ Some fn → AllAssigned fn f
 
--- the rules between spelling and paths, in order
+-- The rules between spelling and paths, in order.
 abbrev pub rules_check : Program → Check
 rules_check P =
     and_then (names_check P)
@@ -307,6 +307,6 @@ is_first P place faults.BadEdge = BreaksFirst P breaks.BadEdge place
 is_first P place faults.TooLarge = BreaksFirst P breaks.TooLarge place
 is_first P place faults.NoMemory = ⊥
 
--- the fault and the place of a refusal are the first of the program; out of memory is no fault of the program
+-- The fault and the place of a refusal are the first of the program; out of memory is no fault of the program.
 abbrev pub IsFirstFault : Program → TypeRefusal → Type 0
 IsFirstFault P refusal = is_first P refusal.place refusal.fault

@@ -39,51 +39,51 @@ use Rattle.hip_sound.specs.declared.point.Point.TheVariants.{Before, AtEnd}
 
 -- ---- names
 
--- the names that a call may have
+-- The names that a call may have.
 abbrev pub callee_names : Program → List (List ℕ)
 callee_names P = map (λ e. e.name) P.externs ++ map (λ f. f.name) P.functions
 
--- the names of globals, of external functions and of functions, in this order
+-- The names of globals, of external functions and of functions, in this order.
 abbrev pub top_names : Program → List (List ℕ)
 top_names P = global_names P ++ callee_names P
 
--- the number of the block of that label
+-- The number of the block of that label.
 abbrev pub label_number : Function → List ℕ → Option ℕ
 label_number fn label = number_of (label_names fn) label
 
--- the names of a function's registers: its parameters, then what its blocks assign
+-- The names of a function's registers: its parameters, then what its blocks assign.
 abbrev pub register_names : Function → List (List ℕ)
 register_names fn = names_of (registers_of fn)
 
--- the label of a block, and the registers that its phis and its instructions assign
+-- The label of a block, and the registers that its phis and its instructions assign.
 abbrev pub names_in_block : Block → List (List ℕ)
 names_in_block b = b.label ∷ names_of (block_registers b)
 
--- the parameters, and the names in each block
+-- The parameters, and the names in each block.
 abbrev pub names_in_function : Function → List (List ℕ)
 names_in_function fn = names_of (parameter_registers fn) ++ flat_map names_in_block fn.blocks
 
 -- ---- globals
 
--- the initialiser of the global has the shape of the global's type
+-- The initialiser of the global has the shape of the global's type.
 abbrev pub HasItsShape : GlobalVar → Type 0
 HasItsShape g = IsTrue (has_shape g.init g.ty)
 
--- each name in the initialiser is the name of a global, so no initialiser has the address of a function
+-- Each name in the initialiser is the name of a global, so no initialiser has the address of a function.
 abbrev pub NamesGlobals : Program → GlobalVar → Type 0
 NamesGlobals P g = All (IsAmong (global_names P)) (names_in g.init)
 
 -- ---- external functions
 
--- the table has this declaration for its name
+-- The table has this declaration for its name.
 abbrev pub IsOfTable : Extern → Type 0
 IsOfTable e = known_signature e.name ≡ Some (record { ret = e.ret; params = e.params })
 
--- no external function has the name
+-- No external function has the name.
 abbrev pub IsFree : List ℕ → Type 0
 IsFree name = call_of name ≡ None
 
--- external functions are declared exactly as in the table, and nothing else has a name of the table
+-- External functions are declared exactly as in the table, and nothing else has a name of the table.
 pub record KeepsToTable (P : Program) : Type 0 where
   pub globals : All (λ g. IsFree g.name) P.globals
   pub externs : All IsOfTable P.externs
@@ -91,14 +91,14 @@ pub record KeepsToTable (P : Program) : Type 0 where
 
 -- ---- sizes
 
--- the region has at most 67,108,864 bytes, and the volatile globals end at most 16,777,216 bytes after their start
+-- The region has at most 67,108,864 bytes, and the volatile globals end at most 16,777,216 bytes after their start.
 pub record KeepsToSizes (P : Program) : Type 0 where
   pub region : region_size P ≤ LARGEST_REGION
   pub volatile : volatile_end P ≤ volatile_start + LARGEST_VOLATILE
 
 -- ---- `main`
 
--- there is a function `main` without parameters, which returns an i32
+-- There is a function `main` without parameters, which returns an i32.
 pub record HasMain (P : Program) : Type 0 where
   pub number : ℕ
   pub function : Function
@@ -109,71 +109,71 @@ pub record HasMain (P : Program) : Type 0 where
 
 -- ---- places
 
--- an item of a block: a phi, an instruction or the end
+-- An item of a block: a phi, an instruction or the end.
 pub data Item : Type 0 where
   PhiItem : Phi → Item
   InstrItem : Instr → Item
   EndItem : End → Item
 
--- the operands of an item, each with the type that its place states
+-- The operands of an item, each with the type that its place states.
 abbrev pub uses_of : Item → List Use
 uses_of (PhiItem p) = phi_uses p
 uses_of (InstrItem i) = instr_uses i
 uses_of (EndItem e) = end_uses e
 
--- the labels that an item names: those of a phi's edges or of an end; an instruction names none
+-- The labels that an item names: those of a phi's edges or of an end; an instruction names none.
 abbrev pub labels_of : Item → List (List ℕ)
 labels_of (PhiItem p) = edge_labels p.edges
 labels_of (InstrItem i) = []
 labels_of (EndItem e) = end_labels e
 
--- the name of the callee at a call; none at any other item
+-- The name of the callee at a call; none at any other item.
 abbrev pub callees_of : Item → List (List ℕ)
 callees_of (InstrItem (Call dest ret callee args)) = callee ∷ []
 callees_of _ = []
 
--- the type that an `alloca` makes room for or a `getelementptr` steps over; none at any other item
+-- The type that an `alloca` makes room for or a `getelementptr` steps over; none at any other item.
 abbrev own_types : Item → List Ty
 own_types (InstrItem i) = written_types i
 own_types _ = []
 
--- the types that are written in an item, in constants too
+-- The types that are written in an item, in constants too.
 abbrev pub types_of : Item → List Ty
 types_of x = own_types x ++ used_constant_types (uses_of x)
 
--- the function and the block of these numbers
+-- The function and the block of these numbers.
 pub record IsBlockAt (P : Program) (f b : ℕ) (fn : Function) (block : Block) : Type 0 where
   pub function : slice_get P.functions f ≡ Some fn
   pub block_is : slice_get fn.blocks b ≡ Some block
 
--- a fact holds of each phi, each instruction and the end of a block
+-- A fact holds of each phi, each instruction and the end of a block.
 pub record EachItem (block : Block) (fact : Item → Type 0) : Type 0 where
   pub phis : All (λ p. fact (PhiItem p)) block.phis
   pub body : All (λ i. fact (InstrItem i)) block.body
   pub last : fact (EndItem block.end)
 
--- a fact holds of each item of each block of each function
+-- A fact holds of each item of each block of each function.
 abbrev pub Everywhere : Program → (Function → Block → Item → Type 0) → Type 0
 Everywhere P fact =
     (f b : ℕ) (fn : Function) (block : Block) → IsBlockAt P f b fn block → EachItem block (fact fn block)
 
--- the registers, globals, callees and labels that an item names exist
+-- The registers, globals, callees and labels that an item names exist.
 pub record NamesExist (P : Program) (fn : Function) (x : Item) : Type 0 where
   pub registers : All (IsAmong (register_names fn)) (used_registers (uses_of x))
   pub globals : All (IsAmong (global_names P)) (used_globals (uses_of x))
   pub callees : All (IsAmong (callee_names P)) (callees_of x)
   pub labels : All (IsAmong (label_names fn)) (labels_of x)
 
--- each type that is written in an item, in constants too, fits
+-- Each type that is written in an item, in constants too, fits.
 abbrev pub TypesFit : Item → Type 0
 TypesFit x = All Fits (types_of x)
 
--- a register has the type that its place states, and a constant has the shape of that type
+-- A register has the type that its place states, and a constant has the shape of that type.
 abbrev pub operand_is_typed : List Register → Operand → Scalar → Type 0
 operand_is_typed registers (Reg name) ty = find_register registers name ≡ Some (Some ty)
 operand_is_typed registers (Fixed value) ty = IsTrue (has_shape value (type_of ty))
 
--- the operand of the use has the type that its place states; a register has its type in the function
+-- The operand of the use has the type that its place states; a register has its type in the function.
 abbrev pub IsTyped : Function → Use → Type 0
 IsTyped fn u = operand_is_typed (registers_of fn) u.operand u.ty
 
@@ -184,7 +184,7 @@ pub record CallAgrees (P : Program) (dest : Option (List ℕ)) (ret : Option Sca
   pub signature : callee_of P callee ≡ Some (record { ret = ret; params = map (λ a. a.ty) args })
   pub register : ret ≡ None → dest ≡ None
 
--- conversions, paths of elements and calls agree, and what is returned has the type of the function's result
+-- Conversions, paths of elements and calls agree, and what is returned has the type of the function's result.
 abbrev pub OwnTypesAgree : Program → Function → Item → Type 0
 OwnTypesAgree P fn (InstrItem (Cast dest op from a to)) = IsTrue (cast_agrees op from to)
 OwnTypesAgree P fn (InstrItem (Gep dest inbounds ty base indices)) = IsTrue (gep_agrees indices ty)
@@ -192,17 +192,17 @@ OwnTypesAgree P fn (InstrItem (Call dest ret callee args)) = CallAgrees P dest r
 OwnTypesAgree P fn (EndItem (Ret arg)) = option_map (λ a. a.ty) arg ≡ fn.ret
 OwnTypesAgree P fn _ = Unit {0}
 
--- each operand has the type that its place states, and what the item itself requires of types holds
+-- Each operand has the type that its place states, and what the item itself requires of types holds.
 pub record TypesAgree (P : Program) (fn : Function) (x : Item) : Type 0 where
   pub operands : All (IsTyped fn) (uses_of x)
   pub own : OwnTypesAgree P fn x
 
--- the values of a switch's cases differ
+-- The values of a switch's cases differ.
 abbrev pub CasesDiffer : Item → Type 0
 CasesDiffer (EndItem (Switch width value other cases)) = AllPairs (λ c d. c.value ≢ d.value) cases
 CasesDiffer _ = Unit {0}
 
--- a block has the first label, and its end names the second
+-- A block has the first label, and its end names the second.
 pub record Precedes (fn : Function) (from to : List ℕ) : Type 0 where
   pub number : ℕ
   pub block : Block
@@ -216,7 +216,7 @@ pub record EdgesAgree (fn : Function) (block : Block) (edges : List Edge) : Type
   pub others : All (λ label. Precedes fn label block.label) (edge_labels edges)
   pub repeats : AllPairs (λ e d. e.label ≡ d.label → e.value ≡ d.value) edges
 
--- the edges of a phi agree, and no end names the entry block
+-- The edges of a phi agree, and no end names the entry block.
 abbrev pub EdgesAreSound : Function → Block → Item → Type 0
 EdgesAreSound fn block (PhiItem p) = EdgesAgree fn block p.edges
 EdgesAreSound fn block (InstrItem i) = Unit {0}
@@ -224,12 +224,12 @@ EdgesAreSound fn block (EndItem e) = All (λ label. label_at fn 0 ≢ Some label
 
 -- ---- paths
 
--- the operand of a phi is used at the end of the predecessor
+-- The operand of a phi is used at the end of the predecessor.
 abbrev pub EdgeIsAssigned : Function → Edge → Type 0
 EdgeIsAssigned fn e =
     (c : ℕ) → label_number fn e.label ≡ Some c → All (IsAssigned fn c AtEnd) (operand_registers e.value)
 
--- every path to each use of a register in a block assigns the register
+-- Every path to each use of a register in a block assigns the register.
 pub record UsesAreAssigned (fn : Function) (b : ℕ) (block : Block) : Type 0 where
   pub phis : All (λ p. All (EdgeIsAssigned fn) p.edges) block.phis
   pub body : (i : ℕ) (instr : Instr) → slice_get block.body i ≡ Some instr →
@@ -246,20 +246,20 @@ RegistersAssigned P = (f b : ℕ) (fn : Function) (block : Block) → IsBlockAt 
 
 -- A program is sound if each of these rules holds.
 pub record IsSound (P : Program) : Type 0 where
-  -- its canonical text reads as the program
+  -- Its canonical text reads as the program.
   pub spelled : IsSpelled P
-  -- names of globals, external functions and functions differ
+  -- Names of globals, external functions and functions differ.
   pub names_differ : AllDiffer (top_names P)
-  -- types of globals fit, and those in their initialisers
+  -- Types of globals fit, and those in their initialisers.
   pub global_types_fit : All TypesFitIn P.globals
-  -- initialisers have the shape of their globals' types
+  -- Initialisers have the shape of their globals' types.
   pub initialisers_have_shape : All HasItsShape P.globals
-  -- and name globals
+  -- And name globals.
   pub initialisers_name_globals : All (NamesGlobals P) P.globals
   pub externs : KeepsToTable P
   pub sizes : KeepsToSizes P
   pub main : HasMain P
-  -- parameters, labels and registers of a function differ
+  -- Parameters, labels and registers of a function differ.
   pub inner_names_differ : All (λ fn. AllDiffer (names_in_function fn)) P.functions
   pub names_exist : Everywhere P (λ fn block. NamesExist P fn)
   pub types_fit : Everywhere P (λ fn block. TypesFit)

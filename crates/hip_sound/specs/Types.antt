@@ -8,56 +8,56 @@ use Rattle.hip_types.specs.declared.ty.Ty.TheOpen.{Ty-F}
 use Rattle.hip_types.specs.declared.ty.Ty.TheFolds.{fold-Ty}
 use Rattle.hip_types.specs.Widths.{bits_of}
 
--- two integer types have the same number of bits
+-- Two integer types have the same number of bits.
 abbrev pub same_width : Width → Width → Bool
 same_width v w = bits_of v == bits_of w
 
--- two scalars are both pointers, or both integers of the same width
+-- Two scalars are both pointers, or both integers of the same width.
 abbrev pub same_scalar : Scalar → Scalar → Bool
 same_scalar (scalars.Int v) (scalars.Int w) = same_width v w
 same_scalar scalars.Ptr scalars.Ptr = true
 same_scalar _ _ = false
 
--- the results of two functions are the same; a function may have none
+-- The results of two functions are the same; a function may have none.
 abbrev pub same_result : Option Scalar → Option Scalar → Bool
 same_result None None = true
 same_result (Some a) (Some b) = same_scalar a b
 same_result _ _ = false
 
--- each test passes at the type beside it, and there are as many tests as types
+-- Each test passes at the type beside it, and there are as many tests as types.
 abbrev pub all_pass : {A : Type 0} → List (A → Bool) → List A → Bool
 all_pass [] [] = true
 all_pass (test ∷ tests) (x ∷ xs) = test x && all_pass tests xs
 all_pass _ _ = false
 
--- one level of a type is an integer of that width
+-- One level of a type is an integer of that width.
 abbrev pub is_int : Width → Ty-F Ty → Bool
 is_int w (Ty-F.Int v) = same_width w v
 is_int w _ = false
 
--- one level of a type is a pointer
+-- One level of a type is a pointer.
 abbrev pub is_ptr : Ty-F Ty → Bool
 is_ptr Ty-F.Ptr = true
 is_ptr _ = false
 
--- one level of a type is an array of n elements whose type passes the test, also where n is 0
+-- One level of a type is an array of n elements whose type passes the test, also where n is 0.
 abbrev is_array : ℕ → (Ty → Bool) → Ty-F Ty → Bool
 is_array n item (Ty-F.Array m t) = n == m && item t
 is_array n item _ = false
 
--- one level of a type is a struct with a field for each test, whose type passes that test
+-- One level of a type is a struct with a field for each test, whose type passes that test.
 abbrev pub is_struct : List (Ty → Bool) → Ty-F Ty → Bool
 is_struct tests (Ty-F.Struct ts) = all_pass tests ts
 is_struct tests _ = false
 
--- one level of a type, with the test of each type inside in its place
+-- One level of a type, with the test of each type inside in its place.
 abbrev pub same_level : Ty-F (Ty → Bool) → Ty-F Ty → Bool
 same_level (Ty-F.Int w) t = is_int w t
 same_level Ty-F.Ptr t = is_ptr t
 same_level (Ty-F.Array n item) t = is_array n item t
 same_level (Ty-F.Struct tests) t = is_struct tests t
 
--- the outermost level of a type is like this one, with a test of each type inside
+-- The outermost level of a type is like this one, with a test of each type inside.
 abbrev pub same_step : Ty-F (Ty → Bool) → Ty → Bool
 same_step tests t = same_level tests (out-Ty t)
 

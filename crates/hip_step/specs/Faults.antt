@@ -7,7 +7,7 @@ use Rattle.hip_runs.specs.declared.input.InputFault.{InputFault}
 use Rattle.hip_runs.specs.declared.input.InputFault.TheVariants.{BadBase, BadImage, TooManyNumbers, BadLimit}
 use Rattle.hip_runs.specs.declared.limits.TheConstants.{MOST_NUMBERS, MOST_TURNS}
 
--- the first of the rules that the input breaks, in their order
+-- The first of the rules that the input breaks, in their order.
 abbrev pub first_fault : Program → Input → Option InputFault
 first_fault P I =
     cond (is_base I.base)

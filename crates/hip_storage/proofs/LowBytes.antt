@@ -26,6 +26,6 @@ power_of_bits (suc (suc (suc (suc (suc (suc zero)))))) h = refl
 power_of_bits (suc (suc (suc (suc (suc (suc (suc zero))))))) h = refl
 power_of_bits (suc (suc (suc (suc (suc (suc (suc (suc n)))))))) h = absurd (omega (arith, h))
 
--- the remainder as the code takes it, where fewer than eight bytes are wanted
+-- The remainder as the code takes it, where fewer than eight bytes are wanted.
 pub remainder_is : (n v : ℕ) → n < 8 → v % (1 * 2 ^ (8 * n) % 18446744073709551616) ≡ little_endian (bytes_of n v)
 remainder_is n v h = ap (λ m. v % m) (power_of_bits n h) ∙ sym (low_bytes_are n v)

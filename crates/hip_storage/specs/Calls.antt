@@ -8,34 +8,34 @@ use Rattle.hip_storage.specs.Contents.{Contents, access_trap, block_trap, range_
 use Rattle.hip_storage.specs.declared.refusal.StorageRefusal.{StorageRefusal}
 use Rattle.hip_storage.specs.declared.refusal.StorageRefusal.TheVariants.{Trap, NoMemory}
 
--- the number of the n bytes from address a on, the lowest first, was loaded
+-- The number of the n bytes from address a on, the lowest first, was loaded.
 pub record HasLoaded (s : Contents) (a n align value : ℕ) : Type 0 where
   pub allowed : access_trap s a n align ≡ None
   pub loaded : value ≡ little_endian (bytes_in s.areas a n)
 
--- the low n bytes of a number were stored
+-- The low n bytes of a number were stored.
 pub record HasStored (old new : Contents) (event : Event) (a n align value : ℕ) : Type 0 where
   pub allowed : access_trap old a n align ≡ None
   pub contents : new ≡ after_store a n value old
   pub seen : event ≡ store_event old a n value
 
--- a block was made on the stack
+-- A block was made on the stack.
 pub record HasPushed (old new : Contents) (block size align : ℕ) : Type 0 where
   pub allowed : block_trap old size align ≡ None
   pub contents : new ≡ after_push size align old
   pub address : block ≡ block_address old.areas align
 
--- the cache lines of a range may be flushed, and a flush of it is seen as this event
+-- The cache lines of a range may be flushed, and a flush of it is seen as this event.
 pub record ShowsFlush (s : Contents) (event : Event) (a n : ℕ) : Type 0 where
   pub allowed : range_trap s a n ≡ None
   pub seen : event ≡ flush_event s a n
 
--- the cache lines of a range may be flushed with a fence after it, and a persist of it is seen as this event
+-- The cache lines of a range may be flushed with a fence after it, and a persist of it is seen as this event.
 pub record ShowsPersist (s : Contents) (event : Event) (a n : ℕ) : Type 0 where
   pub allowed : range_trap s a n ≡ None
   pub seen : event ≡ persist_event s a n
 
--- a refusal is the trap of the run, or out of memory
+-- A refusal is the trap of the run, or out of memory.
 abbrev pub IsRefusedFor : Option TrapKind → StorageRefusal → Type 0
 IsRefusedFor trap (Trap kind) = trap ≡ Some kind
 IsRefusedFor trap NoMemory = Unit {0}

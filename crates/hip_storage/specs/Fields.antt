@@ -4,11 +4,11 @@ use Rattle.hip_types.specs.declared.limits.TheConstants.{LARGEST_REGION}
 use Rattle.hip_storage.specs.Contents.{Contents}
 use Rattle.hip_storage.specs.declared.storage.Storage.TheInside.{Inside}
 
--- the bytes of the memory
+-- The bytes of the memory.
 abbrev pub contents_of : Inside → Contents
 contents_of s = record { areas = s.ram }
 
--- the region's place and size are those of the memory
+-- The region's place and size are those of the memory.
 pub record IsKept (s : Inside) : Type 0 where
   pub base : s.base ≡ s.ram.base
   pub size : s.size ≡ length s.ram.region

@@ -21,7 +21,7 @@ pub record HoldsRun (P : Program) (I : Input) (s : Contents) (writes : List Writ
   pub volatile : volatile_start + length (volatile_bytes P I.base) ≡ volatile_end P
   pub memory : HoldsMemory P I s.areas writes mark
 
--- the contents are those of a state
+-- The contents are those of a state.
 abbrev pub HoldsState : Program → Input → Contents → State → Type 0
 HoldsState P I s t = HoldsRun P I s t.world.writes t.world.mark
 
@@ -36,7 +36,7 @@ pub record Point : Type 0 where
   pub after : Counts
   pub turn : Bool
 
--- the contents are those of the state that a step begins with
+-- The contents are those of the state that a step begins with.
 abbrev pub HoldsAt : Program → Input → Contents → Point → Type 0
 HoldsAt P I s p = HoldsRun P I s p.world.writes p.world.mark
 
@@ -49,7 +49,7 @@ pub record Stand : Type 0 where
   pub contents : Contents
   pub holds : HoldsAt program input contents point
 
--- the state after an action
+-- The state after an action.
 abbrev pub performed : Input → Point → Action → State
 performed I p action =
     perform I (cond p.turn (with_turn p.world) p.world) p.frame p.frames p.lines p.before p.after action
@@ -62,25 +62,25 @@ pub record HasDone (P : Program) (I : Input) (p : Point) (s : Contents) (e : Eve
   pub holds : HoldsState P I s (performed I p done)
   pub seen : e ≡ event_of I p.frames done
 
--- the step does the action `done`, which leaves these contents and shows this event
+-- The step does the action `done`, which leaves these contents and shows this event.
 abbrev pub Does : Stand → Contents → Event → Action → Action → Type 0
 Does at s e action done = HasDone at.program at.input at.point s e action done
 
--- an access of some bytes at an address, with its alignment
+-- An access of some bytes at an address, with its alignment.
 pub record Access : Type 0 where
   pub addr : ℕ
   pub size : ℕ
   pub align : ℕ
   pub some : 0 < size
 
--- the action of an access at a step, where `go` is the action if the access does not trap
+-- The action of an access at a step, where `go` is the action if the access does not trap.
 abbrev pub accessed_at : Stand → Access → Action → Action
 accessed_at at x go = accessed at.program at.input at.point.world x.addr x.size x.align go
 
--- the trap of an access to the storage, if there is one
+-- The trap of an access to the storage, if there is one.
 abbrev pub trap_at : Stand → Access → Option TrapKind
 trap_at at x = access_trap at.contents x.addr x.size x.align
 
--- the action of a flush of a range at a step, where `go` is the action if the flush does not trap
+-- The action of a flush of a range at a step, where `go` is the action if the flush does not trap.
 abbrev pub flushing_at : Stand → ℕ → ℕ → Action → Action
 flushing_at at addr size go = flushing at.program at.input at.point.world addr size go

@@ -18,15 +18,15 @@ use Rattle.hip_runs.specs.declared.report.Report.{Report}
 
 -- ---- working memory
 
--- the byte of working memory at an offset of the region
+-- The byte of working memory at an offset of the region.
 abbrev pub working_byte : Program → Input → State → ℕ → ℕ
 working_byte P I s b = byte_at (memory_of P I s.world) (I.base + b)
 
--- the bytes of the region in working memory
+-- The bytes of the region in working memory.
 abbrev pub working_region : Program → Input → State → List ℕ
 working_region P I s = bytes_at (memory_of P I s.world) I.base (length I.image)
 
--- the parts of stores in the cache line of byte b of the region, in order; none if the region has no such line
+-- The parts of stores in the cache line of byte b of the region, in order; none if the region has no such line.
 abbrev pub parts_over : State → ℕ → List StorePart
 parts_over s b = parts_of covers byte_of (slice_get s.lines (b / LINE_SIZE))
 
@@ -35,7 +35,7 @@ abbrev pub HasAllParts : Program → Input → State → ℕ → Type 0
 HasAllParts P I s b =
     (working_byte P I s b ≡ byte_after covers byte_of (parts_over s b) b (slice_index I.image b))
 
--- the number of all parts of each line
+-- The number of all parts of each line.
 abbrev pub all_parts : State → ℕ → ℕ
 all_parts s j = length (parts_of covers byte_of (slice_get s.lines j))
 
@@ -50,7 +50,7 @@ IsOnlyImage P I s = (content : List ℕ) → IsCrashImage I s content → conten
 
 -- ---- what a crash leaves
 
--- byte b of the region is loose: the last part of its line that covers it is not durable
+-- Byte b of the region is loose: the last part of its line that covers it is not durable.
 abbrev pub IsLooseAt : State → ℕ → Type 0
 IsLooseAt s b =
     (l : Line StorePart) × (slice_get s.lines (b / LINE_SIZE) ≡ Some l) × IsLoose covers l b
@@ -69,13 +69,13 @@ pub record IsFromPartOn (s : State) (line place : ℕ) (content : List ℕ) (b :
   pub over : covers part b ≡ true
   pub value : slice_index content b ≡ byte_of part b
 
--- the durable parts of a line, if it is there
+-- The durable parts of a line, if it is there.
 abbrev pub durable_of : Option (Line StorePart) → List StorePart
 durable_of None = []
 durable_of (Some l) = take l.durable l.parts
 
--- byte b of the region with the durable parts alone: the initial byte, changed by the durable parts of its line in
--- order
+-- Byte b of the region with the durable parts alone: the initial byte, changed by the durable parts of its line in
+-- order.
 abbrev pub durable_byte : Input → State → ℕ → ℕ
 durable_byte I s b =
     byte_after covers byte_of (durable_of (slice_get s.lines (b / LINE_SIZE))) b (slice_index I.image b)

@@ -24,17 +24,17 @@ use Rattle.hip_repairing.specs.Making.{IsThinnedFor}
 use Rattle.hip_repairing.specs.declared.thinning.Thinned.{Thinned}
 use Rattle.hip_sound.specs.Sound.{IsSound}
 
--- a plan has each of its own sites
+-- A plan has each of its own sites.
 pub itself : (plan : Plan) → Contains plan plan
 itself plan = record { flush_after = λ s h. h; fence_after = λ s h. h; hoist = λ s h. h }
 
 module _ (P : Program) (I : Input) (found : Findings) (thinned : Thinned) (is : IsThinnedFor P found thinned)
     (cured : IsThinned P I found) (s : Sinks) where
-  -- how many reports, flushes, fences, hoisted calls, clones and spared stores there are
+  -- How many reports, flushes, fences, hoisted calls, clones and spared stores there are.
   abbrev counts : List ℕ
   counts = thin_counts (length found.reports) thinned.repair.plan (length thinned.repair.repaired.clones) thinned.spared
 
-  -- the answer of `thin`: the repaired program, and the counts on notes
+  -- The answer of `thin`: the repaired program, and the counts on notes.
   abbrev answer : Answer
   answer = record { status = statuses.Done; out = show thinned.repair.repaired.checked; notes = counts }
 

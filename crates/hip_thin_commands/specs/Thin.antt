@@ -17,15 +17,15 @@ use Rattle.hip_runs.specs.declared.report.Findings.{Findings}
 use Rattle.hip_repairing.specs.Spared.{spared_count}
 use Rattle.hip_levels.specs.LowStores.{low_stores}
 
--- the program repaired by the plan for what a run found; the low stores get no flush by cloning
+-- The program repaired by the plan for what a run found; the low stores get no flush by cloning.
 abbrev pub thinned_for : Program → Findings → Program
 thinned_for P found = repaired P (plan_for P found) (low_stores P)
 
--- what that repair does, on the run's input
+-- What that repair does, on the run's input.
 abbrev pub IsThinned : Program → Input → Findings → Type 0
 IsThinned P I found = IsCuredBy P I (plan_for P found) (low_stores P)
 
--- the counts of `thin`: those of `repair`, and how many stores are spared
+-- The counts of `thin`: those of `repair`, and how many stores are spared.
 abbrev pub thin_counts : ℕ → Plan → ℕ → ℕ → List ℕ
 thin_counts reports plan clones spared = repair_counts reports plan clones ++ count_line (codes "spared") spared
 
@@ -40,6 +40,6 @@ pub record HasThinned (P : Program) (I : Input) (found : Findings) (answer : Ans
       (spared_count P (plan_for P found))
   pub cured : IsThinned P I found
 
--- the answers of `thin`: if there is a run, the program repaired for it; its clones do not flush the low stores
+-- The answers of `thin`: if there is a run, the program repaired for it; its clones do not flush the low stores.
 abbrev pub ThinAnswers : CabinetState → CabinetState → List ℕ → List ℕ → Answer → Type 0
 ThinAnswers = TraceAnswers HasThinned

@@ -10,7 +10,7 @@ cut_inside line zero bs = refl
 cut_inside line (suc k) [] = refl
 cut_inside line (suc k) (b ∷ bs) = cut_inside line k bs
 
--- one step of the cut, by the first byte
+-- One step of the cut, by the first byte.
 pub cut_blank : (line b : ℕ) (bs : List ℕ) → is_blank b ≡ true
     → cut line 0 (b ∷ bs) ≡ cut (line_after line b) 0 bs
 unfolding cut

@@ -6,14 +6,14 @@ use Rattle.hip_tokens.specs.Bytes.{is_blank, is_digit, begins_name, goes_on_name
 use Rattle.hip_tokens.specs.Longest.{is_name}
 use Rattle.hip_tokens.specs.Tokens.{Tok, Word, Label, Local, Global, Str, Odd, Piece, piece, piece_at, name_here, word_piece, number_piece, minus_piece, local_piece, global_piece, string_piece, At, line_after, cut, tokens}
 
--- whether the text of a label, a LOCAL or a GLOBAL has the form of a name; every other token passes
+-- Whether the text of a label, a LOCAL or a GLOBAL has the form of a name; every other token passes.
 abbrev pub is_formed : Tok → Bool
 is_formed (Label t) = is_name t
 is_formed (Local t) = is_name t
 is_formed (Global t) = is_name t
 is_formed _ = true
 
--- each token that has a name has one of this form
+-- Each token that has a name has one of this form.
 abbrev pub AreFormed : List At → Type 0
 AreFormed [] = Unit {0}
 AreFormed (t ∷ ts) = (is_formed t.tok ≡ true) × AreFormed ts
@@ -43,11 +43,11 @@ name_front (b ∷ bs) e = rw (goes, one-add, e, prefix_all goes_on_name bs) refl
 
 -- ---- tokens
 
--- the same for a piece's token
+-- The same for a piece's token.
 record IsFormed (p : Piece) : Type 0 where
   formed : is_formed p.tok ≡ true
 
--- the same for one of two pieces, by a test
+-- The same for one of two pieces, by a test.
 by_test : (c : Bool) (p q : Piece) → (c ≡ true → IsFormed p) → (c ≡ false → IsFormed q)
     → IsFormed (cond c p q)
 by_test true p q h k = h refl
@@ -113,6 +113,6 @@ cut_formed line zero (b ∷ bs) =
     (cut_formed (line_after line b) 0 bs) (cut_formed line (prefix_len in_comment bs) bs) (piece_formed b bs).formed
     (cut_formed line (piece_at b bs).more bs)
 
--- the tokens of a text
+-- The tokens of a text.
 pub tokens_formed : (text : List ℕ) → AreFormed (tokens text)
 tokens_formed text = cut_formed 1 0 text

@@ -2,6 +2,6 @@
 use Rattle.hip_tokens.specs.Bytes.{byte}
 use Rattle.std.specs.Prelude.{ℕ, ◌+◌, ◌-◌, List, length, take, count_by, ◌==◌}
 
--- the line of the last byte, or 1 of an empty text; a line feed is on the line that it ends
+-- The line of the last byte, or 1 of an empty text; a line feed is on the line that it ends.
 abbrev pub last_line : List ℕ → ℕ
 last_line text = 1 + count_by (λ b. b == byte "\n") (take (length text - 1) text)

@@ -10,21 +10,21 @@ abbrev pub is_name : List ℕ → Bool
 is_name [] = false
 is_name (b ∷ bs) = begins_name b && list_all goes_on_name bs
 
--- one or more decimal digits
+-- One or more decimal digits.
 abbrev pub are_digits : List ℕ → Bool
 are_digits [] = false
 are_digits (d ∷ ds) = is_digit d && list_all is_digit ds
 
--- one or more decimal digits, after a `-` or none
+-- One or more decimal digits, after a `-` or none.
 abbrev pub is_number : List ℕ → Bool
 is_number [] = false
 is_number (d ∷ ds) = ((d == byte "-") && are_digits ds) || are_digits (d ∷ ds)
 
--- a byte that begins no other token
+-- A byte that begins no other token.
 abbrev pub is_odd : ℕ → Bool
 is_odd b = not (begins_name b || (is_digit b || is_mark b))
 
--- the bytes that spell a token, by its kind
+-- The bytes that spell a token, by its kind.
 abbrev pub Spells : Tok → List ℕ → Type 0
 Spells (Word t) w = (w ≡ t) × (is_name t ≡ true)
 Spells (Label t) w = (w ≡ t ++ codes ":") × (is_name t ≡ true)
@@ -35,7 +35,7 @@ Spells (Str t) w = (w ≡ codes "\"" ++ (t ++ codes "\"")) × (list_all in_strin
 Spells (Mark b) w = (w ≡ b ∷ []) × (is_mark b ≡ true)
 Spells (Odd b) w = (w ≡ b ∷ []) × (is_odd b ≡ true)
 
--- the piece is a token, and no token that begins here is longer
+-- The piece is a token, and no token that begins here is longer.
 pub record IsLongest (b : ℕ) (bs : List ℕ) (p : Piece) : Type 0 where
   pub spelled : Spells p.tok (b ∷ take p.more bs)
   pub longest : (t : Tok) (w rest : List ℕ) → Spells t w → b ∷ bs ≡ w ++ rest → length w ≤ p.more + 1

@@ -4,7 +4,7 @@ use Rattle.hip_tokens.specs.declared.lexer.Token.{Token}
 use Rattle.hip_tokens.specs.declared.lexer.Token.TheVariants as code
 use Rattle.hip_tokens.specs.Tokens.{Tok, Word, Label, Local, Global, Num, Str, Mark, Odd, At}
 
--- the token of the definitions that a token of the code is: the same kind, with the same text or byte
+-- The token of the definitions that a token of the code is: the same kind, with the same text or byte.
 abbrev pub seen : Token → Tok
 seen (code.Word t) = Word t.now
 seen (code.Label t) = Label t.now
@@ -15,7 +15,7 @@ seen (code.Str t) = Str t.now
 seen (code.Mark b) = Mark b
 seen (code.Odd b) = Odd b
 
--- the next token, if there is one, is the first of the tokens before, and the others are left
+-- The next token, if there is one, is the first of the tokens before, and the others are left.
 abbrev pub IsNext : List At → Option (Token × ℕ) → List At → Type 0
 IsNext before None after = (before ≡ []) × (after ≡ [])
 IsNext before (Some x) after = before ≡ (record { tok = seen x.0; line = x.1 }) ∷ after

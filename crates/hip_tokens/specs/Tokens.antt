@@ -15,57 +15,57 @@ pub data Tok : Type 0 where
   Mark : ℕ → Tok
   Odd : ℕ → Tok
 
--- a token, and how many bytes it has after its first
+-- A token, and how many bytes it has after its first.
 pub record Piece : Type 0 where
   pub tok : Tok
   pub more : ℕ
 
--- this token, with n bytes after its first
+-- This token, with n bytes after its first.
 abbrev pub piece : Tok → ℕ → Piece
 piece t n = record { tok = t; more = n }
 
--- whether a name begins here
+-- Whether a name begins here.
 abbrev pub name_here : List ℕ → Bool
 name_here [] = false
 name_here (b ∷ bs) = begins_name b
 
--- a name is a label if `:` follows it
+-- A name is a label if `:` follows it.
 unfoldable pub word_piece : ℕ → List ℕ → Piece
 word_piece b bs =
     if slice_index bs (prefix_len goes_on_name bs) == byte ":"
     then piece (Label (b ∷ take (prefix_len goes_on_name bs) bs)) (prefix_len goes_on_name bs + 1)
     else piece (Word (b ∷ take (prefix_len goes_on_name bs) bs)) (prefix_len goes_on_name bs)
 
--- after `%`: the LOCAL of the name that begins with these bytes, or `%` alone as an odd byte
+-- After `%`: the LOCAL of the name that begins with these bytes, or `%` alone as an odd byte.
 unfoldable pub local_piece : List ℕ → Piece
 local_piece bs =
     if name_here bs
     then piece (Local (take (prefix_len goes_on_name bs) bs)) (prefix_len goes_on_name bs)
     else piece (Odd (byte "%")) 0
 
--- after `@`: the GLOBAL of the name that begins with these bytes, or `@` alone as an odd byte
+-- After `@`: the GLOBAL of the name that begins with these bytes, or `@` alone as an odd byte.
 unfoldable pub global_piece : List ℕ → Piece
 global_piece bs =
     if name_here bs
     then piece (Global (take (prefix_len goes_on_name bs) bs)) (prefix_len goes_on_name bs)
     else piece (Odd (byte "@")) 0
 
--- a number whose first byte is b, a digit or `-`, with all digits that follow it
+-- A number whose first byte is b, a digit or `-`, with all digits that follow it.
 unfoldable pub number_piece : ℕ → List ℕ → Piece
 number_piece b bs = piece (Num (b ∷ take (prefix_len is_digit bs) bs)) (prefix_len is_digit bs)
 
--- after `-`: the number of the digits that follow, or `-` alone as an odd byte
+-- After `-`: the number of the digits that follow, or `-` alone as an odd byte.
 unfoldable pub minus_piece : List ℕ → Piece
 minus_piece bs = if prefix_len is_digit bs == 0 then piece (Odd (byte "-")) 0 else number_piece (byte "-") bs
 
--- a string that ends on its line, or `"` alone as an odd byte
+-- A string that ends on its line, or `"` alone as an odd byte.
 unfoldable pub string_piece : List ℕ → Piece
 string_piece bs =
     if slice_index bs (prefix_len in_string bs) == byte "\""
     then piece (Str (take (prefix_len in_string bs) bs)) (prefix_len in_string bs + 1)
     else piece (Odd (byte "\"")) 0
 
--- the longest token that begins with b, a byte that neither separates tokens nor begins a comment
+-- The longest token that begins with b, a byte that neither separates tokens nor begins a comment.
 unfoldable pub piece_at : ℕ → List ℕ → Piece
 piece_at b bs =
     if begins_name b then word_piece b bs
@@ -77,11 +77,11 @@ piece_at b bs =
     else (if is_mark b then piece (Mark b) 0
     else piece (Odd b) 0))))))
 
--- the line after byte b of this line: the next one if b is a line feed, else the same
+-- The line after byte b of this line: the next one if b is a line feed, else the same.
 abbrev pub line_after : ℕ → ℕ → ℕ
 line_after line b = if b == byte "\n" then line + 1 else line
 
--- a token and its line
+-- A token and its line.
 pub record At : Type 0 where
   pub tok : Tok
   pub line : ℕ
@@ -95,6 +95,6 @@ cut line zero (b ∷ bs) =
     else (if b == byte ";" then cut line (prefix_len in_comment bs) bs
     else (record { tok = (piece_at b bs).tok; line = line }) ∷ cut line (piece_at b bs).more bs)
 
--- the tokens of a text
+-- The tokens of a text.
 abbrev pub tokens : List ℕ → List At
 tokens text = cut 1 0 text

@@ -10,12 +10,12 @@ use Rattle.hip_tokens.specs.Tokens.{Tok, Word, Label, Local, Global, Num, Mark, 
 use Rattle.hip_tokens.specs.Longest.{is_name, are_digits}
 use Rattle.hip_tokens.specs.Cuts.{cut_token}
 
--- the first byte does not pass the test; true if there is none
+-- The first byte does not pass the test; true if there is none.
 abbrev pub begins_without : (ℕ → Bool) → List ℕ → Bool
 begins_without p [] = true
 begins_without p (b ∷ bs) = not (p b)
 
--- the bytes continue no name, and make none a label
+-- The bytes continue no name, and make none a label.
 abbrev pub ends_word : List ℕ → Bool
 ends_word [] = true
 ends_word (b ∷ bs) = not (goes_on_name b) && not (b == byte ":")
@@ -72,7 +72,7 @@ begins_here : (name rest : List ℕ) → is_name name ≡ true → name_here (na
 begins_here [] rest p = absurd cc
 begins_here (b ∷ bs) rest p = (and_parts (begins_name b) (list_all goes_on_name bs) p).0
 
--- a token on this line
+-- A token on this line.
 abbrev pub at_line : ℕ → Tok → At
 at_line line t = record { tok = t; line = line }
 
@@ -93,7 +93,7 @@ word_cut line (b ∷ bs) rest p e =
     cut_token line b (bs ++ rest) (Word (b ∷ bs)) (length bs) o.0 o.1 token
     ∙ rw (drop_at bs rest (length bs) refl) refl
 
--- a name before `:`
+-- A name before `:`.
 pub label_cut : (line : ℕ) (name rest : List ℕ) → is_name name ≡ true
     → cut line 0 (name ++ 58 ∷ rest) ≡ at_line line (Label name) ∷ cut line 0 rest
 unfolding piece_at word_piece

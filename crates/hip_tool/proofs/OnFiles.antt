@@ -151,7 +151,7 @@ module _ (files : List NamedFile) (p : List ℕ) (P : Program) (given : IsProgra
 
   -- ---- many traces
 
-  -- an answer that names a file which is not a trace is not an answer of `many` that is carried out
+  -- An answer that names a file which is not a trace is not an answer of `many` that is carried out.
   not_untraced : (number : ℕ) (why : TraceFileRefusal) → pathless (status_in number why) ≡ statuses.Done → ⊥
   not_untraced number traces.Missing e = cc
   not_untraced number (traces.Misfit entry kind) e = cc

@@ -21,7 +21,7 @@ pub record IsMisused (old new : CabinetState) (answer : Answer) : Type 0 where
   pub met : new ≡ old
   pub is : answer ≡ refusal statuses.Usage
 
--- the answers of each order
+-- The answers of each order.
 abbrev pub AnswersTo : Option Order → CabinetState → CabinetState → Answer → Type 0
 AnswersTo None old new answer = IsMisused old new answer
 AnswersTo (Some (Run program limit numbers)) old new answer = RunAnswers old new program limit numbers answer
@@ -36,7 +36,7 @@ AnswersTo (Some (Crash program trace entry picks)) old new answer =
     CrashAnswers old new program trace entry picks answer
 AnswersTo (Some (Thin program trace)) old new answer = ThinAnswers old new program trace answer
 
--- whether the command of an order writes its text while it makes it
+-- Whether the command of an order writes its text while it makes it.
 abbrev pub begins : Option Order → Bool
 begins (Some (Run program limit numbers)) = true
 begins (Some (Record program base limit numbers)) = true
@@ -44,14 +44,14 @@ begins (Some (Rerun program trace)) = true
 begins (Some (Crash program trace entry picks)) = true
 begins _ = false
 
--- whether an order writes what one run of the program does: `run`, `record` and `crash`
+-- Whether an order writes what one run of the program does: `run`, `record` and `crash`.
 abbrev pub is_run : Order → Bool
 is_run (Run program limit numbers) = true
 is_run (Record program base limit numbers) = true
 is_run (Crash program trace entry picks) = true
 is_run _ = false
 
--- an order's base, limit, numbers, seed and size are within their bounds
+-- An order's base, limit, numbers, seed and size are within their bounds.
 abbrev pub IsFit : Order → Type 0
 IsFit (Run program limit numbers) = (limit ≤ MOST_TURNS) × (length numbers ≤ MOST_NUMBERS)
 IsFit (Record program base limit numbers) = IsBase base × (limit ≤ MOST_TURNS) × (length numbers ≤ MOST_NUMBERS)

@@ -40,7 +40,7 @@ use Rattle.hip_words.specs.declared.order.Order.TheVariants.{Run, Record, Check,
 
 -- ---- nothing fails
 
--- a count stays the same, though it could have risen: it is below the last value that it can have
+-- A count stays the same, though it could have risen: it is below the last value that it can have.
 pub record Stays (before after : ℕ) : Type 0 where
   pub same : after ≡ before
   pub room : before < 2 ^ 64 - 1
@@ -84,7 +84,7 @@ pub record IsRepairOf (P Q : Program) (I : Input) : Type 0 where
   -- Later repairs keep all that.
   pub lasts : LastsOn P Q I
 
--- the answer is done, and the text for out is that of a program that is a repair of P for each of these inputs
+-- The answer is done, and the text for out is that of a program that is a repair of P for each of these inputs.
 pub record WritesRepair (P : Program) (inputs : List Input) (answer : Answer) : Type 0 where
   pub status_is : answer.status ≡ Done
   pub repaired : Program
@@ -105,14 +105,14 @@ Headline =
 
 -- ---- the other orders
 
--- the text for out is all that the program prints on the input; the status and the text for notes say how the run ends
+-- The text for out is all that the program prints on the input; the status and the text for notes say how the run ends.
 pub record WritesOutput (P : Program) (I : Input) (answer : Answer) : Type 0 where
   pub ending : Ending
   pub printed : IsPrinted P I answer.out ending
   pub status_is : answer.status ≡ status_of_ending ending
   pub notes_is : answer.notes ≡ ending_line ending
 
--- the run on the input finds something, and the answer has the texts for it
+-- The run on the input finds something, and the answer has the texts for it.
 abbrev pub OfRun : (Program → Input → Findings → Answer → Type 0) → Program → Input → Answer → Type 0
 OfRun Texts P I answer = (found : Findings) × IsFound P I found × Texts P I found answer
 

@@ -51,7 +51,7 @@ digits_inner : (ds : List ℕ) → AllDigits 16 ds → list_any is_separator ds 
 digits_inner [] h = refl
 digits_inner (d ∷ ds) h = rw (digit_inner d h.0) (digits_inner ds h.1)
 
--- the number whose digits stand up to a place
+-- The number whose digits stand up to a place.
 pub digits_first : (bytes : List ℕ) (at n : ℕ) → at ≤ length bytes → 0 < at → AllDigits 16 (take at bytes) → n ≡ digits_value 16 (take at bytes) → n < 2 ^ 64
     → HasDigits bytes n (take (length bytes - at) (drop at bytes))
 digits_first bytes at n within some all e small =
@@ -65,7 +65,7 @@ digits_first bytes at n within some all e small =
       is = number_is (take at bytes) n (omega (arith, len, some)) all e small;
     }
 
--- one digit more
+-- One digit more.
 pub digit_next : (bytes : List ℕ) (at n d b : ℕ) → at < length bytes → AllDigits 16 (take at bytes) → n ≡ digits_value 16 (take at bytes) → d ≡ digit_value b → b ≡ get_or bytes at 0 → d < 16
     → AllDigits 16 (take (at + 1) bytes) × (n * 16 + d ≡ digits_value 16 (take (at + 1) bytes))
 digit_next bytes at n d b lt all e is at_b low =
@@ -74,7 +74,7 @@ digit_next bytes at n d b lt all e is at_b low =
     let small : digit_value (get_or bytes at 0) < 16 = subst (λ (x : ℕ). x < 16) here low in
     (digits_more 16 bytes at lt all small, omega (arith, here, next, e))
 
--- a number of at most k digits
+-- A number of at most k digits.
 pub few_digits : (bytes : List ℕ) (at k n : ℕ) → at ≤ k → at ≤ length bytes → AllDigits 16 (take at bytes) → n ≡ digits_value 16 (take at bytes) → n < 16 ^ k
 few_digits bytes at k n few within all e =
     let below = digits_value-lt 16 (take at bytes) all in
@@ -84,7 +84,7 @@ few_digits bytes at k n few within all e =
 
 -- ---- fields
 
--- what stands after a word
+-- What stands after a word.
 pub stripped : (bytes word : List ℕ) (r : Option (Bor (List ℕ))) (P : Type 0) (Q : Bor (List ℕ) → Type 0)
     → MatchOption r P (λ x. (bytes_eq (take (length word) bytes) word ≡ true) × (x.now ≡ drop (length word) bytes) × Q x) → IfSome r (λ rest. bytes ≡ word ++ rest.now)
 stripped bytes word None P Q h = tt
@@ -92,7 +92,7 @@ stripped bytes word (Some x) P Q h =
     let same : take (length word) bytes ≡ word = (bytes_eq-Decides (take (length word) bytes) word).0 h.0 in
     sym (take-append-drop (length word) bytes) ∙ ap (λ (xs : List ℕ). xs ++ drop (length word) bytes) same ∙ ap (λ (xs : List ℕ). word ++ xs) (sym h.1)
 
--- the bytes after `;0x`
+-- The bytes after `;0x`.
 pub marked : (bytes : List ℕ) → 3 ≤ length bytes → get_or bytes 0 0 ≡ 59 → get_or bytes 1 0 ≡ 48 → get_or bytes 2 0 ≡ 120 → bytes ≡ codes ";0x" ++ take (length bytes - 3) (drop 3 bytes)
 marked (a ∷ b ∷ c ∷ rest) len e f g =
     let all : take (length (a ∷ b ∷ c ∷ rest) - 3) rest ≡ rest = take_all _ rest (omega arith) in
@@ -101,7 +101,7 @@ marked (a ∷ b ∷ []) len e f g = absurd (omega (arith, len))
 marked (a ∷ []) len e f g = absurd (omega (arith, len))
 marked [] len e f g = absurd (omega (arith, len))
 
--- a number after `;0x` is a field
+-- A number after `;0x` is a field.
 field_of : (bytes rest : List ℕ) (n : ℕ) (back : List ℕ) → bytes ≡ codes ";0x" ++ rest → HasDigits rest n back → HasField bytes n back
 field_of bytes rest n back e h = record {
   field = 48 ∷ 120 ∷ h.digits;
@@ -115,7 +115,7 @@ pub field_by : (bytes rest : List ℕ) (r : Option (ℕ × Bor (List ℕ))) → 
 field_by bytes rest None e h = tt
 field_by bytes rest (Some x) e h = field_of bytes rest x.0 x.1.now e h
 
--- a front of some bytes that has no separator
+-- A front of some bytes that has no separator.
 record IsFront (bytes text rest : List ℕ) : Type 0 where
   whole : bytes ≡ text ++ rest
   inner : list_any is_separator text ≡ false
@@ -123,7 +123,7 @@ record IsFront (bytes text rest : List ℕ) : Type 0 where
 either_none : (a b : Bool) → a ≡ false → b ≡ false → (a || b) ≡ false
 either_none a b e f = rw (e, f) refl
 
--- a front with the field after it
+-- A front with the field after it.
 more : {bytes text mid : List ℕ} {n : ℕ} {rest : List ℕ} → IsFront bytes text mid → (f : HasField mid n rest) → IsFront bytes (text ++ byte ";" ∷ f.field) rest
 more {bytes} {text} {mid} {n} {rest} p f = record {
   whole = p.whole ∙ ap (λ (xs : List ℕ). text ++ xs) f.whole ∙ sym (append_assoc text (byte ";" ∷ f.field) rest);
@@ -147,7 +147,7 @@ two word bytes mid a b rest e inner plain p q is =
       inner = front.inner;
     }
 
--- the size of a store is one that it may have
+-- The size of a store is one that it may have.
 stored : (b : Bool) (a v s z : ℕ) → Some z ≡ (if b then Some s else None) → Some (Store a v z) ≡ (if b then Some (Store a v s) else None)
 stored true a v s z e = ap (option_map (λ (n : ℕ). Store a v n)) e
 stored false a v s z e = cc

@@ -6,7 +6,7 @@ use Rattle.std.proofs.Math.ListN.{length-set}
 use Rattle.std.proofs.lemmas.List.{drop-set}
 use Rattle.hip_num.proofs.HexDigits.{onto, onto_all, onto_last, onto_step, one_less}
 
--- one digit, or one more digit than a number that is spelled already
+-- One digit, or one more digit than a number that is spelled already.
 by_size : (k n : ℕ) (written more : List ℕ)
     → onto k (n / 16) (digit_glyph false (n % 16) ∷ (written ++ more))
     ≡ onto k (n / 16) (digit_glyph false (n % 16) ∷ written) ++ more
@@ -21,7 +21,7 @@ by_size k n written more rest t = go t
     go (inr (inl less)) = onto_last k n (written ++ more) less ∙ ap (λ xs. xs ++ more) (sym (onto_last k n written less))
     go (inr (inr large)) = several (omega (arith, large))
 
--- the digits stand before all that was written
+-- The digits stand before all that was written.
 onto_append : (k n : ℕ) (written more : List ℕ) → n < 16 ^ (k + 1)
     → onto (suc k) n (written ++ more) ≡ onto (suc k) n written ++ more
 onto_append zero n written more h =
@@ -36,7 +36,7 @@ pub onto_before : (n : ℕ) (more : List ℕ) → n < 2 ^ 64 → onto 64 n more 
 onto_before n more h =
     onto_append 63 n [] more (omega (arith, h)) ∙ ap (λ xs. xs ++ more) (onto_all n)
 
--- one digit more is written at a place before the others, and the rest of the number is left
+-- One digit more is written at a place before the others, and the rest of the number is left.
 pub next_before : (k i rest x : ℕ) (text all : List ℕ) → 16 ≤ rest → 1 ≤ k → 1 ≤ i → i < length text
     → x ≡ digit_glyph false (rest % 16) → onto (k + 49) rest (drop (i + 1) text) ≡ all
     → onto (k - 1 + 49) (rest / 16) (drop (i - 1 + 1) (set text i x)) ≡ all
@@ -46,7 +46,7 @@ next_before k i rest x text all more some first inside x_is is =
     rw (f, drop-set text i x inside, x_is)
     (sym (onto_step (k - 1 + 49) rest (drop (i + 1) text) more) ∙ ap (λ (j : ℕ). onto j rest (drop (i + 1) text)) (sym e) ∙ is)
 
--- the first digit is written
+-- The first digit is written.
 pub last_before : (k i rest x : ℕ) (text all : List ℕ) → rest < 16 → i < length text → x ≡ digit_glyph false rest
     → onto (k + 49) rest (drop (i + 1) text) ≡ all → drop i (set text i x) ≡ all
 last_before k i rest x text all less inside x_is is =
@@ -54,7 +54,7 @@ last_before k i rest x text all less inside x_is is =
     rw (drop-set text i x inside, x_is)
     (sym (onto_last (k + 48) rest (drop (i + 1) text) less) ∙ ap (λ (j : ℕ). onto j rest (drop (i + 1) text)) (sym e) ∙ is)
 
--- two digits more are written at a place and the one before it, and the rest of the number is left
+-- Two digits more are written at a place and the one before it, and the rest of the number is left.
 pub pair_before : (k i rest x y : ℕ) (text all : List ℕ) → 256 ≤ rest → 2 ≤ k → 2 ≤ i → i < length text
     → x ≡ digit_glyph false (rest % 256 % 16) → y ≡ digit_glyph false (rest % 256 / 16)
     → onto (k + 49) rest (drop (i + 1) text) ≡ all
@@ -72,7 +72,7 @@ pair_before k i rest x y text all more some first inside x_is y_is is =
     (subst (λ (j : ℕ). onto (j + 49) (rest / 16 / 16) (drop (i - 2 + 1) (set (set text i x) (i - 1) y)) ≡ all) fewer
     (subst (λ (j : ℕ). onto (k - 1 - 1 + 49) (rest / 16 / 16) (drop (j + 1) (set (set text i x) (i - 1) y)) ≡ all) before two))
 
--- the first two digits are written
+-- The first two digits are written.
 pub last_pair : (k i rest x y : ℕ) (text all : List ℕ) → 16 ≤ rest → rest < 256 → 1 ≤ k → 1 ≤ i → i < length text
     → x ≡ digit_glyph false (rest % 16) → y ≡ digit_glyph false (rest / 16)
     → onto (k + 49) rest (drop (i + 1) text) ≡ all → drop (i - 1) (set (set text i x) (i - 1) y) ≡ all
@@ -81,13 +81,13 @@ last_pair k i rest x y text all more less some first inside x_is y_is is =
     last_before (k - 1) (i - 1) (rest / 16) y (set text i x) all (omega (arith, less)) (omega (arith, inside, size)) y_is
     (next_before k i rest x text all more some first inside x_is is)
 
--- numbers of two digits or more have two places
+-- Numbers of two digits or more have two places.
 pub has_places : (at n : ℕ) → 256 ≤ n → n < 16 ^ (at + 1) → 2 ≤ at
 has_places zero n h k = absurd (omega arith)
 has_places (suc zero) n h k = absurd (omega (arith, h, k))
 has_places (suc (suc at)) n h k = omega arith
 
--- the rest of a number has two digits fewer
+-- The rest of a number has two digits fewer.
 pub two_less : (at n : ℕ) → 2 ≤ at → n < 16 ^ (at + 1) → n / 256 < 16 ^ (at - 2 + 1)
 two_less at n some h =
     let both : n / 16 / 16 ≡ n / 256 = omega arith in

@@ -23,7 +23,7 @@ split_ahead : (held front back : List ℕ) (sep : ℕ) (rest : Option (List ℕ)
 split_ahead held front back sep None e = refl
 split_ahead held front back sep (Some r) e = ap (λ (x : List ℕ). Some x) (ap (λ (x : List ℕ). x ++ r) e ∙ append_assoc front (sep ∷ back) r)
 
--- the first piece is taken off what is ahead
+-- The first piece is taken off what is ahead.
 pub entries_at : (piece : List ℕ) (old new : Option (List ℕ)) → TakesPiece piece old new → option_map (spelled true) old ≡ option_map (λ es. entry_of piece ∷ es) (option_map (spelled true) new)
 entries_at piece old new (inl h) = at_separator new h.bytes
   where
@@ -158,7 +158,7 @@ pub same_rest : (rest : Option (List ℕ)) → rest ≡ option_map (λ r. [] ++ 
 same_rest None = refl
 same_rest (Some r) = refl
 
--- where the cabinet is not called, nothing is taken
+-- Where the cabinet is not called, nothing is taken.
 abbrev pub takes_nothing : (held : List ℕ) (s : CabinetState) → TakesAtNeed held s s
 takes_nothing held s = record { taken = []; bytes = same_rest s.rest; needed = inl refl }
 
@@ -179,12 +179,12 @@ then_current s mid s' p q = record { files = q.files ∙ p.files; fetches = q.fe
 then_reading : (s mid s' : CabinetState) → IsReading s mid → IsReading mid s' → IsReading s s'
 then_reading s mid s' p q = record { stays = then_current s mid s' p.stays q.stays; faults = q.faults ∙ p.faults }
 
--- what is ahead stays, where bytes of the file are held
+-- What is ahead stays, where bytes of the file are held.
 moved : (held t : List ℕ) (old new : Option (List ℕ)) → old ≡ option_map (λ rest. t ++ rest) new → option_map (λ rest. (held ++ t) ++ rest) new ≡ option_map (λ rest. held ++ rest) old
 moved held t old None e = rw e refl
 moved held t old (Some r) e = rw e (ap (λ (x : List ℕ). Some x) (append_assoc held t r))
 
--- two pieces were taken
+-- Two pieces were taken.
 taken_both : (t u : List ℕ) (old mid new : Option (List ℕ)) → old ≡ option_map (λ rest. t ++ rest) mid → mid ≡ option_map (λ rest. u ++ rest) new → old ≡ option_map (λ rest. (t ++ u) ++ rest) new
 taken_both t u old mid None p q = p ∙ ap (option_map (λ rest. t ++ rest)) q
 taken_both t u old mid (Some r) p q = p ∙ ap (option_map (λ rest. t ++ rest)) q ∙ ap (λ (x : List ℕ). Some x) (sym (append_assoc t u r))
@@ -192,7 +192,7 @@ taken_both t u old mid (Some r) p q = p ∙ ap (option_map (λ rest. t ++ rest))
 pub may_go_on : (held : List ℕ) (len : ℕ) → None ≡ position is_separator held → len ≡ length held → len ≤ 256 → MayGoOn held
 may_go_on held len none is few = record { whole = none_found held (sym none); few = subst (λ (n : ℕ). n ≤ 256) is few }
 
--- one read more, made since the bytes held may go on
+-- One read more, made since the bytes held may go on.
 pub holds_on : (held mid held' : List ℕ) (s t s' : CabinetState) → HoldsMore held mid s t → MayGoOn mid → HasTakenSome mid held' t s' → HoldsMore held held' s s'
 holds_on held mid held' s t s' p m q =
     let first = p.takes.taken in

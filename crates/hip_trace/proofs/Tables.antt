@@ -2,7 +2,7 @@
 use Rattle.std.proofs.Common.{◌≡◌, ℕ, zero, suc, ◌<◌, Bool, true, false, ◌&&◌, refl, arith, inl, inr}
 use Rattle.std.proofs.lemmas.Bool.{cases_eq}
 
--- the test holds below n
+-- The test holds below n.
 unfoldable pub holds_below : (ℕ → Bool) → ℕ → Bool
 holds_below f zero = true
 holds_below f (suc n) = f n && holds_below f n

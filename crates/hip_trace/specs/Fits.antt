@@ -10,7 +10,7 @@ use Rattle.hip_trace.specs.declared.entry.Entry.TheVariants.{Start, Register, In
 pub record IsSpelled (e : Entry) : Type 0 where
   pub by_its_text : entry_of (text_of e) ≡ Some e
 
--- one or more whole cache lines, which end at most at 2^64
+-- One or more whole cache lines, which end at most at 2^64.
 pub record AreLines (addr size : ℕ) : Type 0 where
   pub aligned : addr % 64 ≡ 0
   pub whole : size % 64 ≡ 0
@@ -18,14 +18,14 @@ pub record AreLines (addr size : ℕ) : Type 0 where
   pub fits : size < 2 ^ 64
   pub within : addr + size ≤ 2 ^ 64
 
--- the 64 bytes of a cache line
+-- The 64 bytes of a cache line.
 pub record IsLine (addr : ℕ) (content : List ℕ) : Type 0 where
   pub fits : addr < 2 ^ 64
   pub aligned : addr % 64 ≡ 0
   pub whole : length content ≡ 64
   pub bytes : All (λ b. b < 256) content
 
--- a value of 1, 2, 4 or 8 bytes
+-- A value of 1, 2, 4 or 8 bytes.
 pub record IsStored (addr value size : ℕ) : Type 0 where
   pub fits : addr < 2 ^ 64
   pub sized : is_store_size size ≡ true

@@ -40,7 +40,7 @@ pub record HasFailedMore (held held' : List ℕ) (s s' : CabinetState) : Type 0 
   pub rose : Rose s.faults s'.faults
   pub rest : s'.rest ≡ s.rest
 
--- what an attempt to take more bytes did, by its answer
+-- What an attempt to take more bytes did, by its answer.
 abbrev pub HasTakenMore : List ℕ → List ℕ → CabinetState → CabinetState → Taken → Type 0
 HasTakenMore held held' s s' (taken.Got n) = HasTakenSome held held' s s'
 HasTakenMore held held' s s' taken.End = HasTakenNothing held held' s s'
@@ -56,24 +56,24 @@ pub record HoldsMore (held held' : List ℕ) (s s' : CabinetState) : Type 0 wher
   pub held_is : held' ≡ held ++ takes.taken
   pub ahead : after_held held' s' ≡ after_held held s
 
--- a piece of n bytes, followed by a separator
+-- A piece of n bytes, followed by a separator.
 pub record HasPieceFirst (held held' : List ℕ) (s s' : CabinetState) (n : ℕ) : Type 0 where
   pub more : HoldsMore held held' s s'
   pub here : position is_separator held' ≡ Some n
 
--- the rest of the file, which has no separator
+-- The rest of the file, which has no separator.
 pub record HasRestFirst (held held' : List ℕ) (s s' : CabinetState) : Type 0 where
   pub more : HoldsMore held held' s s'
   pub none : position is_separator held' ≡ None
   pub ended : IfSome s'.rest (λ rest. rest ≡ [])
 
--- more than 256 bytes with no separator
+-- More than 256 bytes with no separator.
 pub record IsTooLong (held held' : List ℕ) (s s' : CabinetState) : Type 0 where
   pub more : HoldsMore held held' s s'
   pub none : position is_separator held' ≡ None
   pub long : 256 < length held'
 
--- at most 256 bytes with no separator, after which a read failed
+-- At most 256 bytes with no separator, after which a read failed.
 pub record HasFailedFirst (held held' : List ℕ) (s s' : CabinetState) : Type 0 where
   pub none : position is_separator held' ≡ None
   pub few : length held' ≤ 256
@@ -83,7 +83,7 @@ pub record HasFailedFirst (held held' : List ℕ) (s s' : CabinetState) : Type 0
   pub takes : TakesAtNeed held s s'
   pub ahead : after_held held' s' ≡ after_held held s
 
--- what the reader holds and what comes first in it, by the answer
+-- What the reader holds and what comes first in it, by the answer.
 abbrev pub FindsFront : List ℕ → List ℕ → CabinetState → CabinetState → Front → Type 0
 FindsFront held held' s s' (fronts.Piece n) = HasPieceFirst held held' s s' n
 FindsFront held held' s s' fronts.Rest = HasRestFirst held held' s s'
@@ -129,7 +129,7 @@ failed r =
       progress = Refused ReadFault;
     }
 
--- the answer and the reader after it, by what comes first in the bytes that it held
+-- The answer and the reader after it, by what comes first in the bytes that it held.
 abbrev pub AnswersFront : ReaderState → ReaderState → Front → Result (Option Entry) TraceRefusal → Type 0
 AnswersFront r r' (fronts.Piece n) result = AnswersPiece r r' n (n + 1) result
 AnswersFront r r' fronts.Rest result = answers_rest r.held r r' result
@@ -142,7 +142,7 @@ AnswersFront r r' fronts.TooLong result =
     })
 AnswersFront r r' fronts.Failed result = (result ≡ Err ReadFault) × (r' ≡ failed r)
 
--- a piece and its separator lie in what is held
+-- A piece and its separator lie in what is held.
 abbrev pub IsFrontOf : List ℕ → Front → Type 0
 IsFrontOf held (fronts.Piece n) = n < length held
 IsFrontOf held fronts.Rest = Unit {0}

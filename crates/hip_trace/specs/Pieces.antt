@@ -6,11 +6,11 @@ use Rattle.hip_num.specs.Texts.{is_nonempty}
 use Rattle.hip_trace.specs.Entries.{entry_of}
 use Rattle.hip_trace.specs.declared.entry.Entry.{Entry}
 
--- `|` or a line feed
+-- `|` or a line feed.
 abbrev pub is_separator : ℕ → Bool
 is_separator b = (b == byte "|") || (b == byte "\n")
 
--- the parts between separators
+-- The parts between separators.
 abbrev pub parts : List ℕ → List (List ℕ)
 parts bytes = slice_split is_separator bytes
 
@@ -20,16 +20,16 @@ abbrev pub counts_last : Bool → List ℕ → Bool
 counts_last true last = is_nonempty last
 counts_last false last = nat_lt 256 (length last)
 
--- the parts that are pieces: all before the last one, and the last one if it counts
+-- The parts that are pieces: all before the last one, and the last one if it counts.
 abbrev pub counted : Bool → List (List ℕ) → List (List ℕ)
 counted whole [] = []
 counted whole (part ∷ []) = if counts_last whole part then part ∷ [] else []
 counted whole (part ∷ next ∷ more) = part ∷ counted whole (next ∷ more)
 
--- the pieces of a file, or of the front of one
+-- The pieces of a file, or of the front of one.
 abbrev pub pieces : Bool → List ℕ → List (List ℕ)
 pieces whole bytes = counted whole (parts bytes)
 
--- what each piece spells; none for a malformed one
+-- What each piece spells; none for a malformed one.
 abbrev pub spelled : Bool → List ℕ → List (Option Entry)
 spelled whole bytes = map entry_of (pieces whole bytes)

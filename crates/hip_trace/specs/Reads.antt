@@ -22,15 +22,15 @@ pub record ReaderState : Type 0 where
 abbrev pub after_held : List ℕ → CabinetState → Option (List ℕ)
 after_held held s = option_map (λ rest. held ++ rest) s.rest
 
--- the bytes ahead of a reader, if those of its file are known
+-- The bytes ahead of a reader, if those of its file are known.
 abbrev pub ahead : ReaderState → CabinetState → Option (List ℕ)
 ahead r s = after_held r.held s
 
--- what the pieces ahead spell, if the bytes of the file are known
+-- What the pieces ahead spell, if the bytes of the file are known.
 abbrev pub entries_left : ReaderState → CabinetState → Option (List (Option Entry))
 entries_left r s = option_map (spelled true) (ahead r s)
 
--- one more, up to the greatest number of 128 bits
+-- One more, up to the greatest number of 128 bits.
 abbrev pub one_more : ℕ → ℕ
 one_more count = min (count + 1) (2 ^ 128 - 1)
 
@@ -57,7 +57,7 @@ pub record TakesAtNeed (held : List ℕ) (old new : CabinetState) : Type 0 where
   pub bytes : old.rest ≡ option_map (λ rest. taken ++ rest) new.rest
   pub needed : (taken ≡ []) ⊎ WasNeeded held taken
 
--- the file stays open, and nothing failed
+-- The file stays open, and nothing failed.
 pub record IsReading (old new : CabinetState) : Type 0 where
   pub stays : StaysOpen old new
   pub faults : new.faults ≡ old.faults
@@ -125,7 +125,7 @@ pub record HasFailed (r r' : ReaderState) (s s' : CabinetState) : Type 0 where
   pub count : r'.count ≡ (if is_nonempty r'.held then one_more r.count else r.count)
   pub progress : r'.progress ≡ Refused ReadFault
 
--- what `next` does if it has given neither the end nor a refusal before, by its answer
+-- What `next` does if it has given neither the end nor a refusal before, by its answer.
 abbrev pub ReadsOn : ReaderState → ReaderState → CabinetState → CabinetState
     → Result (Option Entry) TraceRefusal
     → Type 0
@@ -141,7 +141,7 @@ pub record Repeats (r r' : ReaderState) (s s' : CabinetState)
   pub reader : r' ≡ r
   pub cabinet : s' ≡ s
 
--- what `next` does, by the progress of the reader: it reads on, or repeats the end, or repeats its refusal
+-- What `next` does, by the progress of the reader: it reads on, or repeats the end, or repeats its refusal.
 abbrev pub reads_from : Progress → ReaderState → ReaderState → CabinetState → CabinetState
     → Result (Option Entry) TraceRefusal → Type 0
 reads_from Reading r r' s s' result = ReadsOn r r' s s' result

@@ -3,15 +3,15 @@ use Rattle.std.specs.Prelude.{ℕ, List, [], Option, Some, None}
 use Rattle.std.specs.Borrow.{Bor}
 use Rattle.hip_trace.specs.Entries.{fields}
 
--- the fields of the text after a field, if there is one
+-- The fields of the text after a field, if there is one.
 abbrev pub fields_after : Option (Bor (List ℕ)) → List (List ℕ)
 fields_after None = []
 fields_after (Some text) = fields text.now
 
--- two borrowed fields as the texts that they are
+-- Two borrowed fields as the texts that they are.
 abbrev pub pair_seen : Bor (List ℕ) × Bor (List ℕ) → List ℕ × List ℕ
 pair_seen p = (p.0.now, p.1.now)
 
--- three borrowed fields as the texts that they are
+-- Three borrowed fields as the texts that they are.
 abbrev pub triple_seen : Bor (List ℕ) × Bor (List ℕ) × Bor (List ℕ) → List ℕ × List ℕ × List ℕ
 triple_seen p = (p.0.now, p.1.now, p.2.now)

@@ -9,7 +9,7 @@ use Rattle.hip_trace.specs.Entries.{trap_text}
 use Rattle.hip_trace.specs.declared.entry.Entry.{Entry}
 use Rattle.hip_trace.specs.declared.entry.Entry.TheVariants.{Start, Register, Input, Image, Store, Flush, Fence, Persist, Assert, Stop, Trap, Cut}
 
--- the word that begins the text of an entry
+-- The word that begins the text of an entry.
 abbrev pub word_of : Entry → List ℕ
 word_of (Start limit) = codes "START"
 word_of (Register base size) = codes "REGISTER"
@@ -24,8 +24,8 @@ word_of (Stop code) = codes "STOP"
 word_of (Trap kind) = codes "TRAP"
 word_of Cut = codes "CUT"
 
--- the fields after the word of an entry, in order: a limit, an input and a code in decimal, other numbers in
--- hexadecimal with `0x`, the bytes of a line as two hexadecimal digits each, a trap by its word
+-- The fields after the word of an entry, in order: a limit, an input and a code in decimal, other numbers in
+-- hexadecimal with `0x`, the bytes of a line as two hexadecimal digits each, a trap by its word.
 abbrev pub fields_of : Entry → List (List ℕ)
 fields_of (Start limit) = decimal limit ∷ []
 fields_of (Register base size) = hexadecimal base ∷ hexadecimal size ∷ []
@@ -40,19 +40,19 @@ fields_of (Stop code) = signed_decimal code ∷ []
 fields_of (Trap kind) = trap_text kind ∷ []
 fields_of Cut = []
 
--- each field comes after a semicolon
+-- Each field comes after a semicolon.
 abbrev pub with_fields : List ℕ → List (List ℕ) → List ℕ
 with_fields text [] = text
 with_fields text (f ∷ fs) = with_fields (text ++ byte ";" ∷ f) fs
 
--- the canonical text of an entry: its word, and each field after a semicolon
+-- The canonical text of an entry: its word, and each field after a semicolon.
 unfoldable pub text_of : Entry → List ℕ
 text_of e = with_fields (word_of e) (fields_of e)
 
--- the line of an entry: its text and a line feed
+-- The line of an entry: its text and a line feed.
 abbrev pub line_of : Entry → List ℕ
 line_of e = text_of e ++ codes "\n"
 
--- the text of a trace: a line for each entry
+-- The text of a trace: a line for each entry.
 abbrev pub lines_of : List Entry → List ℕ
 lines_of es = flat_map line_of es

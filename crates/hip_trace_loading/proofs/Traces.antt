@@ -14,7 +14,7 @@ use Rattle.hip_run_traces.specs.Misfits.{IsTraceOf}
 use Rattle.hip_trace.specs.Reads.{IsReading, ReaderState}
 use Rattle.hip_trace_loading.specs.Loading.{HasFailedTrace, HasLoadedTrace}
 
--- what is known of the rest of a file that was fetched is known of the file
+-- What is known of the rest of a file that was fetched is known of the file.
 of_file : (mid : CabinetState) (name : List ℕ) (Q : List ℕ → Type 0) (R : List NamedFile → Type 0)
     (files : Option (List NamedFile)) → IfSome files (λ fs. IsFirstFile fs name mid) → IfSome mid.rest Q
     → ((fs : List NamedFile) (bytes : List ℕ) → file_of fs name ≡ Some bytes → Q bytes → R fs) → IfSome files R
@@ -22,7 +22,7 @@ of_file mid name Q R None first q make = first
 of_file mid name Q R (Some fs) first q make =
     make fs first.bytes first.found (subst (λ (rest : Option (List ℕ)). IfSome rest Q) first.rest q)
 
--- the file was fetched, and then read
+-- The file was fetched, and then read.
 pub fetched_once : {old mid new : CabinetState} {name : List ℕ} → IsFetched old mid name → StaysOpen mid new
     → CountsFetches 1 old new
 fetched_once f stays = record { count = stays.fetches ∙ f.fetches }
@@ -50,7 +50,7 @@ module _ {old mid new : CabinetState} {name : List ℕ} (P : Program) (r : Reade
     entries = h.entries;
   }
 
-  -- a read failed
+  -- A read failed.
   pub failed : HasReadFault P mid new → HasFailedTrace P name old new
   failed h = record {
     met = record {

@@ -18,7 +18,7 @@ module _ (Texts : Program → Input → Findings → Answer → Type 0) {old new
   lacks a (inr (inl u)) = inr (inl u)
   lacks a (inr (inr u)) = inr (inr (inl u))
 
-  -- the answer of a command if there was no run to load
+  -- The answer of a command if there was no run to load.
   pub run_lacked : {begins : Bool} (s : Sinks) (status : Status)
       → HasAnswered (LacksRun old new p t) begins old new s status
       → HasAnswered (TraceAnswers Texts old new p t) begins old new s status
@@ -38,7 +38,7 @@ module _ (Texts : Program → Input → Findings → Answer → Type 0) {old new
     texts = texts;
   })))
 
-  -- the answer of a command on a run that was loaded
+  -- The answer of a command on a run that was loaded.
   pub run_answered : {begins : Bool} (s : Sinks) (status : Status) (loaded : LoadedRun)
       → HasLoadedRun p t old new loaded
       → AnswersOnRun (Texts loaded.checked loaded.replayed.input loaded.replayed.findings) begins s status

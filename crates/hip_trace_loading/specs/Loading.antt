@@ -17,7 +17,7 @@ use Rattle.hip_runs.specs.Step.{run}
 use Rattle.hip_runs.specs.Validity.{IsValid}
 use Rattle.hip_trace.specs.declared.entry.Entry.{Entry}
 
--- a refusal of the replay, as a refusal of the file
+-- A refusal of the replay, as a refusal of the file.
 abbrev pub failure_of : ReplayRefusal → Failure TraceFileRefusal
 failure_of (refusals.Misfit entry kind) = failures.Refused (traces.Misfit entry kind)
 failure_of refusals.ReadFault = failures.ReadFault
@@ -42,7 +42,7 @@ pub record HasFailedTrace (P : Program) (name : List ℕ) (old new : CabinetStat
   pub fetches : CountsFetches 1 old new
   pub unread : FailsToRead old.files name P new
 
--- what loading the trace of a file answers: one file is fetched; out of memory may come anywhere
+-- What loading the trace of a file answers: one file is fetched; out of memory may come anywhere.
 abbrev pub LoadsTrace : Program → List ℕ → CabinetState → CabinetState
     → Result Replayed (Failure TraceFileRefusal) → Type 0
 LoadsTrace P name old new (Ok replayed) = HasLoadedTrace P name old new replayed × CountsFetches 1 old new

@@ -16,7 +16,7 @@ pub record HasLoadedRun (program_name trace_name : List ℕ) (old new : CabinetS
   pub program : IsProgramOf old.files program_name loaded.checked
   pub trace : HasLoadedTrace loaded.checked trace_name old new loaded.replayed
 
--- what a command answers without a program, or without a trace of a run of it
+-- What a command answers without a program, or without a trace of a run of it.
 abbrev pub LacksRun : CabinetState → CabinetState → List ℕ → List ℕ → Answer → Type 0
 LacksRun old new program_name trace_name answer =
     IsUnloaded old new program_name answer

@@ -2,14 +2,14 @@
 use Rattle.std.specs.Prelude.{ℕ}
 use Rattle.hip_types.specs.declared.areas.TheConstants.{STACK_END, STACK_START, VOLATILE_START}
 
--- the first address of the volatile globals
+-- The first address of the volatile globals.
 abbrev pub volatile_start : ℕ
 volatile_start = VOLATILE_START
 
--- the first address of the stack
+-- The first address of the stack.
 abbrev pub stack_start : ℕ
 stack_start = STACK_START
 
--- the address after the stack's last byte
+-- The address after the stack's last byte.
 abbrev pub stack_end : ℕ
 stack_end = STACK_END

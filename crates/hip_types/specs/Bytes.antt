@@ -1,12 +1,12 @@
 -- Numbers as bytes, the lowest first.
 use Rattle.std.specs.Prelude.{ℕ, zero, suc, ◌+◌, ◌*◌, ◌/◌, ◌%◌, List, [], ◌∷◌, replicate}
 
--- the number of these bytes, the lowest first; 0 if there is none
+-- The number of these bytes, the lowest first; 0 if there is none.
 abbrev pub little_endian : List ℕ → ℕ
 little_endian [] = 0
 little_endian (b ∷ bs) = b + 256 * little_endian bs
 
--- the n low bytes of a number
+-- The n low bytes of a number.
 abbrev pub bytes_of : ℕ → ℕ → List ℕ
 bytes_of zero v = []
 bytes_of (suc n) v = v % 256 ∷ bytes_of n (v / 256)

@@ -12,43 +12,43 @@ use Rattle.hip_types.specs.declared.number.Width.TheVariants.{W1, W8, W16, W32, 
 use Rattle.hip_types.specs.declared.number.Bits.{Bits}
 use Rattle.hip_types.specs.Widths.{bits_of}
 
--- how many integers of this width there are
+-- How many integers of this width there are.
 abbrev pub modulus : Width → ℕ
 modulus w = 2 ^ bits_of w
 
--- the integer of this width that a number is modulo 2 ^ N
+-- The integer of this width that a number is modulo 2 ^ N.
 abbrev pub bits : Width → ℕ → Bits
 bits w n = record { width = w; value = n % modulus w; in_range = mod-lt n (pow_pos (bits_of w)) }
 
--- the first integer of this width that has a sign
+-- The first integer of this width that has a sign.
 abbrev pub sign_of : Width → ℕ
 sign_of w = 2 ^ (bits_of w - 1)
 
--- an integer read with a sign: 2 ^ N is subtracted from 2 ^ (N - 1) on
+-- An integer read with a sign: 2 ^ N is subtracted from 2 ^ (N - 1) on.
 abbrev pub signed : Width → ℕ → ℤ
 signed w n = if nat_lt n (sign_of w) then pos n else pos n -ℤ pos (modulus w)
 
--- the integer of this width that a number with a sign is modulo 2 ^ N
+-- The integer of this width that a number with a sign is modulo 2 ^ N.
 abbrev pub wrapped : Width → ℤ → ℕ
 wrapped w (pos n) = n % modulus w
 wrapped w (negsuc n) = modulus w - 1 - n % modulus w
 
 -- ---- laws
 
--- two integers are equal if their widths and values are
+-- Two integers are equal if their widths and values are.
 pub same_bits : (a b : Bits) → a.width ≡ b.width → a.value ≡ b.value → a ≡ b
 same_bits a b width value =
     let below = is_prop→PathP (λ i. value i < 2 ^ bits_of (width i)) (λ i. le_prop) a.in_range b.in_range in
     λ i. record { width = width i; value = value i; in_range = below i }
 
--- an integer is its own value modulo 2 ^ N
+-- An integer is its own value modulo 2 ^ N.
 pub bits-value : (b : Bits) → bits b.width b.value ≡ b
 bits-value b = same_bits _ _ refl (mod-eq_of_lt b.in_range)
 
 pub modulus_pos : (w : Width) → 0 < modulus w
 modulus_pos w = pow_pos (bits_of w)
 
--- half of the integers have a sign
+-- Half of the integers have a sign.
 pub modulus_is : (w : Width) → modulus w ≡ sign_of w * 2
 modulus_is W1 = refl
 modulus_is W8 = refl
@@ -67,7 +67,7 @@ pub signed-high : (w : Width) (n : ℕ) → sign_of w ≤ n → n < modulus w
     → signed w n ≡ negsuc (modulus w - 1 - n)
 signed-high w n h k = grind (arith, ints)
 
--- reading with a sign loses nothing
+-- Reading with a sign loses nothing.
 pub wrapped-signed : (w : Width) (n : ℕ) → n < modulus w → wrapped w (signed w n) ≡ n
 wrapped-signed w n h =
     ⊎_elim (λ low. rw (signed-low w n low) (mod-eq_of_lt h))
@@ -79,6 +79,6 @@ wrapped-signed w n h =
         let below : modulus v - 1 - m < modulus v = omega (arith, modulus_pos v) in
         rw (mod-eq_of_lt below) (omega (arith, modulus_pos v))
 
--- two integers that are the same when read with a sign are equal
+-- Two integers that are the same when read with a sign are equal.
 pub signed-same : (w : Width) (m n : ℕ) → m < modulus w → n < modulus w → signed w m ≡ signed w n → m ≡ n
 signed-same w m n h k e = sym (wrapped-signed w m h) ∙ ap (wrapped w) e ∙ wrapped-signed w n k

@@ -24,18 +24,18 @@ use Rattle.hip_sound.specs.declared.fault.TypeRefusal.{TypeRefusal}
 use Rattle.hip_checks.specs.declared.refused.Refused.{Refused}
 use Rattle.hip_checks.specs.declared.refused.Refused.TheVariants as refused
 
--- the refusal that a stopped check gives: its finding, or out of memory at the whole program
+-- The refusal that a stopped check gives: its finding, or out of memory at the whole program.
 abbrev pub refusal_of : Refused → TypeRefusal
 refusal_of (refused.Found f) = record { fault = fault_of f.fault; place = f.place }
 refusal_of refused.NoMemory = record { fault = faults.NoMemory; place = places.Whole }
 
--- the refusal that the check of paths gives: the place of a use and a path to it that does not assign its register, or
--- out of memory at the whole program
+-- The refusal that the check of paths gives: the place of a use and a path to it that does not assign its register, or
+-- out of memory at the whole program.
 abbrev pub refusal_on_paths : NotAssigned → TypeRefusal
 refusal_on_paths (unassigned.Use place path) = record { fault = faults.Unassigned path; place = place }
 refusal_on_paths unassigned.NoMemory = record { fault = faults.NoMemory; place = places.Whole }
 
--- out of memory has no place of its own, but the whole program
+-- Out of memory has no place of its own, but the whole program.
 abbrev refuses : Program → TypeFault → Place → Type 0
 refuses P faults.NoMemory place = place ≡ places.Whole
 refuses P fault place = IsRefused P (record { fault = fault; place = place })
@@ -141,7 +141,7 @@ pub refuses-on_paths : (P : Program) (e : NotAssigned) → IsSpelled P → (rule
 refuses-on_paths P (unassigned.Use place path) s none u = refuses-unassigned P place path s none u
 refuses-on_paths P unassigned.NoMemory s none u = refl
 
--- a spelled program that breaks no rule and assigns each register before its uses is sound
+-- A spelled program that breaks no rule and assigns each register before its uses is sound.
 pub sound-is : (P : Program) → IsSpelled P → (rules_check P).found ≡ None →
     ((f : ℕ) (fn : Function) → slice_get P.functions f ≡ Some fn → AllAssigned fn f) → IsSound P
 sound-is P spelled none assigned =

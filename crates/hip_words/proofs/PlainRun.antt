@@ -27,7 +27,7 @@ row id values = record { id = id; values = values; count = None; source = Some C
 abbrev limit_row : Row
 limit_row = record { id = codes "limit"; values = codes "1000000000" ∷ []; count = None; source = Some DefaultValue; reading = AsWritten }
 
--- after the program; after the first number; and after more of them
+-- After the program; after the first number; and after more of them.
 abbrev after_program : Text → Walk
 after_program p = record { held = record { rows = []; pending = Some (codes "program", p ∷ []); skip = 0 }; waiting = idle; position = 2; is_trailing = false; stopped = None }
 
@@ -68,7 +68,7 @@ to_more : (p : Text) (ns : List Text) (n m : Text) → IsPlain m → walked shap
 unfolding walked
 to_more p ns n m a = let d = a.dashes in let l = a.long in let s = a.short in rw (d, l, s) refl
 
--- no turn fails
+-- No turn fails.
 no_fault-program : (p : Text) → IsPlain p → turn_fault shape [] (walk_from nothing_held) p ≡ []
 no_fault-program p a = let d = a.dashes in let l = a.long in let s = a.short in rw (d, l, s) refl
 
@@ -83,7 +83,7 @@ no_fault-more p ns n m a = let d = a.dashes in let l = a.long in let s = a.short
 
 -- ---- from the walk to the order
 
--- what fails after the walk
+-- What fails after the walk.
 abbrev rest_fault : Walk → Kinds
 rest_fault w =
     or_else (entered_fault (built run_app) w.stopped)
@@ -122,7 +122,7 @@ orders_more : (p : Text) (ns : List Text) (n : Text) → option_and_then run_in 
 unfolding defaults_fault
 orders_more p ns n = refl
 
--- `run`, a program and numbers, with the limit that no option gives
+-- `run`, a program and numbers, with the limit that no option gives.
 pub runs_plain : (p : Text) (ns : List Text) → is_plain p ≡ true → list_all is_plain ns ≡ true → order (codes "run" ∷ p ∷ ns) ≡ run_order p (numbers_of ns)
 unfolding order verb_of walk_fault defaults_fault
 runs_plain p [] a e =

@@ -9,7 +9,7 @@ use Rattle.hip_runs.specs.declared.limits.TheConstants.{DEFAULT_LIMIT, MOST_NUMB
 use Rattle.hip_words.specs.Order.{numbers_of, order}
 use Rattle.hip_words.specs.declared.order.Order.TheVariants.{Check, Demo, Record, Repair, Rerun, Run, Thin}
 
--- the word does not begin with `-`
+-- The word does not begin with `-`.
 abbrev pub is_plain : Text → Bool
 is_plain [] = true
 is_plain (b ∷ bs) = not (b == 45)
@@ -32,21 +32,21 @@ RunsArePlain =
     → order (codes "run" ∷ program ∷ numbers)
     ≡ option_map (λ ns. Run program DEFAULT_LIMIT ns) (numbers_of numbers)
 
--- an order to run allows at most 2^40 turns and 1,048,576 numbers
+-- An order to run allows at most 2^40 turns and 1,048,576 numbers.
 abbrev pub RunsAreValid : Type 0
 RunsAreValid =
     (words : List Text) (program : Text) (limit : ℕ) (numbers : List ℤ)
     → order words ≡ Some (Run program limit numbers)
     → (limit ≤ MOST_TURNS) × (length numbers ≤ MOST_NUMBERS)
 
--- an order to record allows no more, and the region may begin at its base
+-- An order to record allows no more, and the region may begin at its base.
 abbrev pub RecordsAreValid : Type 0
 RecordsAreValid =
     (words : List Text) (program : Text) (base limit : ℕ) (numbers : List ℤ)
     → order words ≡ Some (Record program base limit numbers)
     → IsBase base × (limit ≤ MOST_TURNS) × (length numbers ≤ MOST_NUMBERS)
 
--- `demo` has a seed and a size for which a program can be generated
+-- `demo` has a seed and a size for which a program can be generated.
 abbrev pub DemosAreValid : Type 0
 DemosAreValid =
     (words : List Text) (seed size : ℕ) → order words ≡ Some (Demo seed size)

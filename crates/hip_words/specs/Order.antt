@@ -18,74 +18,74 @@ use Rattle.hip_words.specs.declared.order.Verb.TheVariants as verbs
 
 -- ---- bounds
 
--- a limit that a run may have: at most 2^40 turns
+-- A limit that a run may have: at most 2^40 turns.
 abbrev pub is_limit : ℕ → Bool
 is_limit limit = nat_le limit MOST_TURNS
 
--- a seed from which a program can be generated: below 2^31
+-- A seed from which a program can be generated: below 2^31.
 abbrev pub is_seed : ℕ → Bool
 is_seed seed = nat_lt seed SEED_END
 
--- a size that a generated program may have: from 1 to 50,000 groups of instructions
+-- A size that a generated program may have: from 1 to 50,000 groups of instructions.
 abbrev pub is_size : ℕ → Bool
 is_size size = nat_le 1 size && nat_le size LARGEST_SIZE
 
--- the value, if it passes the test
+-- The value, if it passes the test.
 abbrev pub where_so : {A : Type 0} → (A → Bool) → A → Option A
 where_so test x = if test x then Some x else None
 
 -- ---- one argument
 
--- all words of an argument
+-- All words of an argument.
 abbrev pub texts_in : Text → List Row → List Text
 texts_in id rows = unwrap_or (all_of id rows) []
 
--- the number that an argument's word writes
+-- The number that an argument's word writes.
 abbrev pub decimal_in : Text → List Row → Option ℕ
 decimal_in id rows = option_and_then decimal_of (first_of id rows)
 
--- the number that an argument's word writes, if the number is within its bounds
+-- The number that an argument's word writes, if the number is within its bounds.
 abbrev pub number_in : (ℕ → Bool) → Text → List Row → Option ℕ
 number_in test id rows = option_and_then (where_so test) (decimal_in id rows)
 
--- what each text reads as, if each can be read
+-- What each text reads as, if each can be read.
 abbrev pub each : {A : Type 0} → (Text → Option A) → List Text → Option (List A)
 each read [] = Some []
 each read (t ∷ ts) = option_and_then (λ x. option_map (λ xs. x ∷ xs) (each read ts)) (read t)
 
--- the texts, if there are at most n
+-- The texts, if there are at most n.
 abbrev pub at_most : ℕ → List Text → Option (List Text)
 at_most most = where_so (λ texts. nat_le (length texts) most)
 
--- at most 1,048,576 numbers, each from -2^63 to 2^63 - 1; nothing if there are more, or a text is no such number
+-- At most 1,048,576 numbers, each from -2^63 to 2^63 - 1; nothing if there are more, or a text is no such number.
 abbrev pub numbers_of : List Text → Option (List ℤ)
 numbers_of texts = option_and_then (each (signed_of (2 ^ 63))) (at_most MOST_NUMBERS texts)
 
--- the names of traces, if there are from 1 to 1,024 of them
+-- The names of traces, if there are from 1 to 1,024 of them.
 abbrev pub traces_of : List Text → Option (List Text)
 traces_of = where_so (λ texts. nat_le 1 (length texts) && nat_le (length texts) MOST_TRACES)
 
--- the byte is `:`
+-- The byte is `:`.
 abbrev pub is_colon : ℕ → Bool
 is_colon b = b == 58
 
--- the pick of a line's number and of its number of first parts, if both can be read
+-- The pick of a line's number and of its number of first parts, if both can be read.
 abbrev pub pick_from : Option ℕ → Option ℕ → Option Pick
 pick_from (Some line) (Some upto) = Some (record { line = line; upto = upto })
 pick_from _ _ = None
 
--- `LINE:UPTO`, cut at its first colon
+-- `LINE:UPTO`, cut at its first colon.
 abbrev pub pick_of : Text → Option Pick
 pick_of text = if nat_lt (position_or_len is_colon text) (length text)
     then pick_from (decimal_of (before_first is_colon text)) (decimal_of (after_first is_colon text)) else None
 
--- at most 1,048,576 picks; nothing if there are more, or a text is not a pick
+-- At most 1,048,576 picks; nothing if there are more, or a text is not a pick.
 abbrev pub picks_of : List Text → Option (List Pick)
 picks_of texts = option_and_then (each pick_of) (at_most MOST_PICKS texts)
 
 -- ---- the orders
 
--- `run`: a program, a limit within its bound, and numbers
+-- `run`: a program, a limit within its bound, and numbers.
 abbrev pub run_in : List Row → Option Order
 run_in rows =
     option_and_then (λ program. option_and_then (λ limit. option_map (λ numbers. Run program limit numbers)
@@ -93,7 +93,7 @@ run_in rows =
     (number_in is_limit (codes "limit") rows))
     (first_of (codes "program") rows)
 
--- `record`: a program, a base and a limit within their bounds, and numbers
+-- `record`: a program, a base and a limit within their bounds, and numbers.
 abbrev pub record_in : List Row → Option Order
 record_in rows =
     option_and_then (λ program. option_and_then (λ base. option_and_then (λ limit.
@@ -103,13 +103,13 @@ record_in rows =
     (number_in is_base (codes "base") rows))
     (first_of (codes "program") rows)
 
--- `many`: a program, and from 1 to 1,024 traces
+-- `many`: a program, and from 1 to 1,024 traces.
 abbrev pub many_in : List Row → Option Order
 many_in rows = option_and_then (λ program. option_map (λ traces. Many program traces)
     (traces_of (texts_in (codes "traces") rows)))
     (first_of (codes "program") rows)
 
--- `crash`: a program, a trace, the number of an entry, which is any below 2^64, and picks
+-- `crash`: a program, a trace, the number of an entry, which is any below 2^64, and picks.
 abbrev pub crash_in : List Row → Option Order
 crash_in rows =
     option_and_then (λ program. option_and_then (λ trace. option_and_then (λ entry.
@@ -119,19 +119,19 @@ crash_in rows =
     (first_of (codes "trace") rows))
     (first_of (codes "program") rows)
 
--- `demo`: a seed and a size within their bounds
+-- `demo`: a seed and a size within their bounds.
 abbrev pub demo_in : List Row → Option Order
 demo_in rows = option_and_then (λ seed. option_map (λ size. Demo seed size)
     (number_in is_size (codes "size") rows))
     (number_in is_seed (codes "seed") rows)
 
--- `check`, `repair`, `rerun` and `thin`: a program and a trace
+-- `check`, `repair`, `rerun` and `thin`: a program and a trace.
 abbrev pub files_in : List Row → Option (Text × Text)
 files_in rows = option_and_then (λ program. option_map (λ trace. (program, trace))
     (first_of (codes "trace") rows))
     (first_of (codes "program") rows)
 
--- the command of a verb, in clap's terms
+-- The command of a verb, in clap's terms.
 abbrev pub command_of : Verb → App
 command_of verbs.Run = run_app
 command_of verbs.Record = record_app
@@ -143,7 +143,7 @@ command_of verbs.Many = many_app
 command_of verbs.Crash = crash_app
 command_of verbs.Thin = files_app (codes "thin")
 
--- the order of a verb, by what clap reads
+-- The order of a verb, by what clap reads.
 abbrev pub order_in : Verb → List Row → Option Order
 order_in verbs.Run rows = run_in rows
 order_in verbs.Record rows = record_in rows
@@ -155,11 +155,11 @@ order_in verbs.Many rows = many_in rows
 order_in verbs.Crash rows = crash_in rows
 order_in verbs.Thin rows = option_map (λ p. Thin p.0 p.1) (files_in rows)
 
--- the order of a verb, by all words
+-- The order of a verb, by all words.
 abbrev pub order_by : Verb → List Text → Option Order
 order_by verb words = option_and_then (order_in verb) (reads (command_of verb) words)
 
--- the command that a word names
+-- The command that a word names.
 unfoldable pub verb_of : Text → Option Verb
 verb_of word =
     if bytes_eq word (codes "run") then Some verbs.Run
@@ -173,7 +173,7 @@ verb_of word =
     else (if bytes_eq word (codes "thin") then Some verbs.Thin
     else None))))))))
 
--- the first word names the command
+-- The first word names the command.
 unfoldable pub order : List Text → Option Order
 order [] = None
 order (word ∷ rest) = option_and_then (λ verb. order_by verb (word ∷ rest)) (verb_of word)

@@ -4,7 +4,7 @@ use Rattle.hip_io.specs.Sinks.{SinkState, Writes}
 use Rattle.hip_io.specs.Laws.SinkLaws.{and_then, same_text}
 use Rattle.hip_io.specs.declared.sink.Put.{Put}
 
--- four parts that one call writes, and the text that the next call writes
+-- Four parts that one call writes, and the text that the next call writes.
 pub after_four : {i j k : Put} {old mid new : SinkState} (a b c d : List ℕ) {rest : List ℕ}
     → Writes i j old mid (a ++ (b ++ (c ++ d))) → Writes j k mid new rest
     → Writes i k old new (a ++ (b ++ (c ++ (d ++ rest))))

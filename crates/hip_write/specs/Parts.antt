@@ -4,18 +4,18 @@ use Rattle.hip_tree.specs.declared.instr.Instr.{Instr}
 use Rattle.hip_tree.specs.declared.instr.Instr.TheVariants.{Binary, Compare, Alloca, Load, Store, Gep}
 use Rattle.hip_grammar.specs.Show.{instr_text}
 
--- what the writer puts before the item of that number
+-- What the writer puts before the item of that number.
 abbrev pub separator_at : ℕ → List ℕ
 separator_at zero = []
 separator_at (suc n) = codes ", "
 
--- the text of an operation or a comparison; empty for any other instruction
+-- The text of an operation or a comparison; empty for any other instruction.
 abbrev pub calculation_text : Instr → List ℕ
 calculation_text (Binary dest op flags w a b) = instr_text (Binary dest op flags w a b)
 calculation_text (Compare dest pred ty a b) = instr_text (Compare dest pred ty a b)
 calculation_text _ = []
 
--- the text of an instruction on memory or on addresses; empty for any other
+-- The text of an instruction on memory or on addresses; empty for any other.
 abbrev pub memory_text : Instr → List ℕ
 memory_text (Alloca dest ty n) = instr_text (Alloca dest ty n)
 memory_text (Load dest ty addr n) = instr_text (Load dest ty addr n)

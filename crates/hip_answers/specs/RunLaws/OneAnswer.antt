@@ -28,13 +28,13 @@ use Rattle.hip_runs.specs.declared.report.Findings.{Findings}
 
 -- ---- the answers on files that are known
 
--- there is no program in file p, and the answer says why
+-- There is no program in file p, and the answer says why.
 pub record Unloaded (files : List NamedFile) (p : List ℕ) (a : Answer) : Type 0 where
   why : LoadRefusal
   cause : HasNoProgram (Some files) p why
   is : a ≡ refusal (programs.status_of_refusal why)
 
--- there is a program in file p, and file t is not the trace of a run of it; the answer says why
+-- There is a program in file p, and file t is not the trace of a run of it; the answer says why.
 pub record Untraced (files : List NamedFile) (p t : List ℕ) (a : Answer) : Type 0 where
   program : Program
   loaded : IsProgramOf (Some files) p program
@@ -54,7 +54,7 @@ pub record Carried (Texts : Program → Input → Findings → Answer → Type 0
   found_is : IsFound program input found
   texts : Texts program input found a
 
--- what an answer is for: a read fault, no program, no trace of a run of it, or a run
+-- What an answer is for: a read fault, no program, no trace of a run of it, or a run.
 pub data View (Texts : Program → Input → Findings → Answer → Type 0) (files : List NamedFile) (p t : List ℕ)
     (a : Answer) : Type 0 where
   Faulted : a.status ≡ statuses.ReadFault → View Texts files p t a
@@ -164,11 +164,11 @@ not_current new current e = let k : true ≡ false = sym current ∙ e in cc
 module _ {files : List NamedFile} (old new : CabinetState) {p : List ℕ} {P : Program}
     (stated : old.files ≡ Some files)
     (loaded : IsProgramOf (Some files) p P) (current : new.is_current ≡ true) where
-  -- a refusal of the program is no read fault
+  -- A refusal of the program is no read fault.
   pub loads_no_fault : (a : Answer) → a.status ≡ statuses.ReadFault → absent.IsUnloaded old new p a → ⊥
   loads_no_fault a status u = no_read_fault u.why (sym (ap (λ (x : Answer). x.status) u.is) ∙ status)
 
-  -- another file than the program's is current, so the program was read
+  -- Another file than the program's is current, so the program was read.
   pub reads_program : {t : List ℕ} (a : Answer) → new.name ≡ Some t → p ≢ t → absent.IsUnread old new p a
       → ⊥
   reads_program {t} a named apart u = go u.current
@@ -177,7 +177,7 @@ module _ {files : List NamedFile} (old new : CabinetState) {p : List ℕ} {P : P
       go (inl e) = not_current new current e
       go (inr e) = apart (sym (subst (λ (n : Option (List ℕ)). IfSome n (λ name. name ≡ p)) named e))
 
-  -- a trace that could not be read to its end shows no misfit
+  -- A trace that could not be read to its end shows no misfit.
   pub shows_none : (t : List ℕ) (Q : Program) → IsProgramOf old.files p Q → FailsToRead old.files t Q new
       → ShowsNoMisfit files t P new.rest
   shows_none t Q there (inl e) = absurd (not_current new current e)

@@ -32,7 +32,7 @@ unfolding number_from
 number_from-push a [] d = refl
 number_from-push a (e ∷ ds) d = number_from-push (a * 10 + (e - 48)) ds d
 
--- a numeral has its number as its value
+-- A numeral has its number as its value.
 numeral-value : (fuel n : ℕ) → n < fuel → number_from 0 (numeral_in fuel n) ≡ n
 unfolding number_from
 numeral-value zero n h = absurd (omega arith)
@@ -51,7 +51,7 @@ numeral-differs : (i j : ℕ) → numeral i ≡ numeral j → i ≡ j
 numeral-differs i j e =
     sym (numeral-value (suc i) i (omega arith)) ∙ ap (number_from 0) e ∙ numeral-value (suc j) j (omega arith)
 
--- it is the text that `decimal` gives, for numbers that `decimal` can write
+-- It is the text that `decimal` gives, for numbers that `decimal` can write.
 numeral_in-decimal : (fuel n : ℕ) → n < fuel → n < 10 ^ 64 → numeral_in fuel n ≡ decimal n
 numeral_in-decimal zero n h small = absurd (omega arith)
 numeral_in-decimal (suc fuel) n h small = by_size (nat_lt n 10) refl (λ below. numeral_in-decimal fuel (n / 10) below)
@@ -94,7 +94,7 @@ candidates-differ name (suc i) zero e =
 candidates-differ name (suc i) (suc j) e =
     numeral-differs (suc i) (suc j) (same_rest (codes ".pm") _ _ (same_rest name _ _ e))
 
--- the given number of candidates from number k on
+-- The given number of candidates from number k on.
 candidates_from : List ℕ → ℕ → ℕ → List (List ℕ)
 candidates_from name zero k = []
 candidates_from name (suc n) k = candidate name k ∷ candidates_from name n (suc k)
@@ -129,7 +129,7 @@ distinct-candidates_from name (suc n) k =
 
 -- ---- a fresh name
 
--- where the name that is found is taken, all candidates up to it are
+-- Where the name that is found is taken, all candidates up to it are.
 all_taken : (taken : List (List ℕ)) (name : List ℕ) (more k : ℕ)
     → is_among taken (fresh_from taken name more k) ≡ true →
     (q : List ℕ) → list_any (bytes_eq q) (candidates_from name (suc more) k) ≡ true
@@ -162,7 +162,7 @@ all_taken taken name (suc more) k e q h =
     by_free true here f rest = by_test here (rest f) (bytes_eq q (candidate name k)) refl h
     by_free false here f rest = cc
 
--- a fresh name is not taken
+-- A fresh name is not taken.
 pub fresh-free : (taken : List (List ℕ)) (name : List ℕ) → is_among taken (fresh_name taken name) ≡ false
 fresh-free taken name = by_test (is_among taken (fresh_name taken name)) refl
   where
@@ -175,7 +175,7 @@ fresh-free taken name = by_test (is_among taken (fresh_name taken name)) refl
         absurd (omega (arith, length-candidates_from name (suc (length taken)) 0))
     by_test false e = e
 
--- a name is fresh if it is the first of the candidates that is not taken
+-- A name is fresh if it is the first of the candidates that is not taken.
 pub record IsFirstFree (taken : List (List ℕ)) (name fresh : List ℕ) : Type 0 where
   pub number : ℕ
   pub is : fresh ≡ candidate name number
@@ -245,7 +245,7 @@ first_alike xs ys name fresh same f = record {
   earlier = λ j below. sym (same (candidate name j)) ∙ f.earlier j below;
 }
 
--- each is the first candidate of its name that is not taken and is no earlier one
+-- Each is the first candidate of its name that is not taken and is no earlier one.
 pub fresh_for-first : (taken names : List (List ℕ)) (k : ℕ) (fresh : List ℕ)
     → slice_get (fresh_for taken names) k ≡ Some fresh →
     (name : List ℕ) × (slice_get names k ≡ Some name)
@@ -263,7 +263,7 @@ fresh_for-first taken (name ∷ names) (suc k) fresh e =
           (λ q. among_alike earlier taken first q) rest.2,
     )
 
--- none of the fresh names is taken
+-- None of the fresh names is taken.
 pub fresh_for-free : (taken names : List (List ℕ)) (k : ℕ) (fresh : List ℕ)
     → slice_get (fresh_for taken names) k ≡ Some fresh → is_among taken fresh ≡ false
 fresh_for-free taken [] k fresh e = cc
@@ -276,7 +276,7 @@ or_second : (b c : Bool) → c ≡ true → (b || c) ≡ true
 or_second true c e = refl
 or_second false c e = e
 
--- no fresh name is in the list twice
+-- No fresh name is in the list twice.
 all_apart : (first : List ℕ) (taken names : List (List ℕ)) → is_among taken first ≡ true
     → AllByRecursion (λ y. bytes_eq first y ≡ false) (fresh_for taken names)
 all_apart first taken [] e = tt
@@ -298,12 +298,12 @@ fresh_for-distinct taken (name ∷ names) = (
 
 -- ---- no external function has such a name
 
--- the text begins with `.pm`
+-- The text begins with `.pm`.
 begins_marked : List ℕ → Bool
 begins_marked (a ∷ b ∷ c ∷ rest) = nat_eq a 46 && (nat_eq b 112 && nat_eq c 109)
 begins_marked _ = false
 
--- `.pm` stands in the text
+-- `.pm` stands in the text.
 has_mark : List ℕ → Bool
 has_mark [] = false
 has_mark (a ∷ rest) = begins_marked (a ∷ rest) || has_mark rest
@@ -319,7 +319,7 @@ candidate-marked : (name : List ℕ) (k : ℕ) → has_mark (candidate name k) �
 candidate-marked name zero = marked_at name []
 candidate-marked name (suc k) = marked_at name (numeral (suc k))
 
--- the name of an external function has no `.pm` in it
+-- The name of an external function has no `.pm` in it.
 abbrev unmarked : ExternCall → Bool
 unmarked c = not (has_mark (row_of c).name)
 
@@ -339,7 +339,7 @@ not_in (c ∷ cs) name marked none =
     by_name false t true m n rest = cc
     by_name false t false m n rest = rest n
 
--- no name of an external function has `.pm`
+-- No name of an external function has `.pm`.
 table-unmarked : list_all unmarked CALLS ≡ true
 unfolding has_mark begins_marked
 table-unmarked = refl

@@ -25,7 +25,7 @@ and_swap true false c = refl
 and_swap false true c = refl
 and_swap false false c = refl
 
--- a table knows all of these names exactly if all of them are there
+-- A table knows all of these names exactly if all of them are there.
 pub known_alike : (known names asked : List (List ℕ)) → Knows known names
     → list_all (is_among known) asked ≡ list_all (is_among names) asked
 known_alike known names [] knows = refl
@@ -55,7 +55,7 @@ module _ (s : Scope) (names : List (List ℕ)) (values : List (Option Scalar)) (
       ∙ ap (λ b. registered (used_registers us) && b)
       (sym (list_all-append (is_among (global_names s.program)) (names_in value) (used_globals us)))
 
-  -- registers and globals that are used exist
+  -- Registers and globals that are used exist.
   pub uses_known-by_tables : (us : List Use) → operands_known names values globals us ≡ uses_known s us
   uses_known-by_tables [] = refl
   uses_known-by_tables (u ∷ us) =
@@ -68,7 +68,7 @@ module _ (s : Scope) (names : List (List ℕ)) (values : List (Option Scalar))
   agrees_alike (Reg name) ty = ap (has_type ty) (finds.finds name)
   agrees_alike (Fixed value) ty = refl
 
-  -- operands have the types that their places state
+  -- Operands have the types that their places state.
   pub uses_agree-by_tables : (us : List Use) → operands_agree names values us ≡ uses_agree s us
   uses_agree-by_tables [] = refl
   uses_agree-by_tables (u ∷ us) =
@@ -81,7 +81,7 @@ fits_alike : (o : Operand) (ty : Scalar) (us : List Use)
 fits_alike (Reg name) ty us = refl
 fits_alike (Fixed value) ty us = sym (list_all-append fits_test (types_in value) (used_constant_types us))
 
--- the types in the constants fit
+-- The types in the constants fit.
 pub uses_fit-is : (us : List Use) → operands_fit us ≡ list_all fits_test (used_constant_types us)
 uses_fit-is [] = refl
 uses_fit-is (u ∷ us) = ap (λ b. operand_fits u.operand && b) (uses_fit-is us) ∙ fits_alike u.operand u.ty us

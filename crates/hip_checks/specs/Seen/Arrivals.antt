@@ -7,23 +7,23 @@ use Rattle.hip_tree.specs.declared.block.Block.{Block}
 use Rattle.hip_names.specs.Names.{is_among, Knows}
 use Rattle.hip_sound.specs.Places.{predecessors}
 
--- the set of names at a name
+-- The set of names at a name.
 abbrev pub found_at : {S : Type 0} → IndexMap (Bor (List ℕ)) (List (List ℕ)) S → List ℕ
     → Option (List (List ℕ))
 found_at m label = get_by (λ k. bytes_eq label k.now) m
 
--- the set of names at a name, empty if the table has none
+-- The set of names at a name, empty if the table has none.
 abbrev pub names_at : {S : Type 0} → IndexMap (Bor (List ℕ)) (List (List ℕ)) S → List ℕ → List (List ℕ)
 names_at m label = unwrap_or (found_at m label) []
 
--- a table grows by a block with this label, whose end names these labels
+-- A table grows by a block with this label, whose end names these labels.
 pub record Arrives {S : Type 0} (old new : IndexMap (Bor (List ℕ)) (List (List ℕ)) S) (labels : List (List ℕ))
     (from : List ℕ) : Type 0 where
   pub adds : (at name : List ℕ) →
       is_among (names_at new at) name ≡ (is_among (names_at old at) name
       || (is_among labels at && bytes_eq name from))
 
--- the table finds the predecessors of each block
+-- The table finds the predecessors of each block.
 pub record FindsPredecessors {S : Type 0} (m : IndexMap (Bor (List ℕ)) (List (List ℕ)) S)
     (blocks : List Block) : Type 0 where
   pub finds : (label : List ℕ) → Knows (names_at m label) (predecessors blocks label)

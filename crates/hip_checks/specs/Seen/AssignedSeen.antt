@@ -16,7 +16,7 @@ use Rattle.hip_sound.specs.declared.fault.Place.{Place}
 use Rattle.hip_checks.specs.declared.tables.inner_table.Inner.{Inner}
 use Rattle.hip_checks.specs.declared.tables.inner_table.Inner.TheVariants.{Parameter, Assigned}
 
--- a register that can be used after n instructions of its block can be used at the point
+-- A register that can be used after n instructions of its block can be used at the point.
 abbrev pub is_there : Point → ℕ → Bool
 is_there (Before k) after = nat_le after k
 is_there AtEnd after = true
@@ -29,14 +29,14 @@ to_pass count block point (Some Parameter) = None
 to_pass count block point (Some (Assigned b after)) = if b == block && is_there point after then None else Some b
 to_pass count block point _ = Some count
 
--- the names of a function differ, the table finds what they denote, and the graph is that of its blocks
+-- The names of a function differ, the table finds what they denote, and the graph is that of its blocks.
 pub record Describes (fn : Function) (names : List (List ℕ)) (values : List Inner)
     (graph : List (List ℕ)) : Type 0 where
   pub stands : StandsFor names values (inner_entries fn)
   pub graph_is : graph ≡ graph_of fn
   pub differ : AllDiffer (names_in_function fn)
 
--- the path shows that the first of the uses that is not assigned on every path is at the place
+-- The path shows that the first of the uses that is not assigned on every path is at the place.
 pub record IsFirstOf (fn : Function) (uses : List RegisterUse) (place : Place) (path : List ℕ) : Type 0 where
   pub before : List RegisterUse
   pub it : RegisterUse
@@ -46,13 +46,13 @@ pub record IsFirstOf (fn : Function) (uses : List RegisterUse) (place : Place) (
   pub at : it.place ≡ place
   pub shown : IsUnassigned fn it.block it.point it.name path
 
--- all uses are assigned on every path, or the first that is not is named, unless memory was short
+-- All uses are assigned on every path, or the first that is not is named, unless memory was short.
 abbrev pub AnswersUses : {T : Type 0} → Function → Result T NotAssigned → List RegisterUse → Type 0
 AnswersUses fn (Ok _) uses = All (UseIsAssigned fn) uses
 AnswersUses fn (Err (unassigned.Use place path)) uses = IsFirstOf fn uses place path
 AnswersUses fn (Err unassigned.NoMemory) uses = Unit {0}
 
--- the same for all functions of a program
+-- The same for all functions of a program.
 abbrev pub AnswersAssigned : {T : Type 0} → Result T NotAssigned → Program → Type 0
 AnswersAssigned (Ok _) P = (f : ℕ) (fn : Function) → slice_get P.functions f ≡ Some fn → AllAssigned fn f
 AnswersAssigned (Err (unassigned.Use place path)) P = IsFirstUnassigned P place path

@@ -8,27 +8,27 @@ use Rattle.hip_sound.specs.Places.{repeats_agree}
 use Rattle.hip_names.specs.Tables.{Entry, StandsFor}
 use Rattle.hip_names.specs.declared.table.NameTable.{NameTable}
 
--- the operand is the one that an earlier edge carries; true if there is none
+-- The operand is the one that an earlier edge carries; true if there is none.
 abbrev pub carries_again : Option (Bor Operand) → Operand → Bool
 carries_again None o = true
 carries_again (Some first) o = same_operand first.now o
 
--- the operand of a phi's edge, under the edge's label
+-- The operand of a phi's edge, under the edge's label.
 abbrev pub edge_entry : Edge → Entry Operand
 edge_entry e = record { name = e.label; value = e.value }
 
--- an entry of the code's table, with the operand that is borrowed there
+-- An entry of the code's table, with the operand that is borrowed there.
 abbrev pub carried_seen : Entry (Bor Operand) → Entry Operand
 carried_seen e = record { name = e.name; value = e.value.now }
 
--- names and values denote what edges that agree carry
+-- Names and values denote what edges that agree carry.
 pub record Carries (names : List (List ℕ)) (values : List (Bor Operand)) (edges : List Edge) : Type 0 where
   pub entries : List (Entry (Bor Operand))
   pub stands : StandsFor names values entries
   pub are : map carried_seen entries ≡ map edge_entry edges
   pub agree : repeats_agree edges ≡ true
 
--- there is a table exactly where the edges agree
+-- There is a table exactly where the edges agree.
 abbrev pub CarriesWhere : List Edge → Option (NameTable (Bor Operand)) → Type 0
 CarriesWhere edges None = repeats_agree edges ≡ false
 CarriesWhere edges (Some t) = Carries t.names t.values edges

@@ -8,7 +8,7 @@ use Rattle.hip_names.specs.Tables.{Entry, value_of, value_beside}
 use Rattle.hip_checks.specs.declared.tables.inner_table.Inner.{Inner}
 use Rattle.hip_checks.specs.declared.tables.inner_table.Inner.TheVariants.{Parameter, Label, Assigned}
 
--- a name of a function, with what it denotes
+-- A name of a function, with what it denotes.
 abbrev pub entry : List ℕ → Inner → Entry Inner
 entry name value = record { name = name; value = value }
 
@@ -22,25 +22,25 @@ entries = record {
   instr = λ b i r. entry r.name (Assigned b (i + 1));
 }
 
--- each name that a function declares, with what it denotes, in the order of its text
+-- Each name that a function declares, with what it denotes, in the order of its text.
 abbrev pub inner_entries : Function → List (Entry Inner)
 inner_entries f = declared_by entries f
 
 -- ---- the graph of the blocks
 
--- the number of the block, as a list, where a label was found; empty where anything else or nothing was
+-- The number of the block, as a list, where a label was found; empty where anything else or nothing was.
 abbrev pub block_number : Option Inner → List ℕ
 block_number (Some (Label n)) = n ∷ []
 block_number _ = []
 
--- the numbers of the blocks of these labels, in order, each as often as it is named; labels of no block are left out
+-- The numbers of the blocks of these labels, in order, each as often as it is named; labels of no block are left out.
 abbrev pub successor_numbers : List (Entry Inner) → List (List ℕ) → List ℕ
 successor_numbers entries labels = flat_map (λ label. block_number (value_of entries label)) labels
 
--- for each block the numbers of the blocks that its end names
+-- For each block the numbers of the blocks that its end names.
 abbrev pub graph_of : Function → List (List ℕ)
 graph_of f = map (λ block. successor_numbers (inner_entries f) (end_labels block.end)) f.blocks
 
--- the numbers of the blocks of these labels by a table, where `successor_numbers` has them by the entries
+-- The numbers of the blocks of these labels by a table, where `successor_numbers` has them by the entries.
 abbrev pub label_numbers : List (List ℕ) → List Inner → List (List ℕ) → List ℕ
 label_numbers names values labels = flat_map (λ label. block_number (value_beside names values label)) labels

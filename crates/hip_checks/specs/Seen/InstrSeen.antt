@@ -21,14 +21,14 @@ use Rattle.hip_sound.specs.declared.fault.Fault.TheVariants as breaks
 use Rattle.hip_sound.specs.declared.fault.Finding.{Finding}
 use Rattle.hip_sound.specs.declared.fault.Place.{Place}
 
--- what is found first at an instruction, given whether its names exist, the types written there fit and its types
--- agree, in this order
+-- What is found first at an instruction, given whether its names exist, the types written there fit and its types
+-- agree, in this order.
 abbrev pub found_by : Bool → Bool → Bool → Place → Option Finding
 found_by known fits agrees place =
     or_else (asked known breaks.Unknown place)
     (or_else (asked fits breaks.TooLarge place) (asked agrees breaks.Mismatch place))
 
--- what the check of an instruction finds by the tables of registers, of globals and of callees
+-- What the check of an instruction finds by the tables of registers, of globals and of callees.
 abbrev pub instr_found : List (List ℕ) → List (Option Scalar) → List (List ℕ) → List (List ℕ)
     → List Callee → Instr →
     Place → Option Finding
@@ -90,7 +90,7 @@ module _ (s : Scope) (names : List (List ℕ)) (values : List (Option Scalar)) (
       ap (λ b. b && instr_agrees_in callee_names callees i) (uses_agree-by_tables s names values finds (instr_uses i))
       ∙ ap (λ b. uses_agree s (instr_uses i) && b) (agrees_alike i)
 
-  -- by the tables an instruction is checked as the rules say
+  -- By the tables an instruction is checked as the rules say.
   pub instr_found-is : (i : Instr) (place : Place) →
       instr_found names values globals callee_names callees i place ≡ (instr_check s i place).found
   instr_found-is i place =

@@ -23,16 +23,16 @@ use Rattle.hip_sound.specs.declared.fault.Fault.TheVariants as breaks
 use Rattle.hip_sound.specs.declared.fault.Finding.{Finding}
 use Rattle.hip_sound.specs.declared.fault.Place.{Place}
 
--- what is found first at a phi, given whether its names exist, the types written there fit, its types agree and its
--- edges agree, in this order
+-- What is found first at a phi, given whether its names exist, the types written there fit, its types agree and its
+-- edges agree, in this order.
 abbrev pub phi_found_by : Bool → Bool → Bool → Bool → Place → Option Finding
 phi_found_by known fit agree edges place =
     or_else (asked known breaks.Unknown place)
     (or_else (asked fit breaks.TooLarge place)
     (or_else (asked agree breaks.Mismatch place) (asked edges breaks.BadEdge place)))
 
--- what the check of a phi finds by the tables of registers, of globals and of labels, and by the labels of its
--- block's predecessors
+-- What the check of a phi finds by the tables of registers, of globals and of labels, and by the labels of its
+-- block's predecessors.
 abbrev pub phi_found : List (List ℕ) → List (Option Scalar) → List (List ℕ) → List (List ℕ)
     → List (List ℕ) → Phi →
     Place → Option Finding
@@ -73,7 +73,7 @@ at_each p (x ∷ xs) all =
     or_true true = refl
     or_true false = refl
 
--- a test passes at all names of one exactly if it does at all names of the other
+-- A test passes at all names of one exactly if it does at all names of the other.
 pub all_alike : (p : List ℕ → Bool) (xs ys : List (List ℕ)) → Knows xs ys → list_all p xs ≡ list_all p ys
 all_alike p xs ys knows =
     both_ways (list_all p xs) (list_all p ys)
@@ -101,7 +101,7 @@ module _ (s : Scope) (names : List (List ℕ)) (values : List (Option Scalar))
       ∙ ap (λ b. uses_known s (phi_uses p) && b)
       (known_alike known_labels (label_names s.function) (edge_labels p.edges) knows_labels)
 
-  -- by the tables a phi is checked as the rules say
+  -- By the tables a phi is checked as the rules say.
   pub phi_found-is : (p : Phi) (place : Place) →
       phi_found names values globals known_labels before p place ≡ (phi_check s label p place).found
   phi_found-is p place =

@@ -14,56 +14,56 @@ use Rattle.hip_checks.specs.declared.tables.callees.Params.TheVariants.{Scalars,
 
 -- ---- registers
 
--- a register's type under its name
+-- A register's type under its name.
 abbrev pub register_entry : Register → Entry (Option Scalar)
 register_entry r = record { name = r.name; value = r.ty }
 
--- a table grows by these registers
+-- A table grows by these registers.
 pub record Adds (names : List (List ℕ)) (values : List (Option Scalar)) (more_names : List (List ℕ))
     (more_values : List (Option Scalar)) (registers : List Register) : Type 0 where
   pub adds : (entries : List (Entry (Option Scalar))) → StandsFor names values entries →
       StandsFor more_names more_values (entries ++ map register_entry registers)
 
--- the table finds each register of the list
+-- The table finds each register of the list.
 pub record Finds (names : List (List ℕ)) (values : List (Option Scalar)) (registers : List Register) : Type 0 where
   pub finds : (name : List ℕ) → value_beside names values name ≡ find_register registers name
 
 -- ---- callees
 
--- an external function's signature under its name
+-- An external function's signature under its name.
 abbrev pub extern_entry : Extern → Entry Signature
 extern_entry e = record { name = e.name; value = record { ret = e.ret; params = e.params } }
 
--- a function's signature under its name, its parameters by their types
+-- A function's signature under its name, its parameters by their types.
 abbrev pub function_entry : Function → Entry Signature
 function_entry f = record { name = f.name; value = record { ret = f.ret; params = map (λ p. p.ty) f.params } }
 
--- the types of parameters, in order, whether they are an external function's or a function's, which have names too
+-- The types of parameters, in order, whether they are an external function's or a function's, which have names too.
 abbrev pub params_seen : Params → List Scalar
 params_seen (Scalars types) = types.now
 params_seen (Named params) = map (λ p. p.ty) params.now
 
--- the signature that a callee in the code's table denotes
+-- The signature that a callee in the code's table denotes.
 abbrev pub callee_seen : Callee → Signature
 callee_seen c = record { ret = c.ret; params = params_seen c.params }
 
--- a name in the code's table of callees, with the signature that its callee denotes
+-- A name in the code's table of callees, with the signature that its callee denotes.
 abbrev pub entry_seen : Entry Callee → Entry Signature
 entry_seen e = record { name = e.name; value = callee_seen e.value }
 
--- names and values that denote the entries and some more, which have these names and signatures
+-- Names and values that denote the entries and some more, which have these names and signatures.
 pub record Grown (names : List (List ℕ)) (values : List Callee) (entries : List (Entry Callee))
     (signatures : List (Entry Signature)) : Type 0 where
   pub more : List (Entry Callee)
   pub stands : StandsFor names values (entries ++ more)
   pub are : map entry_seen more ≡ signatures
 
--- a table grows by callees with these names and signatures
+-- A table grows by callees with these names and signatures.
 pub record AddsCallees (names : List (List ℕ)) (values : List Callee) (more_names : List (List ℕ))
     (more_values : List Callee) (signatures : List (Entry Signature)) : Type 0 where
   pub adds : (entries : List (Entry Callee)) → StandsFor names values entries →
       Grown more_names more_values entries signatures
 
--- the table finds what a program calls by a name
+-- The table finds what a program calls by a name.
 pub record FindsCallees (names : List (List ℕ)) (values : List Callee) (P : Program) : Type 0 where
   pub finds : (name : List ℕ) → option_map callee_seen (value_beside names values name) ≡ callee_of P name

@@ -8,17 +8,17 @@ use Rattle.hip_checks.specs.Seen.Tables.{Finds, FindsCallees}
 use Rattle.hip_checks.specs.declared.tables.FunctionTables.{FunctionTables}
 use Rattle.hip_checks.specs.declared.tables.ProgramTables.{ProgramTables}
 
--- the tables have the names of the program's globals, and find what its calls may name
+-- The tables have the names of the program's globals, and find what its calls may name.
 pub record DescribesProgram (t : ProgramTables) : Type 0 where
   pub globals : Knows t.globals (map (λ g. g.name) t.program.now.globals)
   pub callees : FindsCallees t.callees.names t.callees.values t.program.now
 
--- the tables find the function's registers, have its labels, and find the predecessors of its blocks
+-- The tables find the function's registers, have its labels, and find the predecessors of its blocks.
 pub record DescribesFunction (t : FunctionTables) : Type 0 where
   pub registers : Finds t.registers.names t.registers.values (registers_of t.function.now)
   pub labels : Knows t.labels (map (λ b. b.label) t.function.now.blocks)
   pub before : FindsPredecessors t.before.sets t.function.now.blocks
 
--- the scope of the places in the function: its program, itself and its registers
+-- The scope of the places in the function: its program, itself and its registers.
 abbrev pub scope_in : ProgramTables → FunctionTables → Scope
 scope_in p f = scope_of p.program.now f.function.now

@@ -30,7 +30,7 @@ use Rattle.hip_code.specs.declared.op.Operand.{Operand}
 use Rattle.hip_code.specs.declared.op.Span.{Span}
 
 module _ (P : Program) (I : Input) (f b : ℕ) (tables : Tables) where
-  -- the names of the registers of function f, in the order of their slots
+  -- The names of the registers of function f, in the order of their slots.
   abbrev names : List (List ℕ)
   names = names_at P f
 
@@ -78,7 +78,7 @@ module _ (P : Program) (I : Input) (f b : ℕ) (tables : Tables) where
       ∙ ap₂ (λ x y. Jumps e.edge.block (after_phis P.globals I.base g.registers (label_of (block_at P x y))
       (phis_of (block_at P x e.edge.block)))) at_f at_b)
 
-  -- a branch that takes the edge to a label
+  -- A branch that takes the edge to a label.
   branches : (w : World) (below : ℕ) (g : Frame) (slots : List ℕ) (base : ℕ) (go : Go) (label : List ℕ)
       → g.function ≡ f
       → g.block ≡ b → HoldsFrame names slots base g.registers → KnowsPhis P f b g.registers →

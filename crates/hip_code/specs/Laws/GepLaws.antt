@@ -31,7 +31,7 @@ use Rattle.hip_code.specs.declared.op.Span.{Span}
 use Rattle.hip_code.specs.declared.op.Term.{Term}
 use Rattle.hip_code.specs.declared.op.Value.TheVariants as values
 
--- what holds of a term and of all terms after it holds of all
+-- What holds of a term and of all terms after it holds of all.
 terms_more : (n : Numbers) (t : Term) (ts : List Term) → is_within n t.index → TermsWithin n ts
     → TermsWithin n (t ∷ ts)
 terms_more n t ts h r = record { at = go }
@@ -40,7 +40,7 @@ terms_more n t ts h r = record { at = go }
     go zero x e = let same : t ≡ x = cc in subst (λ (y : Term). is_within n y.index) same h
     go (suc k) x e = r.at k x e
 
--- these indices lead into the type at an offset, and the terms add the rest
+-- These indices lead into the type at an offset, and the terms add the rest.
 pub record Comes (n : Numbers) (t : Ty) (indices : List ℕ) (offset : ℕ) (terms : List Term) : Type 0 where
   pub part : Part
   pub there : part_at indices t ≡ Some part
@@ -49,11 +49,11 @@ pub record Comes (n : Numbers) (t : Ty) (indices : List ℕ) (offset : ℕ) (ter
 
 module _ (globals : List GlobalVar) (region : ℕ) (names : List (List ℕ)) (n : Numbers) (rs : Registers)
     (h : HoldsFrame names n.slots n.base rs) where
-  -- the values of these indices, each sign-extended to 64 bits
+  -- The values of these indices, each sign-extended to 64 bits.
   abbrev indices_of : List Arg → List ℕ
   indices_of args = index_values globals region rs args
 
-  -- an index that a register holds
+  -- An index that a register holds.
   scaled : (a : Arg) (size : ℕ) (t : Term) → IsScaled globals region names n.tables.constants a size t
       → are_known rs (arg_uses (a ∷ [])) →
       term_value n t ≡ index_value a.ty (value_of globals region rs a.value) * size
@@ -105,13 +105,13 @@ module _ (globals : List GlobalVar) (region : ℕ) (names : List (List ℕ)) (n 
             (operand_within globals region names n rs p.2.index a.value p.4.index h) c.within);
       }
 
-  -- the offset that these indices give in a type is a constant one plus the sum of the terms, modulo 2^64, and what the
-  -- terms name is there
+  -- The offset that these indices give in a type is a constant one plus the sum of the terms, modulo 2^64, and what the
+  -- terms name is there.
   pub record Far (t : Ty) (args : List Arg) (offset : ℕ) (terms : List Term) : Type 0 where
     pub far : unwrap_or (gep_of t (indices_of args)) 0 ≡ (offset + sum_of n terms) % 2 ^ 64
     pub within : TermsWithin n terms
 
-  -- the offset of all indices
+  -- The offset of all indices.
   pub gep_far : (args : List Arg) (t : Ty) (offset : ℕ) (terms : List Term)
       → IsGep globals region names n.tables.constants t args offset terms → are_known rs (arg_uses args)
       → Far t args offset terms
@@ -150,18 +150,18 @@ module _ (globals : List GlobalVar) (region : ℕ) (names : List (List ℕ)) (n 
                 (operand_within globals region names n rs p.0.index a.value p.2.index h) c.within);
           }
 
--- an offset may be cut to 64 bits at each step
+-- An offset may be cut to 64 bits at each step.
 cut_far : (b o m s : ℕ) → o ≡ m % 2 ^ 64 → (b + (o + s)) % 2 ^ 64 ≡ (b + (m + s) % 2 ^ 64) % 2 ^ 64
 cut_far b o m s e =
     sym (add-mod-mod b (o + s) (2 ^ 64)) ∙ ap (λ x. (b + x) % 2 ^ 64)
     (ap (λ x. (x + s) % 2 ^ 64) e ∙ mod-add-mod m (2 ^ 64) s)
 
 module _ (P : Program) (I : Input) (f : ℕ) (tables : Tables) where
-  -- the names of the registers of function f, in the order of their slots
+  -- The names of the registers of function f, in the order of their slots.
   abbrev names_here : List (List ℕ)
   names_here = names_at P f
 
-  -- a `getelementptr` with constant indices alone is resolved
+  -- A `getelementptr` with constant indices alone is resolved.
   pub resolves_fixed : (name : List ℕ) (dest : ℕ) (base : Operand) (x : named.Operand) (ty : Ty) (args : List Arg)
       (inbounds : Bool) (offset whole : ℕ) →
       number_of names_here name ≡ Some dest → IsOperandIn P I.base f tables base x
@@ -183,7 +183,7 @@ module _ (P : Program) (I : Input) (f : ℕ) (tables : Tables) where
     names = λ slots base rs h k. record { is = tt; pointed = tt };
   }
 
-  -- so is one with one index that is no constant
+  -- So is one with one index that is no constant.
   pub resolves_scaled : (name : List ℕ) (dest : ℕ) (base : Operand) (x : named.Operand) (ty : Ty) (args : List Arg)
       (inbounds : Bool) (offset whole : ℕ) (term : Term) →
       number_of names_here name ≡ Some dest → IsOperandIn P I.base f tables base x
@@ -207,7 +207,7 @@ module _ (P : Program) (I : Input) (f : ℕ) (tables : Tables) where
     names = λ slots base rs h k. record { is = tt; pointed = tt };
   }
 
-  -- and one with any indices
+  -- And one with any indices.
   pub resolves_terms : (name : List ℕ) (dest : ℕ) (base : Operand) (x : named.Operand) (ty : Ty) (args : List Arg)
       (inbounds : Bool) (offset whole : ℕ) (span : Span) →
       number_of names_here name ≡ Some dest → IsOperandIn P I.base f tables base x → HasSpan span tables.terms →

@@ -53,7 +53,7 @@ sizes (scalars.Int W32) = inr (inr (inl refl))
 sizes (scalars.Int W64) = inr (inr (inr refl))
 
 module _ (P : Program) (I : Input) (f : ℕ) (tables : Tables) where
-  -- the names of the registers of function f, in the order of their slots
+  -- The names of the registers of function f, in the order of their slots.
   abbrev names : List (List ℕ)
   names = names_at P f
 
@@ -125,7 +125,7 @@ module _ (P : Program) (I : Input) (f : ℕ) (tables : Tables) where
 
   -- ---- external functions
 
-  -- there is an op for a function with this effect and these parameters
+  -- There is an op for a function with this effect and these parameters.
   abbrev has_op : LineEffect → List Scalar → Bool
   has_op lines.Nothing params = false
   has_op lines.Flush [] = false
@@ -135,8 +135,8 @@ module _ (P : Program) (I : Input) (f : ℕ) (tables : Tables) where
   has_op lines.FlushAndFence (x ∷ []) = false
   has_op lines.FlushAndFence (x ∷ y ∷ more) = true
 
-  -- the op for a function with this effect on cache lines does what a call of the function does with these arguments,
-  -- and its operands are there
+  -- The op for a function with this effect on cache lines does what a call of the function does with these arguments,
+  -- and its operands are there.
   record Lines (w : World) (n : Numbers) (rs : Registers) (effect : LineEffect) (params : List Scalar) (a b : Operand)
       (args : List Arg) : Type 0 where
     within : PersistenceWithin n (line_op effect params a b)
@@ -170,8 +170,8 @@ module _ (P : Program) (I : Input) (f : ℕ) (tables : Tables) where
   lines_of w slots base rs lines.FlushAndFence (p ∷ []) a b args h k t some = absurd (let z : ⊥ = cc in z)
   lines_of w slots base rs lines.Nothing params a b args h k t some = absurd (let z : ⊥ = cc in z)
 
-  -- the op for an external function does what a call of the function does with these arguments: what it reads and
-  -- writes is there, its result goes to a register's slot or nowhere, and it is a turn unless it is a flush or a fence
+  -- The op for an external function does what a call of the function does with these arguments: what it reads and
+  -- writes is there, its result goes to a register's slot or nowhere, and it is a turn unless it is a flush or a fence.
   record Effects (w : World) (n : Numbers) (rs : Registers) (c : ExternCall) (slot : Option ℕ) (a b : Operand)
       (args : List Arg) (dest : Option (List ℕ)) : Type 0 where
     within : EffectWithin n (extern_op c slot a b)
@@ -207,7 +207,7 @@ module _ (P : Program) (I : Input) (f : ℕ) (tables : Tables) where
       let l = lines_of w slots base rs (row_of call).effect (row_of call).params a b args h k t refl in
       record { within = l.within; placed = tt; turn = refl; acts = l.acts }
 
-  -- a call of an external function
+  -- A call of an external function.
   pub resolves_extern : (dest : Option (List ℕ)) (slot : Option ℕ) (ret : Option Scalar) (callee : List ℕ)
       (args : List Arg) (c : ExternCall) (a b : Operand) →
       call_of callee ≡ Some c → is_result names slot dest

@@ -56,7 +56,7 @@ placed_more names m ms h r = record { at = go }
     go zero x e = let same : m ≡ x = cc in subst (λ (y : Move). IsSlot names y.dest) same h
     go (suc k) x e = r.at k x e
 
--- moves read numbers that are there, and write slots of registers that are there
+-- Moves read numbers that are there, and write slots of registers that are there.
 pub record MovesAre (n : Numbers) (base size : ℕ) (names : List (List ℕ)) (ms : List Move) : Type 0 where
   pub read : AreRead n ms
   pub written : AreWritten base size ms
@@ -75,7 +75,7 @@ more_are n base size names m ms r w p rest =
       placed = placed_more names m ms p rest.placed;
     }
 
--- the slots from a base on hold the registers after moves
+-- The slots from a base on hold the registers after moves.
 pub holds_moved : (n : Numbers) (base : ℕ) (names : List (List ℕ)) (slots : List ℕ) (rs : Registers)
     (ms : List Move)
     → MovesPlaced names ms → HoldsFrame names slots base rs →
@@ -101,7 +101,7 @@ from_edge globals region rs from (d ∷ es) x e = go (bytes_eq d.label from) e (
     go true q rest = let same : d.value ≡ x = cc in ap (value_of globals region rs) (sym same)
     go false q rest = rest q
 
--- an edge's operand for control from its label has a value
+-- An edge's operand for control from its label has a value.
 known_edge : (rs : Registers) (from : List ℕ) (es : List Edge) (x : named.Operand)
     → ((k : ℕ) (e : Edge) → slice_get es k ≡ Some e → e.label ≡ from → IsKnown rs e.value)
     → edge_from es from ≡ Some x
@@ -118,7 +118,7 @@ known_edge rs from (d ∷ es) x all e =
 
 module _ (globals : List GlobalVar) (region : ℕ) (names : List (List ℕ)) (n : Numbers) (rs : Registers)
     (h : HoldsFrame names n.slots n.base rs) (from : List ℕ) where
-  -- the moves of an edge read and write what is there
+  -- The moves of an edge read and write what is there.
   pub phis_are : (ms : List Move) (ps : List Phi) → are_moves globals region names n.tables.constants from ms ps
       → MovesAre n n.base (length n.slots) names ms
   phis_are [] [] a = none_are n n.base (length n.slots) names
@@ -130,7 +130,7 @@ module _ (globals : List GlobalVar) (region : ℕ) (names : List (List ℕ)) (n 
       (omega (arith, h.room, slot_within names p.dest m.dest a.0.dest))
       (name_placed names p.dest m.dest a.0.dest) (phis_are ms ps a.1)
 
-  -- the moves give what the phis give
+  -- The moves give what the phis give.
   pub phis_move : (ms : List Move) (ps : List Phi) → are_moves globals region names n.tables.constants from ms ps →
       ((j k : ℕ) (p : Phi) (e : Edge) → slice_get ps j ≡ Some p → slice_get p.edges k ≡ Some e
       → e.label ≡ from
@@ -161,7 +161,7 @@ module _ (globals : List GlobalVar) (region : ℕ) (names called : List (List �
       (omega (arith, s, slot_within called p.name m.dest a.0))
       (name_placed called p.name m.dest a.0) (arguments_are size ms ps xs s a.2)
 
-  -- the moves take the arguments' values, where there is a parameter for each
+  -- The moves take the arguments' values, where there is a parameter for each.
   pub arguments_pass : (ms : List Move) (ps : List Param) (args : List Arg)
       → are_arguments globals region names called n.tables.constants ms ps args → are_known rs (arg_uses args)
       → length args ≤ length ps →
@@ -175,7 +175,7 @@ module _ (globals : List GlobalVar) (region : ℕ) (names called : List (List �
       ap₂ (λ v vs. v ∷ vs) (operand_same globals region names n rs m.value x.value a.1 h k.0).same
       (arguments_pass ms ps xs a.2 k.1 (omega (arith, few)))
 
-  -- the moves give each parameter its argument
+  -- The moves give each parameter its argument.
   pub arguments_move : (ms : List Move) (ps : List Param) (args : List Arg)
       → are_arguments globals region names called n.tables.constants ms ps args → are_known rs (arg_uses args) →
       moved called n ms [] ≡ bound ps (values_of globals region rs args)

@@ -22,7 +22,7 @@ use Rattle.hip_code.specs.declared.op.Operand.{Operand}
 use Rattle.hip_code.specs.declared.op.Operand.TheVariants.{Register, Constant}
 use Rattle.hip_code.specs.declared.op.Value.{Value}
 
--- what a resolved operand names is there
+-- What a resolved operand names is there.
 pub operand_within : (globals : List GlobalVar) (region : ℕ) (names : List (List ℕ)) (n : Numbers) (rs : Registers)
     (o : Operand) (x : named.Operand) →
     IsOperand globals region names n.tables.constants o x → HoldsFrame names n.slots n.base rs → is_within n o
@@ -33,12 +33,12 @@ operand_within globals region names n rs (Constant place) (Fixed value) r h =
 operand_within globals region names n rs (Register slot) (Fixed value) r h = absurd r.is
 operand_within globals region names n rs (Constant place) (Reg name) r h = absurd r.is
 
--- what the operand names is there, and this is its value
+-- What the operand names is there, and this is its value.
 pub record SameValue (n : Numbers) (o : Operand) (v : ℕ) : Type 0 where
   pub within : is_within n o
   pub same : operand_value n o ≡ v
 
--- a resolved operand has the operand's value
+-- A resolved operand has the operand's value.
 pub operand_same : (globals : List GlobalVar) (region : ℕ) (names : List (List ℕ)) (n : Numbers) (rs : Registers)
     (o : Operand) (x : named.Operand) →
     IsOperand globals region names n.tables.constants o x → HoldsFrame names n.slots n.base rs → IsKnown rs x
@@ -53,7 +53,7 @@ operand_same globals region names n rs (Constant place) (Fixed value) r h k =
 operand_same globals region names n rs (Register slot) (Fixed value) r h k = absurd r.is
 operand_same globals region names n rs (Constant place) (Reg name) r h k = absurd r.is
 
--- an op gives a result to a register
+-- An op gives a result to a register.
 pub gives : (P : Program) (I : Input) (w : World) (below f : ℕ) (n : Numbers) (rs : Registers) (name : List ℕ)
     (dest : ℕ) (value : Value) (r : Result ℕ NumTrap) →
     number_of (names_at P f) name ≡ Some dest → HoldsFrame (names_at P f) n.slots n.base rs → ReadsWithin n value
@@ -66,14 +66,14 @@ gives P I w below f n rs name dest value r d h reads e = record {
   acts = ap₂ gave (name_there (names_at P f) name dest d) e;
 }
 
--- the slot of a result is there and is that of the register of this name, or there is neither slot nor name
+-- The slot of a result is there and is that of the register of this name, or there is neither slot nor name.
 pub record ResultIs (names : List (List ℕ)) (n : Numbers) (slot : Option ℕ)
     (name : Option (List ℕ)) : Type 0 where
   pub name_is : result_name names slot ≡ name
   pub placed : result_placed names slot
   pub there : HasResult n slot
 
--- a result goes to the slot of a register, or nowhere
+-- A result goes to the slot of a register, or nowhere.
 pub result_is : (names : List (List ℕ)) (n : Numbers) (rs : Registers) (slot : Option ℕ) (name : Option (List ℕ))
     → HoldsFrame names n.slots n.base rs → is_result names slot name → ResultIs names n slot name
 result_is names n rs None None h r = record { name_is = refl; placed = tt; there = tt }

@@ -11,12 +11,12 @@ use Rattle.hip_runs.specs.State.{Registers}
 use Rattle.hip_code.specs.Frames.{is_assigned, HoldsFrame}
 use Rattle.hip_code.specs.Moves.{name_at}
 
--- a slot of one name
+-- A slot of one name.
 pub slot_within : (names : List (List ℕ)) (name : List ℕ) (slot : ℕ) → number_of names name ≡ Some slot
     → slot < length names
 slot_within names name slot e = slice_get_within names slot name (number_of-there names name slot e)
 
--- the name of a slot is the one whose slot it is
+-- The name of a slot is the one whose slot it is.
 pub name_there : (names : List (List ℕ)) (name : List ℕ) (slot : ℕ) → number_of names name ≡ Some slot
     → name_at names slot ≡ name
 name_there names name slot e = ap (λ o. unwrap_or o []) (number_of-there names name slot e)
@@ -25,12 +25,12 @@ pub name_placed : (names : List (List ℕ)) (name : List ℕ) (slot : ℕ) → n
     → number_of names (name_at names slot) ≡ Some slot
 name_placed names name slot e = subst (λ x. number_of names x ≡ Some slot) (sym (name_there names name slot e)) e
 
--- two names with the same slot are equal
+-- Two names with the same slot are equal.
 one_name : (names : List (List ℕ)) (x y : List ℕ) (slot : ℕ) → number_of names x ≡ Some slot
     → number_of names y ≡ Some slot → x ≡ y
 one_name names x y slot e f = sym (name_there names x slot e) ∙ name_there names y slot f
 
--- the slots still hold the registers after a register and its slot take a value
+-- The slots still hold the registers after a register and its slot take a value.
 pub holds_assigned : (names : List (List ℕ)) (slots : List ℕ) (base : ℕ) (rs : Registers) (name : List ℕ)
     (slot v : ℕ) →
     number_of names name ≡ Some slot → HoldsFrame names slots base rs
@@ -66,7 +66,7 @@ holds_assigned names slots base rs name slot v e h =
         → slice_index (slice_set slots (base + slot) v) (base + k) ≡ look_up (assigned (Some name) v rs) x
     here x k n a = at_name (bytes_eq name x) x k refl n a
 
--- the slots hold the registers before any of these has a value
+-- The slots hold the registers before any of these has a value.
 pub holds_none : (names : List (List ℕ)) (slots : List ℕ) (base : ℕ) → base + length names ≤ length slots
     → HoldsFrame names slots base []
 holds_none names slots base room = record { room = room; holds = λ name slot e a. absurd (let z : ⊥ = cc in z) }

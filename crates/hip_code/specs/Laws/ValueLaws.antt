@@ -39,7 +39,7 @@ use Rattle.hip_code.specs.declared.op.Other.TheVariants as others
 use Rattle.hip_code.specs.declared.op.Rest.TheVariants as rests
 use Rattle.hip_code.specs.declared.op.Value.TheVariants as values
 
--- what is done with a result of an operation
+-- What is done with a result of an operation.
 gave_calculated : (dest : List ℕ) (r : Result Bits NumTrap) → gave dest (number_in r) ≡ calculated dest r
 gave_calculated dest (Ok b) = refl
 gave_calculated dest (Err trap) = refl
@@ -90,7 +90,7 @@ compare_within preds.Sle n w a b h k = (k, h)
 
 -- ---- changes of type
 
--- a number with a sign that is cut to 64 bits and then to a width is the number cut to that width
+-- A number with a sign that is cut to 64 bits and then to a width is the number cut to that width.
 wrapped_cut : (w : Width) (z : ℤ) → wrapped W64 z % modulus w ≡ wrapped w z % modulus w
 wrapped_cut W1 (pos n) = mod-mod-pow n 63 1 ∙ sym (mod-mod-pow n 0 1)
 wrapped_cut W8 (pos n) = mod-mod-pow n 56 8 ∙ sym (mod-mod-pow n 0 8)
@@ -123,7 +123,7 @@ cast_within casts.Inttoptr n from to a h = h
 -- ---- the laws
 
 module _ (P : Program) (I : Input) (f : ℕ) (tables : Tables) where
-  -- the names of the registers of function f, in the order of their slots
+  -- The names of the registers of function f, in the order of their slots.
   abbrev names : List (List ℕ)
   names = names_at P f
 

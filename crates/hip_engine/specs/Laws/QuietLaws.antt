@@ -13,11 +13,11 @@ use Rattle.hip_runs.specs.declared.input.Input.{Input}
 use Rattle.hip_engine.specs.Quiet.{ComesTo, GoesQuietly, next_event}
 
 module _ (P : Program) (I : Input) where
-  -- after a step without an event the run goes on
+  -- After a step without an event the run goes on.
   pub quiet_goes_on : (n : ℕ) → event P I (run P I n) ≡ events.Quiet → (run P I (suc n)).world.ending ≡ None
   quiet_goes_on n q = (run_stated P I n).ending ∙ ap ending_by q
 
-  -- and has printed what it had printed before the step
+  -- And has printed what it had printed before the step.
   quiet_prints : (n : ℕ) → event P I (run P I n) ≡ events.Quiet
       → (run P I (suc n)).world.output ≡ (run P I n).world.output
   quiet_prints n q =
@@ -32,7 +32,7 @@ module _ (P : Program) (I : Input) where
       ∙ quiet_prints (start + k) (quiet k (omega arith))
       ∙ same_output start k (λ n lt. quiet n (omega (arith, lt)))
 
--- a run that goes some quiet steps further has printed what it had printed before them
+-- A run that goes some quiet steps further has printed what it had printed before them.
 pub quiet_output : (old new : Seen) → GoesQuietly old new
     → (state_of new).world.output ≡ (state_of old).world.output
 quiet_output old new g =
@@ -40,7 +40,7 @@ quiet_output old new g =
 
 -- ---- the next event
 
--- one step more is the run's step
+-- One step more is the run's step.
 after_step_is : (m : Seen) → state_of (after_step m) ≡ step m.program m.input (state_of m)
 unfolding run step on_ending
 after_step_is m = go (state_of m).world.ending refl
@@ -51,7 +51,7 @@ after_step_is m = go (state_of m).world.ending refl
     go (Some e) q = refl
     go None q = ap (on_ending m.program m.input (state_of m)) q
 
--- up to its next event a run prints what the event says, and ends as the event says
+-- Up to its next event a run prints what the event says, and ends as the event says.
 pub comes_stated : (old new : Seen) (e : Event) → ComesTo old new e
     → IsStated (state_of old).world (state_of new).world e
 comes_stated old new e c =
@@ -65,12 +65,12 @@ comes_stated old new e c =
       ending = ap (λ (s : State). s.world.ending) there ∙ stated.ending ∙ ap ending_by (sym c.is);
     }
 
--- the event of a run that has ended is its end
+-- The event of a run that has ended is its end.
 ending_then : (m : Seen) (x : Ending) → (state_of m).world.ending ≡ Some x → ending_by (next_event m) ≡ Some x
 unfolding event
 ending_then m x q = ap (λ o. ending_by (event_on_ending m.program m.input (state_of m) o)) q
 
--- up to an event that is no end a run takes at least one step
+-- Up to an event that is no end a run takes at least one step.
 pub comes_further : (old new : Seen) (e : Event) → ComesTo old new e → ending_by e ≡ None
     → old.taken < new.taken
 comes_further old new e c going = go (state_of at).world.ending refl

@@ -9,7 +9,7 @@ use Rattle.hip_runs.specs.declared.event.Event.TheVariants as events
 use Rattle.hip_runs.specs.declared.input.Input.{Input}
 use Rattle.hip_engine.specs.Silent.{is_silent}
 
--- a silent event prints nothing
+-- A silent event prints nothing.
 pub prints_nothing : (e : Event) → is_silent e ≡ true → printed_by e ≡ []
 prints_nothing events.Quiet s = refl
 prints_nothing (events.Print z) s = absurd (let z : ⊥ = cc in z)
@@ -20,7 +20,7 @@ prints_nothing events.Fence s = refl
 prints_nothing (events.Assert a n) s = refl
 prints_nothing (events.End e) s = absurd (let z : ⊥ = cc in z)
 
--- and is no end
+-- And is no end.
 pub ends_nothing : (e : Event) → is_silent e ≡ true → ending_by e ≡ None
 ends_nothing events.Quiet s = refl
 ends_nothing (events.Print z) s = refl
@@ -32,12 +32,12 @@ ends_nothing (events.Assert a n) s = refl
 ends_nothing (events.End e) s = absurd (let z : ⊥ = cc in z)
 
 module _ (P : Program) (I : Input) where
-  -- after a silent step the run goes on
+  -- After a silent step the run goes on.
   pub silent_goes_on : (n : ℕ) → is_silent (event P I (run P I n)) ≡ true
       → (run P I (suc n)).world.ending ≡ None
   silent_goes_on n s = (run_stated P I n).ending ∙ ends_nothing (event P I (run P I n)) s
 
-  -- and has printed what it had printed before the step
+  -- And has printed what it had printed before the step.
   silent_prints : (n : ℕ) → is_silent (event P I (run P I n)) ≡ true
       → (run P I (suc n)).world.output ≡ (run P I n).world.output
   silent_prints n s =
@@ -45,7 +45,7 @@ module _ (P : Program) (I : Input) where
         ∙ ap (λ text. (run P I n).world.output ++ text) (prints_nothing (event P I (run P I n)) s)
       ∙ append-nil (run P I n).world.output
 
-  -- silent steps print nothing
+  -- Silent steps print nothing.
   pub same_output : (start k : ℕ) → ((n : ℕ) → n < k → is_silent (event P I (run P I (start + n))) ≡ true)
       → (run P I (start + k)).world.output ≡ (run P I start).world.output
   same_output start zero silent = ap (λ n. (run P I n).world.output) (let e : start + 0 ≡ start = omega arith in e)
@@ -54,7 +54,7 @@ module _ (P : Program) (I : Input) where
       ∙ silent_prints (start + k) (silent k (omega arith))
       ∙ same_output start k (λ n lt. silent n (omega (arith, lt)))
 
-  -- after silent steps a run that had not ended goes on
+  -- After silent steps a run that had not ended goes on.
   pub still_going : (start k : ℕ) → (run P I start).world.ending ≡ None
       → ((n : ℕ) → n < k → is_silent (event P I (run P I (start + n))) ≡ true)
       → (run P I (start + k)).world.ending ≡ None

@@ -130,11 +130,11 @@ gep_shape-is gep =
 
 -- ---- elements
 
--- the names of the two arrays of a generated program
+-- The names of the two arrays of a generated program.
 abbrev arrays : List (List ℕ)
 arrays = codes "data" ∷ codes "temp" ∷ []
 
--- the address of an element of one of the two arrays
+-- The address of an element of one of the two arrays.
 record IsElement (c : Const) : Type 0 where
   name : List ℕ
   ty : Ty
@@ -144,7 +144,7 @@ record IsElement (c : Const) : Type 0 where
   fits : Fits ty
   points : has_shape c types.Ptr ≡ true
 
--- the constant expression `getelementptr ([LENGTH x i64], ptr @NAME, i64 0, i64 INDEX)`
+-- The constant expression `getelementptr ([LENGTH x i64], ptr @NAME, i64 0, i64 INDEX)`.
 abbrev gep_of : List ℕ → ℕ → ℕ → ConstGep
 gep_of name length index =
     record {
@@ -173,7 +173,7 @@ element_is name length index known small = record {
 
 -- ---- instructions of the groups
 
--- what holds of the instructions of each group holds of all instructions
+-- What holds of the instructions of each group holds of all instructions.
 all_groups : (Q : Instr → Type 0) (seed size : ℕ)
     → ((group : ℕ) (k : Kind) → All Q (group_instrs size group k))
     → (n : ℕ) → All Q (instrs_before seed size n)
@@ -182,7 +182,7 @@ all_groups Q seed size h (suc n) =
     All-append Q (instrs_before seed size n) (group_instrs size n (kind seed n)) (all_groups Q seed size h n)
     (h n (kind seed n))
 
--- what holds of the three instructions that groups are made of holds of those of each group
+-- What holds of the three instructions that groups are made of holds of those of each group.
 each_group : (Q : Instr → Type 0) (size : ℕ) → size ≤ LARGEST_SIZE
     → ((c : Const) (value : ℕ) → IsElement c → Q (store c value))
     → ((c : Const) → IsElement c → Q (flush c))
@@ -215,7 +215,7 @@ each_group Q size small stores flushes puts group k = by_kind k
         All-cons Q (put (volatile_element group) (group + 1)) [] (puts (volatile_element group) (group + 1) temp_is)
         (All-nil Q)
 
--- they assign no register
+-- They assign no register.
 group_assigns_none : (size group : ℕ) (k : Kind) → body_registers (group_instrs size group k) ≡ []
 group_assigns_none size group kinds.Store = refl
 group_assigns_none size group kinds.FlushedStore = refl
@@ -228,7 +228,7 @@ groups_assign_none seed size (suc n) =
     flat_map-append assigned_by (instrs_before seed size n) (group_instrs size n (kind seed n))
     ∙ ap₂ (λ a b. a ++ b) (groups_assign_none seed size n) (group_assigns_none size n (kind seed n))
 
--- and use none
+-- And use none.
 abbrev UsesNone : Instr → Type 0
 UsesNone i = used_registers (instr_uses i) ≡ []
 
@@ -239,11 +239,11 @@ one_fits c e =
     subst (λ (ts : List Ty). All Fits (ts ++ [])) (sym e.written) (All-cons Fits e.ty [] e.fits (All-nil Fits))
 
 module _ (size : ℕ) (small : size ≤ LARGEST_SIZE) (body : List Instr) where
-  -- the program of a size whose `main` has this body
+  -- The program of a size whose `main` has this body.
   abbrev P : Program
   P = program_of size body
 
-  -- the scope of `main`
+  -- The scope of `main`.
   abbrev s : Scope
   s = scope_of P (define_main body)
 
@@ -270,7 +270,7 @@ module _ (size : ℕ) (small : size ≤ LARGEST_SIZE) (body : List Instr) where
     ),
   )
 
-  -- the rules of places hold of the instruction in `main`, at any place
+  -- The rules of places hold of the instruction in `main`, at any place.
   abbrev IsChecked : Instr → Type 0
   IsChecked i = (place : Place) → (instr_check s i place).Holds
 
@@ -337,7 +337,7 @@ module _ (size : ℕ) (small : size ≤ LARGEST_SIZE) (body : List Instr) where
   places_hold : All IsChecked body → (places_check P).Holds
   places_hold checked = (put_function_holds, ((main_holds checked, tt), tt))
 
-  -- what the store of `put` uses
+  -- What the store of `put` uses.
   abbrev used : List ℕ → RegisterUse
   used name = use_at (places.Body (site 0 0 0)) 0 (Before 0) name
 
@@ -390,7 +390,7 @@ generated_is_sound seed size small =
       assigned = assigned_hold size small body none;
     })
 
--- each text is canonical, and is read as the sound program
+-- Each text is canonical, and is read as the sound program.
 pub generated_texts_are_read : (seed size : ℕ) → size ≤ LARGEST_SIZE → IsReadAsSound seed size
 generated_texts_are_read seed size small = record {
   canonical = generated_text-is seed size small;

@@ -113,7 +113,7 @@ program_spelled size body small h =
       block_spelled body h,
     ) refl
 
--- the generated program is spelled
+-- The generated program is spelled.
 pub generated_is_spelled : (seed size : ℕ) → size ≤ LARGEST_SIZE → IsSpelled (generated_program seed size)
 generated_is_spelled seed size h =
     (spelled_exact (generated_program seed size)).0

@@ -28,7 +28,7 @@ use Rattle.hip_gen.specs.Generated.{array_of, zeroed_array, element, store, flus
 
 -- ---- constants
 
--- a number without a sign
+-- A number without a sign.
 literal-is : (n : ℕ) → n < 2 ^ 63 → literal_text (bits W64 n) ≡ decimal n
 literal-is n h =
     let fits : n < 2 ^ 64 = omega arith in
@@ -86,7 +86,7 @@ element_joined d name e =
     ∙ ap (λ t. d ++ (codes " x i64], ptr @" ++ (name ++ (codes ", i64 0, i64 " ++ t))))
     (append_assoc e [] (codes ")")))
 
--- the text by the texts of its parts
+-- The text by the texts of its parts.
 abbrev by_parts : List ℕ → List ℕ → List ℕ → List ℕ → List ℕ
 by_parts t b z i =
     codes "getelementptr (" ++ (t ++ (codes ", ptr "
@@ -109,7 +109,7 @@ element-is name length index h =
 
 -- ---- lines
 
--- an instruction as a line of canonical text, with two spaces before it and a line feed after it
+-- An instruction as a line of canonical text, with two spaces before it and a line feed after it.
 abbrev line : Instr → List ℕ
 line i = line_of (instr_text i)
 
@@ -204,13 +204,13 @@ main-is body =
     ++ (((flat_map line body ++ (codes "  ret i32 " ++ (c ++ codes "\n"))) ++ []) ++ codes "}\n"))
     (int-is (bits W32 0) ∙ decimal_digit 0 (omega arith))
 
--- the declaration of the flush, and the function `put`
+-- The declaration of the flush, and the function `put`.
 abbrev put_text : List ℕ
 put_text =
     codes "declare void @llvm.x86.clwb(ptr)\ndefine void @put(ptr %p, i64 %v) {\n"
     ++ codes "entry:\n  store i64 %v, ptr %p\n  ret void\n}\n"
 
--- the text between the number of elements and the groups
+-- The text between the number of elements and the groups.
 abbrev middle : List ℕ
 middle =
     codes " x i64] zeroinitializer, section \".pm\"\n@temp = global [8 x i64] zeroinitializer\n"
@@ -222,7 +222,7 @@ five a b c d e = simp append_assoc
 last_joined : (groups r c : List ℕ) → (((groups ++ r) ++ []) ++ c) ++ [] ≡ groups ++ (r ++ c)
 last_joined groups r c = append-nil _ ∙ ap (λ t. t ++ c) (append-nil (groups ++ r)) ∙ append_assoc groups r c
 
--- regroups the text around the digits of the size and the groups
+-- Regroups the text around the digits of the size and the groups.
 all_joined : (d groups : List ℕ) →
     ((codes "@data = global [" ++ ((d ++ codes " x i64]") ++ codes " zeroinitializer, section \".pm\"\n"))
     ++ codes "@temp = global [8 x i64] zeroinitializer\n")
@@ -245,7 +245,7 @@ program-is size body =
     (ap₂ (λ (a b : List ℕ). a ++ (b ++ [])) (data-is size) temp-is) (main-is body)
     ∙ all_joined (decimal size) (flat_map line body)
 
--- the text by its lines is the canonical text of the program
+-- The text by its lines is the canonical text of the program.
 pub generated_text-is : (seed size : ℕ) → size ≤ LARGEST_SIZE
     → generated_text seed size ≡ show (generated_program seed size)
 generated_text-is seed size h =

@@ -4,7 +4,7 @@ use Rattle.std.proofs.lemmas.Bool.{and_parts, eqb-true, leb-true}
 use Rattle.hip_types.specs.declared.limits.TheConstants.{BASE_ALIGNMENT, HIGHEST_BASE, LOWEST_BASE}
 use Rattle.hip_globals.specs.Addresses.{IsBase, is_base}
 
--- a number that passes the test of a base is one
+-- A number that passes the test of a base is one.
 pub base_valid : (base : ℕ) → is_base base ≡ true → IsBase base
 base_valid base e =
     let both = and_parts (base % BASE_ALIGNMENT == 0) (nat_le LOWEST_BASE base && nat_le base HIGHEST_BASE) e in

@@ -70,7 +70,7 @@ label_apart d h (Str t) e = absurd cc
 label_apart d h (Mark b) e = absurd cc
 label_apart d h (Odd b) e = absurd cc
 
--- a table of words is apart from a test that no word passes
+-- A table of words is apart from a test that no word passes.
 pub words_apart : {A : Type 0} (f : List ℕ → Option A) (d : Tok → Bool)
     → ((t : List ℕ) → d (Word t) ≡ false)
     → Apart (is_word_of f) d
@@ -83,7 +83,7 @@ words_apart f d h (Str t) e = absurd cc
 words_apart f d h (Mark b) e = absurd cc
 words_apart f d h (Odd b) e = absurd cc
 
--- a table of words, by its first entry
+-- A table of words, by its first entry.
 pub entry_apart : {A B : Type 0} (f : List ℕ → Option A) (w : List ℕ) (x : B) (g : List ℕ → Option B)
     → is_some (f w) ≡ false → Apart (is_word_of f) (is_word_of g)
     → Apart (is_word_of f) (is_word_of (λ t. cond (bytes_eq t w) (Some x) (g t)))
@@ -112,7 +112,7 @@ no_entry_apart B f (Str t) e = refl
 no_entry_apart B f (Mark b) e = refl
 no_entry_apart B f (Odd b) e = refl
 
--- a table of values; none of them is written as a word of the first
+-- A table of values; none of them is written as a word of the first.
 pub table_apart : {A B : Type 0} (f : List ℕ → Option A) (text : B → List ℕ) (xs : List B)
     → list_all (λ x. not (is_some (f (text x)))) xs ≡ true
     → Apart (is_word_of f) (is_word_of (written_as text xs))

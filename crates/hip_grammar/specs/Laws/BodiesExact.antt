@@ -59,7 +59,7 @@ phi_read dest =
 next_operand_exact : (s : Scalar) → Exact (one_more_by comma (operand s)) never
 next_operand_exact s = one_more_exact (operand s) comma never (operand_read s).exact
 
--- a test is apart from a word and from what comes after it
+-- A test is apart from a word and from what comes after it.
 from_word : {A : Type 0} (f : List ℕ → Option A) (w : List ℕ) (d : Tok → Bool)
     → is_word_of f (Word w) ≡ false
     → Apart (is_word_of f) d → Apart (is_word_of f) (joined (is_word w) d)
@@ -187,7 +187,7 @@ plain_call_read dest = begins _ _ _ (λ _. link _ _ _ (λ result. link _ _ _ (λ
     (closed_exact _ comma (listed_read arg comma (is_mark 41) (is_word_of scalar_word) arg_read
     (mark_apart 44 (is_mark 41) refl) (mark_apart 41 (is_word_of scalar_word) refl)).exact)))))
 
--- the first tokens of calls without a register
+-- The first tokens of calls without a register.
 abbrev pub begins_call : Tok → Bool
 begins_call = joined (is_word (codes "tail")) (is_word (codes "call"))
 
@@ -201,7 +201,7 @@ call_read dest =
 
 -- ---- any instruction
 
--- the first tokens of what `memory_instr` reads
+-- The first tokens of what `memory_instr` reads.
 abbrev pub begins_memory : Tok → Bool
 begins_memory =
     joined (is_word (codes "alloca"))
@@ -215,13 +215,13 @@ memory_read dest =
     (word_apart (codes "getelementptr") _ refl)) (word_apart (codes "load") _ refl))
     (word_apart (codes "alloca") _ refl)
 
--- the first tokens of what `cast_instr` reads
+-- The first tokens of what `cast_instr` reads.
 abbrev pub begins_cast : Tok → Bool
 begins_cast =
     joined (is_word_of int_cast_word)
     (joined (is_word (codes "ptrtoint")) (joined (is_word (codes "inttoptr")) begins_memory))
 
--- words with a meaning of another kind
+-- Words with a meaning of another kind.
 memory_apart : {A : Type 0} (f : List ℕ → Option A) → is_word_of f (Word (codes "alloca")) ≡ false
     → is_word_of f (Word (codes "load")) ≡ false → is_word_of f (Word (codes "getelementptr")) ≡ false
     → is_word_of f (Word (codes "tail")) ≡ false → is_word_of f (Word (codes "call")) ≡ false
@@ -240,7 +240,7 @@ cast_read dest =
     (from_word int_cast_word _ _ refl (from_word int_cast_word _ _ refl
     (memory_apart int_cast_word refl refl refl refl refl)))
 
--- the first tokens of instructions after LOCAL "="
+-- The first tokens of instructions after LOCAL "=".
 abbrev pub begins_value : Tok → Bool
 begins_value =
     joined (is_word_of binary_word) (joined (is_word (codes "icmp")) (joined (is_word (codes "select")) begins_cast))
@@ -343,7 +343,7 @@ unreachable_read : IsRead unreachable (is_word (codes "unreachable")) never
 unfolding unreachable
 unreachable_read = begins _ _ _ (λ _. gives_exact _ _)
 
--- the first tokens of ends of blocks
+-- The first tokens of ends of blocks.
 abbrev pub begins_end : Tok → Bool
 begins_end =
     joined (is_word (codes "br"))

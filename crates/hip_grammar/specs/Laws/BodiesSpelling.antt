@@ -62,11 +62,11 @@ phi_yields dest d =
 
 -- ---- instructions
 
--- the rule on flags, by what the operation may have
+-- The rule on flags, by what the operation may have.
 abbrev suits : Bool → Bool → Flags → Bool
 suits wraps exact f = (wraps || not (f.nuw || f.nsw)) && (exact || not f.exact)
 
--- a flag that an operation of this kind may have
+-- A flag that an operation of this kind may have.
 abbrev may_stand : Bool → Bool → Flag → Bool
 may_stand wraps exact Nuw = wraps
 may_stand wraps exact Nsw = wraps

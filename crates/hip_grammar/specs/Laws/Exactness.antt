@@ -28,7 +28,7 @@ maybe_word_exact w =
 
 -- ---- types
 
--- `[`, `{` or the word of a scalar type
+-- `[`, `{` or the word of a scalar type.
 abbrev pub begins_type : Tok → Bool
 begins_type = joined (is_mark 91) (joined (is_mark 123) (is_word_of type_word))
 
@@ -65,7 +65,7 @@ type_read (suc n) =
 
 -- ---- constants
 
--- a number or a word: all that begins a constant under an integer type, and more
+-- A number or a word: all that begins a constant under an integer type, and more.
 abbrev pub begins_int_const : Tok → Bool
 begins_int_const (Num t) = true
 begins_int_const (Word t) = true
@@ -89,11 +89,11 @@ unfolding literal_index
 literal_index_read =
     token_begins (a_word_of width_word) _ _ _ (not_word_of width_word) (λ w. token_exact (a_literal w) never)
 
--- `null` or `zeroinitializer`
+-- `null` or `zeroinitializer`.
 abbrev pub is_pointer_word : List ℕ → Bool
 is_pointer_word t = bytes_eq t (codes "null") || bytes_eq t (codes "zeroinitializer")
 
--- `null`, `zeroinitializer` or a GLOBAL
+-- `null`, `zeroinitializer` or a GLOBAL.
 abbrev pub begins_pointer : Tok → Bool
 begins_pointer (Word t) = is_pointer_word t
 begins_pointer (Global t) = true
@@ -134,7 +134,7 @@ gep_inside_read base inbounds p =
     (is_word_of width_word) literal_index_read).exact (λ indices. begins _ _ _ (λ _. gives_exact _ _))
     (mark_apart 44 (is_mark 41) refl)))))))
 
--- `getelementptr`, `null`, `zeroinitializer` or a GLOBAL
+-- `getelementptr`, `null`, `zeroinitializer` or a GLOBAL.
 abbrev pub begins_pointer_const : Tok → Bool
 begins_pointer_const = joined (is_word (codes "getelementptr")) begins_pointer
 
@@ -206,7 +206,7 @@ const_exact (suc n) ty = const_by_exact _ _ (out-Ty ty)
 
 -- ---- operands
 
--- a number, a word or a GLOBAL
+-- A number, a word or a GLOBAL.
 abbrev pub begins_const : Tok → Bool
 begins_const (Num t) = true
 begins_const (Word t) = true
@@ -246,7 +246,7 @@ fixed_operand_read : (s : Scalar) → IsRead (fixed_operand s) begins_const neve
 unfolding fixed_operand
 fixed_operand_read s = maps_read (scalar_const s) _ _ _ (scalar_const_read s)
 
--- a LOCAL, a number, any word or a GLOBAL: all that begins an operand, and more
+-- A LOCAL, a number, any word or a GLOBAL: all that begins an operand, and more.
 abbrev pub begins_operand : Tok → Bool
 begins_operand = joined is_local begins_const
 

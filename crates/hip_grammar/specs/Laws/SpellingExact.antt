@@ -7,10 +7,10 @@ use Rattle.hip_grammar.specs.Spelling.{spelled_program}
 use Rattle.hip_grammar.specs.Laws.TextSpelling.{reads_spelled}
 use Rattle.hip_grammar.specs.Laws.WrittenText.{spelled_is_read}
 
--- a program meets the rules exactly if its canonical text reads as it
+-- A program meets the rules exactly if its canonical text reads as it.
 pub spelled_exact : (program : Program) → (spelled_program program ≡ true) ↔ IsSpelled program
 spelled_exact program = (spelled_is_read program, reads_spelled (show program) program)
 
--- what some text reads as, its canonical text reads as
+-- What some text reads as, its canonical text reads as.
 pub read_is_spelled : (bytes : List ℕ) (program : Program) → Reads bytes program → IsSpelled program
 read_is_spelled bytes program r = spelled_is_read program (reads_spelled bytes program r)

@@ -49,14 +49,14 @@ pub label_is : (t : Tok) (n : List ℕ) → is_formed t ≡ true → a_label t �
 label_is (Label x) n f e = subst (λ z. is_name z ≡ true) (yes_is x n e) f
 label_is t n f e = absurd cc
 
--- a word that means something by a table
+-- A word that means something by a table.
 pub word_is : {A : Type 0} (f : List ℕ → Option A) (Q : A → Type 0)
     → ((t : List ℕ) (a : A) → or_no (f t) ≡ Yes a → Q a)
     → (t : Tok) (a : A) → is_formed t ≡ true → a_word_of f t ≡ Yes a → Q a
 word_is f Q h (Word t) a g e = h t a e
 word_is f Q h t a g e = absurd cc
 
--- an entry of a table, and what comes after it
+-- An entry of a table, and what comes after it.
 pub entry_is : {A : Type 0} (Q : A → Type 0) (b : Bool) (x : A) (o : Option A) (a : A) → Q x
     → (or_no o ≡ Yes a → Q a)
     → or_no (if b then Some x else o) ≡ Yes a → Q a
@@ -66,7 +66,7 @@ entry_is Q false x o a q h e = h e
 pub no_entry : {A : Type 0} (Q : A → Type 0) (a : A) → or_no None ≡ Yes a → Q a
 no_entry Q a e = absurd cc
 
--- a value of a table passes each test that all of them pass
+-- A value of a table passes each test that all of them pass.
 pub table_is : {A : Type 0} (test : A → Bool) (text : A → List ℕ) (xs : List A) (t : List ℕ) (a : A)
     → list_all test xs ≡ true → or_no (written_as text xs t) ≡ Yes a → test a ≡ true
 table_is test text [] t a h e = absurd cc
@@ -134,7 +134,7 @@ int_const_is : (w : Width) (t : Tok) (c : Const) → is_formed t ≡ true → an
 int_const_is w t c f e =
     int_const_by w (is_word (codes "zeroinitializer") t) (a_literal w t) c (λ b k. literal_is w t b f k) e
 
--- `zeroinitializer` alone
+-- `zeroinitializer` alone.
 zero_by : (b : Bool) (c : Const) (Q : Const → Type 0) → Q consts.Zero
     → ◌≡◌ {A = Verdict Fault Const} (if b then Yes consts.Zero else No) (Yes c) → Q c
 zero_by true c Q q e = subst Q (yes_is consts.Zero c e) q
@@ -160,7 +160,7 @@ simple_is g (Global t) c f e =
     (rw (out-Const-Address t) f)
 simple_is g t c f e = absurd cc
 
--- what opens a level too many derives nothing
+-- What opens a level too many derives nothing.
 deep_by : {A : Type 0} (b : Bool) (Q : A → Type 0) (a : A)
     → ◌≡◌ {A = Verdict Fault A} (if b then Because TooDeep else No) (Yes a) → Q a
 deep_by true Q a e = absurd cc

@@ -17,7 +17,7 @@ use Rattle.hip_grammar.specs.Laws.Apart.{mark_apart, word_apart, global_apart, l
 use Rattle.hip_grammar.specs.Laws.Exactness.{type_read, const_exact}
 use Rattle.hip_grammar.specs.Laws.BodiesExact.{maybe_align_exact, block_read}
 
--- what may follow a whole item and belong to it: `, section`, `, align`, `unnamed_addr` or `local_unnamed_addr`
+-- What may follow a whole item and belong to it: `, section`, `, align`, `unnamed_addr` or `local_unnamed_addr`.
 abbrev pub goes_on_item : Tok → Bool
 goes_on_item = joined comma (is_word_of unnamed_word)
 
@@ -164,7 +164,7 @@ item_apart = joined_apart comma (is_word_of unnamed_word) begins_item (mark_apar
             apart_joined (is_word_of unnamed_word) (is_word w) d
             (apart_sym (is_word w) (is_word_of unnamed_word) (word_apart w (is_word_of unnamed_word) h)) p
 
--- what may follow the items of a text and belong to it: what begins one more item, or goes on the last one
+-- What may follow the items of a text and belong to it: what begins one more item, or goes on the last one.
 abbrev pub goes_on_text : Tok → Bool
 goes_on_text = joined begins_item goes_on_item
 
@@ -176,21 +176,21 @@ text_exact =
 
 -- ---- whole texts
 
--- the whole text as it is read: if a token is left, it is refused
+-- The whole text as it is read: if a token is left, it is refused.
 abbrev pub ended : Program → List At → Outcome Fault Program
 ended program [] = Ok (program, [])
 ended program (t ∷ ts) = Err (None, t ∷ ts)
 
--- the program that all of these tokens read as, or the refused place, perhaps with a reason of that place
+-- The program that all of these tokens read as, or the refused place, perhaps with a reason of that place.
 unfoldable pub whole_text : List At → Outcome Fault Program
 whole_text ts = on_ok (text.read ts) ended
 
--- the reason of the place if it has one, else the usual fault
+-- The reason of the place if it has one, else the usual fault.
 abbrev pub fault_at : Option Fault → List At → Fault
 fault_at (Some why) rest = why
 fault_at None rest = usual rest
 
--- what an outcome says: the tokens derive the program, with none left, or are refused at its place for its fault
+-- What an outcome says: the tokens derive the program, with none left, or are refused at its place for its fault.
 abbrev Says : List At → Outcome Fault Program → Type 0
 Says ts (Ok x) = text.rule.Derives ts x.0 [] × (x.1 ≡ [])
 Says ts (Err e) = IsRefusedAt ts (fault_at e.0 e.1) e.1
@@ -261,7 +261,7 @@ derived_is ts program t = taken ts program (text.read ts) (text_exact.reads ts) 
 ok_is : (x y : Program × List At) → ◌≡◌ {A = Outcome Fault Program} (Ok x) (Ok y) → x ≡ y
 ok_is x y e = cc
 
--- what is read is all that is derived
+-- What is read is all that is derived.
 pub only_is : (ts : List At) (found program : Program) (rest : List At) → whole_text ts ≡ Ok (found, rest)
     → text.rule.Derives ts program [] → found ≡ program
 only_is ts found program rest e t =
@@ -274,6 +274,6 @@ never_derived ts why rest program e t =
     let q : ◌≡◌ {A = Outcome Fault Program} (Err (why, rest)) (Ok (program, [])) = sym e
     ∙ derived_is ts program t in cc
 
--- the tokens of a text derive one program at most
+-- The tokens of a text derive one program at most.
 pub one_program : (ts : List At) (p q : Program) → text.rule.Derives ts p [] → text.rule.Derives ts q [] → p ≡ q
 one_program ts p q a b = only_is ts p q [] (derived_is ts p a) b

@@ -19,7 +19,7 @@ use Rattle.hip_grammar.specs.Spelling.{not_empty, spelled_align, spelled_global,
 use Rattle.hip_grammar.specs.Laws.SpellingLaws.{local_is, global_is, alignment_is, type_yields, const_yields}
 use Rattle.hip_grammar.specs.Laws.BodiesSpelling.{maybe_align_yields, block_yields}
 
--- an item meets the rules of its kind; an item that is dropped has none
+-- An item meets the rules of its kind; an item that is dropped has none.
 abbrev spelled_as_item : Item → Bool
 spelled_as_item (GlobalItem g) = spelled_global g
 spelled_as_item (ExternItem e) = spelled_extern e
@@ -113,7 +113,7 @@ item_yields =
     either_yields _ _ _ _ global_yields (either_yields _ _ _ _ extern_yields
     (either_yields _ _ _ _ function_yields (either_yields _ _ _ _ source_filename_yields target_item_yields)))
 
--- one more at the end
+-- One more at the end.
 one_more : {A : Type 0} (test : A → Bool) (xs : List A) (x : A) → list_all test xs ≡ true → test x ≡ true
     → list_all test (xs ++ x ∷ []) ≡ true
 one_more test xs x h k = list_all-append test xs (x ∷ []) ∙ both_true h (both_true k refl)

@@ -155,7 +155,7 @@ end_is ends.Unreachable h =
 
 -- ---- blocks
 
--- on a line of its own
+-- On a line of its own.
 line_is : {A : Type 0} {l : Rule Fault A} {s : List ℕ} {x : A} → IsTextOf ends_word l s x
     → IsTextOf anything l (line_of s) x
 line_is p = blank_text 32 refl (blank_text 32 refl (blank_past 10 refl (λ rest h. refl) p))

@@ -34,7 +34,7 @@ use Rattle.hip_grammar.specs.Laws.WrittenTypes.{int_is, scalar_is, type_is}
 
 -- ---- texts by levels
 
--- the text of a constant that is opened one level
+-- The text of a constant that is opened one level.
 abbrev level_text : Const-F Const ConstGep TypedConst → List ℕ
 level_text level =
     const_step (map-Const Const ConstGep TypedConst (List ℕ) (List ℕ)
@@ -59,7 +59,7 @@ pub all_pass : {A : Type 0} (xs : List A) → list_all (λ x. true) xs ≡ true
 all_pass [] = refl
 all_pass (x ∷ xs) = all_pass xs
 
--- `inbounds ` or nothing, and what follows
+-- `inbounds ` or nothing, and what follows.
 pub inbounds_then : {B : Type 0} (f : Bool → Rule Fault B) (d : List ℕ → Bool) (t : List ℕ) (y : B)
     (inbounds : Bool)
     → IsTextOf d (f inbounds) t y

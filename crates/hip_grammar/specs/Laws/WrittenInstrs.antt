@@ -78,7 +78,7 @@ pred_is preds.Sge = word_text _ _ refl refl
 pred_is preds.Slt = word_text _ _ refl refl
 pred_is preds.Sle = word_text _ _ refl refl
 
--- `%x = `
+-- `%x = `.
 pub assigned_is : (dest : List ℕ) → is_name dest ≡ true
     → IsTextOf anything assigned.rule (assigned_text dest) dest
 unfolding assigned
@@ -95,7 +95,7 @@ wraps_are op e = rw e refl
 exacts_are : (op : BinaryOp) → may_wrap op ≡ false → may_be_exact op ≡ true → flags_after op ≡ Exact ∷ []
 exacts_are op e f = rw (e, f) refl
 
--- no operation has both kinds of flags
+-- No operation has both kinds of flags.
 wraps_alone : (op : BinaryOp) → may_be_exact op ≡ true → may_wrap op ≡ false
 wraps_alone ops.Add e = absurd cc
 wraps_alone ops.Sub e = absurd cc
@@ -168,7 +168,7 @@ flags_are op set e =
 
 -- ---- arithmetic, comparison and choice
 
--- two operands with a comma between them, as they are written
+-- Two operands with a comma between them, as they are written.
 abbrev two_operands : Operand → Operand → List ℕ
 two_operands a b = operand_text a ++ (codes ", " ++ operand_text b)
 
@@ -235,7 +235,7 @@ select_is dest cond s a b e f g =
 
 -- ---- casts
 
--- a conversion as it is written after LOCAL "="
+-- A conversion as it is written after LOCAL "=".
 abbrev cast_form : List ℕ → Scalar → Operand → Scalar → List ℕ
 cast_form word from a to =
     word ++ (codes " " ++ (scalar_text from ++ (codes " " ++ (operand_text a ++ (codes " to " ++ scalar_text to)))))

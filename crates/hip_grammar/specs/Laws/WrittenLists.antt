@@ -10,7 +10,7 @@ use Rattle.hip_grammar.specs.declared.fault.Fault.{Fault}
 use Rattle.hip_grammar.specs.Words.{comma, is_mark}
 use Rattle.hip_grammar.specs.Show.{commas, after_commas}
 
--- what follows a comma and a space
+-- What follows a comma and a space.
 pub after_comma : {A : Type 0} (l : Part Fault A) {c : List ℕ → Bool} {s : List ℕ} {x : A}
     → IsTextOf c l.rule s x
     → IsTextOf c (one_more_by comma l).rule (codes ", " ++ s) x
@@ -46,7 +46,7 @@ module _ {A : Type 0} (l : Part Fault A) (text : A → List ℕ) (test : A → B
       let p = and_parts (test x) (list_all test xs) e in
       then_text _ (each x p.0) (last_text _ (others_are xs p.1) (nothing_text anything)) (commas_leave xs)
 
-  -- up to a closing mark
+  -- Up to a closing mark.
   module _ (mark : ℕ) (closing : List ℕ)
       (close : IsTextOf anything (one (the {F = Fault} (is_mark mark))) closing tt) where
     pub none_listed : IsTextOf anything (listed comma (is_mark mark) l).rule closing []

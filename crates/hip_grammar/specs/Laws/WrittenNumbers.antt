@@ -27,7 +27,7 @@ use Rattle.hip_grammar.specs.Spelling.{of_width}
 
 -- ---- digits
 
--- one or more decimal digits, of value n; leading zeros may be among them
+-- One or more decimal digits, of value n; leading zeros may be among them.
 record IsNumber (n : ℕ) (ds : List ℕ) : Type 0 where
   all : list_all is_digit ds ≡ true
   value : digits_from 0 ds ≡ n
@@ -63,7 +63,7 @@ decimal_is = decimal_by_steps IsNumber one_digit more_digits
 not_minus : (d : ℕ) → is_digit d ≡ true → eqb d 45 ≡ false
 not_minus d e = grind (arith, nat_tests)
 
--- digits are a number without a sign
+-- Digits are a number without a sign.
 record IsPlain (n : ℕ) (ds : List ℕ) : Type 0 where
   digits : are_digits ds ≡ true
   value : magnitude ds ≡ n
@@ -108,7 +108,7 @@ alignment_text n e =
 
 -- ---- literals
 
--- the text is one token, a literal that stands for b
+-- The text is one token, a literal that stands for b.
 record IsLiteral (w : Width) (s : List ℕ) (b : Bits) : Type 0 where
   tok : Tok
   cuts : (line : ℕ) (rest : List ℕ) → ends_word rest ≡ true

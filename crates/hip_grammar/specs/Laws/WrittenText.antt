@@ -39,7 +39,7 @@ fixed_is : (fixed : Bool) (t : List ℕ) {B : Type 0} (f : Bool → Rule Fault B
 fixed_is true t f y q = word_then _ f (codes "constant") refl refl q
 fixed_is false t f y q = word_then _ f (codes "global") refl refl q
 
--- `".pm"`
+-- `".pm"`.
 section_name : IsTextOf anything (one a_section) (codes "\".pm\"") tt
 unfolding cut piece_at string_piece
 section_name = token_text _ (Str (codes ".pm")) (λ line rest e. refl) refl
@@ -165,7 +165,7 @@ function_listed : (f : Function) → spelled_function f ≡ true
 unfolding item
 function_listed f h = right_text _ (right_text _ (left_text _ (function_is f h)))
 
--- the items of the canonical text, in its order
+-- The items of the canonical text, in its order.
 abbrev items_of : Program → List Item
 items_of p = map GlobalItem p.globals ++ (map ExternItem p.externs ++ map FunctionItem p.functions)
 
@@ -182,7 +182,7 @@ items_are p h =
     (mapped_texts item.rule function_text FunctionItem anything spelled_function function_listed
     (λ f rest. refl) p.functions r.1) (λ rest h. refl)) (λ rest h. refl)
 
--- each goes to the end of its list
+-- Each goes to the end of its list.
 functions_taken : (gs : List GlobalVar) (es : List Extern) (fs ms : List Function)
     → folded with_item (record { globals = gs; externs = es; functions = fs })
     (map FunctionItem ms) ≡ record { globals = gs; externs = es; functions = fs ++ ms }
@@ -212,7 +212,7 @@ end_of_tokens : (line : ℕ) → cut line 0 [] ≡ []
 unfolding cut
 end_of_tokens line = refl
 
--- what meets the rules is read back from its canonical text
+-- What meets the rules is read back from its canonical text.
 pub spelled_is_read : (p : Program) → spelled_program p ≡ true → IsSpelled p
 spelled_is_read p h =
     let q = (text_is p h).derives 1 [] refl in

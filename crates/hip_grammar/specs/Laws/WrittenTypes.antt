@@ -71,7 +71,7 @@ scalar_type_is scalars.Ptr = word_text _ _ refl refl
 
 -- ---- types
 
--- the text of a type by its level
+-- The text of a type by its level.
 abbrev level_text : Ty-F Ty → List ℕ
 level_text level = type_step (map-Ty Ty (List ℕ) type_text level)
 

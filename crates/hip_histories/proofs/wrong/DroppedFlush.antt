@@ -51,7 +51,7 @@ bare_valid = record {
     size : length input.image ≡ region_size fence_without_flush
     size = simp shape-Int refl
 
--- no part is durable
+-- No part is durable.
 abbrev NothingDurable : List (Line StorePart) → Type 0
 NothingDurable ls = (j : ℕ) (l : Line StorePart) → slice_get ls j ≡ Some l → l.durable ≡ 0
 
@@ -96,7 +96,7 @@ kept_ended : has_ended (run fence_without_flush_repaired input 4) ≡ true
 unfolding done_opened
 kept_ended = ap has_ended (run_is fence_without_flush_repaired input kept_deeds kept_follows)
 
--- a list of one part, and at least one of it
+-- A list of one part, and at least one of it.
 one_part : (x : StorePart) (q first : ℕ) → 1 ≤ q → covers x 0 ≡ true
     → byte_after covers byte_of (take q (x ∷ [])) 0 first ≡ byte_of x 0
 one_part x zero first le over = absurd (omega (arith, le))

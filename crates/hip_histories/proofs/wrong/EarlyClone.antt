@@ -18,7 +18,7 @@ use Rattle.hip_histories.specs.examples.WrongRepairs.{clone_fences_early}
 abbrev pub input : Input
 input = zeroed 1
 
--- up to the second call
+-- Up to the second call.
 abbrev pub first_call : List Deed
 first_call =
     record { turn = true; action = Allocates (codes "a") 268435456 8 }
@@ -30,7 +30,7 @@ first_call =
     ∷ record { turn = true; action = Returns 0 }
     ∷ []
 
--- up to the return of the clone
+-- Up to the return of the clone.
 abbrev before_return : List Deed
 before_return =
     first_call
@@ -45,7 +45,7 @@ follows : Follows clone_fences_early input (start clone_fences_early input) befo
 unfolding run_opened
 follows = (refl, simp shape-Int refl, (refl, simp shape-Int refl, (refl, simp int_value refl, (refl, refl, (refl, refl, (refl, refl, (refl, refl, (refl, simp (address_value, shape-Int) refl, (refl, refl, (refl, refl, (refl, refl, (refl, refl, tt))))))))))))
 
--- the state before the clone returns, the one at the fence after the call, and the one after it
+-- The state before the clone returns, the one at the fence after the call, and the one after it.
 abbrev at_return : State
 at_return = after_all input (start clone_fences_early input) before_return
 
@@ -113,7 +113,7 @@ below j step lt apart made = go (three j)
     go (inr (inl e)) = absurd (apart e)
     go (inr (inr le)) = absurd (omega (arith, le, lt))
 
--- the last store's part is not durable after the fence
+-- The last store's part is not durable after the fence.
 record IsLoosePart (s : State) : Type 0 where
   line : Line StorePart
   at : slice_get s.lines 0 ≡ Some line

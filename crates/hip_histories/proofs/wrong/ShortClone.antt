@@ -15,13 +15,13 @@ use Rattle.hip_repairs.proofs.worked.Runs.{Follows, address_value, after_all, do
 use Rattle.hip_histories.specs.examples.WrongRepairs.{clone_without_store, short_clone}
 use Rattle.hip_histories.proofs.wrong.EarlyClone.{first_call, input, valid}
 
--- a body with inserted instructions is not shorter
+-- A body with inserted instructions is not shorter.
 no_shorter : (is is' : List Instr) → HasInserted is is' → length is ≤ length is'
 no_shorter _ _ done = omega arith
 no_shorter _ _ (kept {is = is} {is' = is'} i i' same more) = let r = no_shorter is is' more in omega arith
 no_shorter _ _ (inserted {is = is} {is' = is'} i' still more) = let r = no_shorter is is' more in omega arith
 
--- no function of the wrong program is a clone of one of the program
+-- No function of the wrong program is a clone of one of the program.
 module _ (callee clone : ℕ) (c : IsClone copy_hoisted clone_without_store callee clone) where
   the_copy : (n : ℕ) → 2 ≤ n → slice_get clone_without_store.functions n ≡ Some c.copy → c.copy ≡ short_clone
   the_copy zero h e = absurd (omega arith)
@@ -50,7 +50,7 @@ module _ (callee clone : ℕ) (c : IsClone copy_hoisted clone_without_store call
   no_clone : ⊥
   no_clone = by_original callee c.original_at
 
--- up to the fence after the call of the clone
+-- Up to the fence after the call of the clone.
 abbrev before_fence : List Deed
 before_fence =
     first_call

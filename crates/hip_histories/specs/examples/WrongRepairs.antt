@@ -78,10 +78,10 @@ hoisted_to clone =
           ∷ [];
     }
 
--- the clone flushes and fences before its last store
+-- The clone flushes and fences before its last store.
 abbrev pub clone_fences_early : Program
 clone_fences_early = hoisted_to early_clone
 
--- the clone leaves out the store
+-- The clone leaves out the store.
 abbrev pub clone_without_store : Program
 clone_without_store = hoisted_to short_clone

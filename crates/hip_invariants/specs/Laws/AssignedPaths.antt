@@ -29,7 +29,7 @@ taken_more (x ∷ xs) (suc k) i q e h =
     (taken_more xs k i q e r))
     (named_either (assigned_by x) (body_registers (take (suc k) xs)) q h)
 
--- an instruction of a body assigns a register of the body
+-- An instruction of a body assigns a register of the body.
 body_assigns : (body : List Instr) (k : ℕ) (i : Instr) (q : List ℕ) → slice_get body k ≡ Some i
     → IsAmong (names_of (assigned_by i)) q → IsAmong (names_of (body_registers body)) q
 body_assigns [] k i q e h = cc
@@ -46,7 +46,7 @@ taken_all (x ∷ xs) zero e = cc
 taken_all (x ∷ xs) (suc k) e = ap (λ ys. x ∷ ys) (taken_all xs k e)
 
 module _ (fn : Function) where
-  -- what is assigned in the last block of a path
+  -- What is assigned in the last block of a path.
   before_is : (point : Point) (b : ℕ) (block : Block) → slice_get fn.blocks b ≡ Some block
       → names_before fn point b ≡ names_of (registers_before point block)
   before_is point b block at = ap (λ o. unwrap_or
@@ -56,7 +56,7 @@ module _ (fn : Function) where
       → whole_block_names fn b ≡ names_of (block_registers block)
   whole_is b block at = ap (λ o. unwrap_or (option_map (λ (x : Block). names_of (block_registers x)) o) []) at
 
-  -- a name that is assigned on a path: on the way to the block, or in it
+  -- A name that is assigned on a path: on the way to the block, or in it.
   pub on_path : (earlier : List ℕ) (b : ℕ) (block : Block) (point : Point) (q : List ℕ)
       → slice_get fn.blocks b ≡ Some block → IsAmong (assigned_on fn earlier b point) q →
       IsAmong (names_of (parameter_registers fn)) q
@@ -86,7 +86,7 @@ module _ (fn : Function) where
       (among-right (flat_map (whole_block_names fn) earlier) (names_before fn point b) q
       (subst (λ ns. IsAmong ns q) (sym (before_is point b block at)) h))
 
-  -- the same after one more instruction
+  -- The same after one more instruction.
   pub after_instr : (earlier : List ℕ) (b k : ℕ) (block : Block) (i : Instr) (q : List ℕ)
       → slice_get fn.blocks b ≡ Some block → slice_get block.body k ≡ Some i →
       IsAmong (assigned_on fn earlier b (Before (suc k))) q → IsAmong (assigned_on fn earlier b (Before k)) q
@@ -102,7 +102,7 @@ module _ (fn : Function) where
       (named_either (phi_registers block.phis) (body_registers (take (suc k) block.body)) q m)) r)
       (on_path earlier b block (Before (suc k)) q at h)
 
-  -- the end of a block is the place after all its instructions
+  -- The end of a block is the place after all its instructions.
   pub at_end : (earlier : List ℕ) (b k : ℕ) (block : Block) (q : List ℕ) → slice_get fn.blocks b ≡ Some block
       → drop k block.body ≡ [] → IsAmong (assigned_on fn earlier b AtEnd) q
       → IsAmong (assigned_on fn earlier b (Before k)) q
@@ -123,7 +123,7 @@ module _ (fn : Function) where
       (λ o. inr o) (blocks_more cs b q r))
       (among-either (whole_block_names fn c) (flat_map (whole_block_names fn) (cs ++ b ∷ [])) q h)
 
-  -- in the block that control goes to, a name is assigned on the way to the end of the block before it, or by a phi
+  -- In the block that control goes to, a name is assigned on the way to the end of the block before it, or by a phi.
   pub over_edge : (earlier : List ℕ) (b c : ℕ) (block to : Block) (q : List ℕ)
       → slice_get fn.blocks b ≡ Some block → slice_get fn.blocks c ≡ Some to →
       IsAmong (assigned_on fn (earlier ++ b ∷ []) c (Before 0)) q → IsAmong (assigned_on fn earlier b AtEnd) q
@@ -143,7 +143,7 @@ module _ (fn : Function) where
       none_taken [] h = absurd h
       none_taken (i ∷ is) h = absurd h
 
-  -- what an instruction of the block assigns, is assigned by the end of the block
+  -- What an instruction of the block assigns, is assigned by the end of the block.
   pub by_instr : (earlier : List ℕ) (b k : ℕ) (block : Block) (i : Instr) (q : List ℕ)
       → slice_get fn.blocks b ≡ Some block → slice_get block.body k ≡ Some i →
       IsAmong (names_of (assigned_by i)) q → IsAmong (assigned_on fn earlier b AtEnd) q
@@ -162,7 +162,7 @@ module _ (fn : Function) where
       (among-either (whole_block_names fn c) (flat_map (whole_block_names fn) cs) q h)
   blocks_kept (c ∷ cs) b q (inr h) = among-right (whole_block_names fn c) _ q (blocks_kept cs b q (inr h))
 
-  -- what is assigned by the end of a block, is also assigned by the end of the next block of a path
+  -- What is assigned by the end of a block, is also assigned by the end of the next block of a path.
   pub by_earlier : (earlier : List ℕ) (b c : ℕ) (block : Block) (q : List ℕ)
       → slice_get fn.blocks b ≡ Some block
       → IsAmong (assigned_on fn earlier b AtEnd) q → IsAmong (assigned_on fn (earlier ++ b ∷ []) c AtEnd) q
@@ -172,7 +172,7 @@ module _ (fn : Function) where
       (⊎_elim (λ l. inl l) (λ m. inr (subst (λ ns. IsAmong ns q) (sym (whole_is b block at)) m)) r)))
       (on_path earlier b block AtEnd q at h)
 
-  -- the phis of the last block of a path
+  -- The phis of the last block of a path.
   pub by_phi : (earlier : List ℕ) (c : ℕ) (to : Block) (q : List ℕ) → slice_get fn.blocks c ≡ Some to
       → IsAmong (names_of (phi_registers to.phis)) q → IsAmong (assigned_on fn earlier c AtEnd) q
   by_phi earlier c to q there h =

@@ -35,16 +35,16 @@ module _ (P : Program) (I : Input) where
 
   -- ---- how many steps are left
 
-  -- how many instructions of its block the top frame has left before the block's end
+  -- How many instructions of its block the top frame has left before the block's end.
   abbrev code_left : List Frame → ℕ
   code_left [] = 0
   code_left (f ∷ fs) = length (code_at P f)
 
-  -- the most steps that a run takes while it goes on
+  -- The most steps that a run takes while it goes on.
   abbrev most : ℕ
   most = I.limit * suc (longest P) + longest P
 
-  -- a number of steps, and those that are left at most
+  -- A number of steps, and those that are left at most.
   record IsWithin (n turns : ℕ) (fs : List Frame) : Type 0 where
     is : n + steps_left P I turns (code_left fs) ≤ most
 
@@ -60,7 +60,7 @@ module _ (P : Program) (I : Input) where
       subst (λ m. IsWithin (suc n) m s.frames) (sym t)
       (subst (IsWithin (suc n) turns) (sym frames) (record { is = omega (arith, w.is, l) }))
 
-  -- while the run goes on
+  -- While the run goes on.
   within_run : (n : ℕ) → (run P I n).world.ending ≡ None → IsWithin n (run P I n).world.turns (run P I n).frames
   unfolding run
   within_run zero e = record {
@@ -85,7 +85,7 @@ module _ (P : Program) (I : Input) where
   entry_more true n = omega arith
   entry_more false n = omega arith
 
-  -- the counts are within the bounds: the steps by the limit, and the entries by the steps
+  -- The counts are within the bounds: the steps by the limit, and the entries by the steps.
   record AreBounded (c : Counts) : Type 0 where
     steps : c.steps ≤ suc I.limit * suc (longest P)
     entries : c.entries ≤ header_entries I + c.steps

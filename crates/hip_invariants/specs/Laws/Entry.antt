@@ -65,7 +65,7 @@ module _ (P : Program) (s : IsSound P) (g : ℕ) (fn : Function) (here : slice_g
   label_first [] e h = cc
   label_first (d ∷ es) e h = inl (ap (λ (x : Edge). x.label) (same_Some d e h))
 
-  -- no block's end names the entry block, so that a phi there would have no edge
+  -- No block's end names the entry block, so that a phi there would have no edge.
   pub no_entry_phi : (block : Block) → slice_get fn.blocks 0 ≡ Some block → (k : ℕ) (p : Phi)
       → slice_get block.phis k ≡ Some p → ⊥
   no_entry_phi block at k p e =
@@ -84,13 +84,13 @@ module _ (P : Program) (s : IsSound P) (g : ℕ) (fn : Function) (here : slice_g
 
 -- ---- labels and their numbers
 
--- the block of a label's number has the label
+-- The block of a label's number has the label.
 pub label_there : (fn : Function) (label : List ℕ) (c : ℕ) → label_number fn label ≡ Some c
     → label_at fn c ≡ Some label
 label_there fn label c e = sym (slice_get-map (λ (b : Block). b.label) fn.blocks c)
     ∙ number_of-there (label_names fn) label c e
 
--- the label of a block has a number
+-- The label of a block has a number.
 pub label_known : (fn : Function) (k : ℕ) (block : Block) → slice_get fn.blocks k ≡ Some block → (c : ℕ)
     × (label_number fn block.label ≡ Some c)
 label_known fn k block at = number_of-known (label_names fn) block.label k
@@ -110,7 +110,7 @@ labels_differ (b ∷ bs) d = (
   labels_differ bs (differ_second (names_in_block b) (flat_map names_in_block bs) d),
 )
 
--- a name that stands at a place is among the names
+-- A name that stands at a place is among the names.
 there_among : (xs : List (List ℕ)) (k : ℕ) (x : List ℕ) → slice_get xs k ≡ Some x → IsAmong xs x
 there_among [] k x e = cc
 there_among (y ∷ xs) zero x e = inl (same_Some y x e)
@@ -124,7 +124,7 @@ earlier_none (y ∷ xs) (suc k) zero x d e lt f =
     d.0 (subst (λ n. IsAmong xs n) (sym (same_Some y x f)) (there_among xs k x e))
 earlier_none (y ∷ xs) (suc k) (suc j) x d e lt f = earlier_none xs k j x d.1 e (omega (arith, lt)) f
 
--- where the names of a function differ, the number of a block's label is its own
+-- Where the names of a function differ, the number of a block's label is its own.
 pub own_number : (fn : Function) (k : ℕ) (block : Block) → AllDiffer (names_in_function fn)
     → slice_get fn.blocks k ≡ Some block → label_number fn block.label ≡ Some k
 own_number fn k block d at =

@@ -40,7 +40,7 @@ use Rattle.hip_invariants.specs.Laws.FittingValues.{operand_fits, result_fits, t
 use Rattle.hip_invariants.specs.Laws.ReachedAlways.{all_reached}
 use Rattle.hip_invariants.specs.Types.{AreUncut, FitsType, FitsResult, fits_type, OperandFits, OperandsFit}
 
--- cutting a value that fits its width does not change it
+-- Cutting a value that fits its width does not change it.
 cut_is_same : (w : Width) (v : ℕ) → v < modulus w → (bits w v).value ≡ v
 cut_is_same w v h = mod-eq_of_lt h
 
@@ -90,11 +90,11 @@ module _ (P : Program) (s : IsSound P) (I : Input) (valid : IsValid P I) where
             (uses_fit at.0 at.1.function (end_uses block.end)
             (sound-operands P s f.function f.block at.0 block at.1).last)
 
-  -- at each step
+  -- At each step.
   pub operands_fit_at : (n : ℕ) (f : Frame) (fs : List Frame) → IsTop (run P I n) f fs → OperandsFit P I f
   operands_fit_at n f fs t = operands_fit f (top_holds n f fs t)
 
-  -- what the bottom frame returns is below 2^32
+  -- What the bottom frame returns is below 2^32.
   pub stop_fits : (n : ℕ) (f : Frame) (arg : Option Arg) → IsTop (run P I n) f []
       → end_at P f ≡ Some (ends.Ret arg) → returned P.globals I.base f.registers arg < modulus W32
   stop_fits n f arg t e = go (block_at P f.function f.block) refl e

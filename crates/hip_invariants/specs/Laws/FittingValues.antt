@@ -56,7 +56,7 @@ none_fits (Some (Some ty)) = modulus_pos (width_of ty)
 
 module _ (P : Program) (s : IsSound P) (I : Input) (valid : IsValid P I) (g : ℕ) (fn : Function)
     (here : slice_get P.functions g ≡ Some fn) where
-  -- the values of these registers fit their types in the function
+  -- The values of these registers fit their types in the function.
   abbrev TypesHold : Registers → Type 0
   TypesHold rs = ValuesHold (FitsType P) (FitsResult P) g rs
 
@@ -120,7 +120,7 @@ module _ (P : Program) (s : IsSound P) (I : Input) (valid : IsValid P I) (g : �
   chosen_fits true x y m p q = p
   chosen_fits false x y m p q = q
 
-  -- the register of a call has the type of its result
+  -- The register of a call has the type of its result.
   abbrev ResultIsTyped : Option (List ℕ) → Option Scalar → Type 0
   ResultIsTyped None ret = Unit {0}
   ResultIsTyped (Some dest) ret = find_register (registers_of fn) dest ≡ Some ret
@@ -267,7 +267,7 @@ module _ (P : Program) (s : IsSound P) (I : Input) (valid : IsValid P I) where
         };
   }
 
-  -- at each step
+  -- At each step.
   pub registers_fit : (n : ℕ) → RegistersFit P (run P I n).frames
   registers_fit n = each_stated (FitsType P) (FitsResult P) (λ g name. record { is = none_fits _ }) (run P I n).frames
       (fact_holds (FitsType P) (FitsResult P) P I types_kept n)

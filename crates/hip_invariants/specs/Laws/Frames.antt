@@ -14,7 +14,7 @@ use Rattle.hip_runs.specs.Step.{stop, with_turn, next, with_register, with_slot,
 use Rattle.hip_runs.specs.Laws.StepLaws.{IsTop}
 use Rattle.hip_invariants.specs.FrameFacts.{frames_hold}
 
--- the frame that a call makes, and a frame that goes to another block
+-- The frame that a call makes, and a frame that goes to another block.
 abbrev pub called_frame : ℕ → Registers → Option (List ℕ) → ℕ → Option Level → Frame
 called_frame g registers dest mark level =
     record {
@@ -29,13 +29,13 @@ called_frame g registers dest mark level =
           level;
     }
 
--- the frame at the start of block b of its function, with these registers; all else in it stays
+-- The frame at the start of block b of its function, with these registers; all else in it stays.
 abbrev pub frame_in_block : ℕ → Registers → Frame → Frame
 frame_in_block b registers f = record f { block = b; place = 0; registers = registers }
 
 -- A fact of the frame on top, and one of a frame after a call of a function, whose result goes into a register.
 module _ (Top : Frame → Type 0) (Below : ℕ → Option (List ℕ) → Frame → Type 0) where
-  -- what an action of a frame has to keep
+  -- What an action of a frame has to keep.
   abbrev pub keeps : Frame → Action → Type 0
   keeps f (Traps kind) = Unit {0}
   keeps f (Assigns dest v) = Top (with_register dest v (next f))
@@ -125,7 +125,7 @@ module _ (Top : Frame → Type 0) (Below : ℕ → Option (List ℕ) → Frame �
         go (Some e) q = all
         go None q = on_them s.frames refl q
 
-    -- then they hold at every step
+    -- Then they hold at every step.
     pub invariant_holds : IsInvariant → (n : ℕ) → frames_hold Top Below (main_number P) (run P I n).frames
     unfolding run
     invariant_holds k zero = (k.first, refl)

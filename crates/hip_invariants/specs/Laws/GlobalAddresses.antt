@@ -7,7 +7,7 @@ use Rattle.hip_types.specs.Laws.LayoutLaws.{next-le}
 use Rattle.hip_tree.specs.declared.program.GlobalVar.{GlobalVar}
 use Rattle.hip_globals.specs.Addresses.{same_truth, global_align, global_start, end_of, start_of, is_persistent}
 
--- where a global ends that is laid at the next multiple of its alignment from an address on
+-- Where a global ends that is laid at the next multiple of its alignment from an address on.
 abbrev end_from : ℕ → GlobalVar → ℕ
 end_from at g = global_start at g + (shape g.ty).size
 
@@ -26,7 +26,7 @@ same_self false false e = refl
 same_self true false e = cc
 same_self false true e = cc
 
--- a global begins before the end of all of its kind
+-- A global begins before the end of all of its kind.
 pub start_before_end : (persistent : Bool) (at : ℕ) (gs : List GlobalVar) (k : ℕ)
     → is_persistent gs k ≡ persistent → start_of persistent at gs k ≤ end_of persistent at gs
 start_before_end persistent at [] k e = omega arith
@@ -39,7 +39,7 @@ start_before_end persistent at (g ∷ gs) zero e =
 start_before_end persistent at (g ∷ gs) (suc k) e =
     start_before_end persistent (if same_truth g.persistent persistent then end_from at g else at) gs k e
 
--- and ends there at most
+-- And ends there at most.
 pub ends_before_end : (persistent : Bool) (at : ℕ) (gs : List GlobalVar) (k : ℕ) (g : GlobalVar)
     → slice_get gs k ≡ Some g → is_persistent gs k ≡ persistent
     → start_of persistent at gs k + (shape g.ty).size ≤ end_of persistent at gs
@@ -55,7 +55,7 @@ ends_before_end persistent at (x ∷ gs) zero g q e =
 ends_before_end persistent at (x ∷ gs) (suc k) g q e =
     ends_before_end persistent (if same_truth x.persistent persistent then end_from at x else at) gs k g q e
 
--- a global that exists begins at or after the start of all of them
+-- A global that exists begins at or after the start of all of them.
 pub starts_after : (persistent : Bool) (at : ℕ) (gs : List GlobalVar) (k : ℕ) (g : GlobalVar)
     → slice_get gs k ≡ Some g → at ≤ start_of persistent at gs k
 starts_after persistent at [] k g q = cc
@@ -68,7 +68,7 @@ starts_after persistent at (x ∷ gs) (suc k) g q =
     go true rest = omega (arith, rest (end_from at x), next-le at (global_align x))
     go false rest = rest at
 
--- of two globals of a kind, the later one begins at or after the end of the earlier one
+-- Of two globals of a kind, the later one begins at or after the end of the earlier one.
 pub one_after_another : (persistent : Bool) (at : ℕ) (gs : List GlobalVar) (j k : ℕ) (g h : GlobalVar)
     → slice_get gs j ≡ Some g → slice_get gs k ≡ Some h → is_persistent gs j ≡ persistent → j < k →
     start_of persistent at gs j + (shape g.ty).size ≤ start_of persistent at gs k

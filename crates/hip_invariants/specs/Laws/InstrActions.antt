@@ -33,7 +33,7 @@ use Rattle.hip_runs.specs.Operands.{value_of, values_of, bound, scalar_size}
 use Rattle.hip_types.specs.Scalars.{width_of}
 use Rattle.hip_runs.specs.State.{Registers, World}
 
--- an action that gives no register a value and leaves the stack as it is
+-- An action that gives no register a value and leaves the stack as it is.
 abbrev pub leaves_registers : Action → Type 0
 leaves_registers (Stores a bytes) = Unit {0}
 leaves_registers (Flushes a n) = Unit {0}
@@ -44,7 +44,7 @@ leaves_registers (Prints z) = Unit {0}
 leaves_registers _ = ⊥
 
 module _ (P : Program) (I : Input) (w : World) (below : ℕ) (rs : Registers) (Claim : Action → Type 0) where
-  -- the value of an operand by the registers
+  -- The value of an operand by the registers.
   abbrev value : Operand → ℕ
   value o = value_of P.globals I.base rs o
 
@@ -57,7 +57,7 @@ module _ (P : Program) (I : Input) (w : World) (below : ℕ) (rs : Registers) (C
     pub enter : (h : ℕ) (fn : Function) → call_of callee ≡ None → function_number P callee ≡ Some h →
         slice_get P.functions h ≡ Some fn → below < 16383 →
         Claim (Calls h (bound fn.params (values_of P.globals I.base rs args)) dest)
-    -- the callee does not exist
+    -- The callee does not exist.
     pub missing : call_of callee ≡ None →
         ((h : ℕ) (fn : Function) → function_number P callee ≡ Some h
         → ¬ (slice_get P.functions h ≡ Some fn)) →
@@ -84,7 +84,7 @@ module _ (P : Program) (I : Input) (w : World) (below : ℕ) (rs : Registers) (C
       Claim (Assigns (Some dest) (element_address (value base) ty (index_values P.globals I.base rs indices)))
   instr_cases (Call dest ret callee args) = CallCases dest callee args
 
-  -- the claim holds of each trap, except the one for what is not there
+  -- The claim holds of each trap, except the one for what is not there.
   module _ (trap : (kind : TrapKind) → kind ≢ traps.Unreachable → Claim (Traps kind)) where
     cond_case : (b : Bool) (x y : Action) → Claim x → Claim y → Claim (cond b x y)
     cond_case true x y p q = p

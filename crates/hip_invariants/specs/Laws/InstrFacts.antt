@@ -36,7 +36,7 @@ use Rattle.hip_invariants.specs.Laws.Registers.Facts.{ValuesHold, assigned_fact,
 
 module _ (Fact : ℕ → List ℕ → ℕ → Type 0) (Returned : ℕ → ℕ → Type 0) (P : Program)
     (I : Input) where
-  -- the value of an operand by these registers
+  -- The value of an operand by these registers.
   abbrev value : Registers → Operand → ℕ
   value rs o = value_of P.globals I.base rs o
 
@@ -76,7 +76,7 @@ module _ (Fact : ℕ → List ℕ → ℕ → Type 0) (Returned : ℕ → ℕ �
     pub is : instr_fact g w rs i
 
   module _ (g : ℕ) where
-    -- the fact holds of what an action of the function gives to registers, or returns
+    -- The fact holds of what an action of the function gives to registers, or returns.
     abbrev GivesOn : Action → Type 0
     GivesOn x = GivesFacts Fact Returned g x
 

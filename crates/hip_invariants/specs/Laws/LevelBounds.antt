@@ -44,7 +44,7 @@ use Rattle.hip_invariants.specs.Laws.Registers.Facts.{each_stated, ValuesHold, e
 use Rattle.hip_invariants.specs.Laws.GlobalAddresses.{start_before_end}
 use Rattle.hip_invariants.specs.PointerLevels.{within_level, is_at_most, after_offset, number_level, global_level, level_step, gep_level_step, item_level_step, const_level, Levels, constant_index, known_index, both, known_path, gep_level, operand_level, goes_into, args_are_at_most, instr_is_closed, IsClosed, IsWithinLevel, RegistersAreWithin}
 
--- what is within a level is within each higher one
+-- What is within a level is within each higher one.
 pub within_higher : (a b : Option ℕ) (v : ℕ) → is_at_most a b → within_level a v → within_level b v
 within_higher a None v h m = tt
 within_higher None (Some u) v h m = absurd h
@@ -55,7 +55,7 @@ pub zero_within : (a : Option ℕ) → within_level a 0
 zero_within None = tt
 zero_within (Some t) = omega arith
 
--- an offset from a value within a level is within the level after that offset
+-- An offset from a value within a level is within the level after that offset.
 pub offset_within : (a : Option ℕ) (offset v : ℕ) → within_level a v
     → within_level (after_offset a offset) ((v + offset) % 2 ^ 64)
 offset_within None offset v m = tt
@@ -77,13 +77,13 @@ offset_within (Some t) offset v m = same (nat_eq offset 0) refl
     same true e = let none : offset ≡ 0 = eqb-true offset 0 e in omega arith
     same false e = near (nat_lt offset 67108864) refl
 
--- one of two values within a level is within it
+-- One of two values within a level is within it.
 pub chosen_within : (a : Option ℕ) (b : Bool) (x y : ℕ) → within_level a x → within_level a y
     → within_level a (cond b x y)
 chosen_within a true x y p q = p
 chosen_within a false x y p q = q
 
--- the level of a constant `getelementptr`: that of its base, after the offset of its indices
+-- The level of a constant `getelementptr`: that of its base, after the offset of its indices.
 abbrev const_gep_level : List GlobalVar → ConstGep → Option ℕ
 const_gep_level globals = fold-ConstGep (Option ℕ) (Option ℕ) (Option ℕ)
     (level_step (global_level globals)) gep_level_step item_level_step
@@ -110,15 +110,15 @@ module _ (P : Program) (s : IsSound P) (base : ℕ) where
       go None = omega arith
       go (Some k) = at_number k (is_persistent P.globals k) refl
 
-  -- the value of the constant is within its level
+  -- The value of the constant is within its level.
   abbrev IsWithin : Const → Type 0
   IsWithin c = within_level (const_level P.globals c) (const_value P.globals base c)
 
-  -- the address that the constant `getelementptr` gives is within its level
+  -- The address that the constant `getelementptr` gives is within its level.
   abbrev IsWithinGep : ConstGep → Type 0
   IsWithinGep gep = within_level (const_gep_level P.globals gep) (gep_address (global_address P.globals base) gep)
 
-  -- no condition on an item of an array or a struct, since no level depends on it
+  -- No condition on an item of an array or a struct, since no level depends on it.
   abbrev IsWithinItem : TypedConst → Type 0
   IsWithinItem item = Unit {0}
 
@@ -168,7 +168,7 @@ module _ (globals : List GlobalVar) (base : ℕ) where
       → const_value globals base c ≡ const_value globals base (roll-Const y)
   valued c y q = ap (const_value globals base) (sym (roll-out-Const c) ∙ ap roll-Const q)
 
-  -- a constant index has the value that `constant_index` gives it
+  -- A constant index has the value that `constant_index` gives it.
   constant_is : (ty : Scalar) (c : Const) (i : ℕ) → constant_index ty (out-Const c) ≡ Some i
       → index_value ty (const_value globals base c) ≡ i
   constant_is ty c i e = go (out-Const c) refl e
@@ -189,7 +189,7 @@ module _ (globals : List GlobalVar) (base : ℕ) where
       go (Const-F.Array items) q r = cc
       go (Const-F.Struct items) q r = cc
 
-  -- indices that are all constants have the values that `known_path` gives them
+  -- Indices that are all constants have the values that `known_path` gives them.
   pub path_is : (rs : Registers) (args : List Arg) (path : List ℕ) → known_path args ≡ Some path
       → index_values globals base rs args ≡ path
   path_is rs [] path e = same_Some [] path e
@@ -308,7 +308,7 @@ module _ (P : Program) (s : IsSound P) (I : Input) (L : Levels) (closed : IsClos
   result_within g rs h (Some a) each = within_higher (operand_level P L g a.value) (L.result g) _ (each a refl)
       (operand_within g rs h a.value)
 
-  -- a value of level t is at most the greatest value of that level, in each frame at each step
+  -- A value of level t is at most the greatest value of that level, in each frame at each step.
   pub levels_hold : (n : ℕ) → values_in_frames (IsWithinLevel L) (ResultIsWithin L) (run P I n).frames
   levels_hold =
       fact_holds (IsWithinLevel L) (ResultIsWithin L) P I
@@ -330,12 +330,12 @@ module _ (P : Program) (s : IsSound P) (I : Input) (L : Levels) (closed : IsClos
         };
       })
 
-  -- the same, as `RegistersAreWithin` says it
+  -- The same, as `RegistersAreWithin` says it.
   pub registers_within : (n : ℕ) → RegistersAreWithin L (run P I n).frames
   registers_within n = each_stated (IsWithinLevel L) (ResultIsWithin L) (λ g name. record { is = zero_within _ })
       (run P I n).frames (levels_hold n)
 
-  -- a store through an operand of a level up to 32 lies below the region
+  -- A store through an operand of a level up to 32 lies below the region.
   pub low_address : IsValid P I → (n : ℕ) (f : Frame) (fs : List Frame) (o : Operand) (t : ℕ)
       → IsTop (run P I n) f fs → operand_level P L f.function o ≡ Some t → t ≤ 32
       → value_of P.globals I.base f.registers o < I.base

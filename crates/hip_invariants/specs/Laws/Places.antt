@@ -8,7 +8,7 @@ use Rattle.hip_runs.specs.Places.{blocks_in, block_at}
 use Rattle.hip_runs.specs.State.{Frame}
 use Rattle.hip_runs.specs.Laws.StepLaws.{has_frame}
 
--- a block that is there is one of a function that is there
+-- A block that is there is one of a function that is there.
 pub block_there : (P : Program) (g b : ℕ) (block : Block) → block_at P g b ≡ Some block
     → (fn : Function) × IsBlockAt P g b fn block
 block_there P g b block e = go (slice_get P.functions g) refl e
@@ -18,7 +18,7 @@ block_there P g b block e = go (slice_get P.functions g) refl e
     go None q h = cc
     go (Some fn) q h = (fn, record { function = q; block_is = h })
 
--- a list of frames that is not empty has a first frame
+-- A list of frames that is not empty has a first frame.
 pub first_frame : (fs : List Frame) → has_frame fs ≡ true → (f : Frame) × (gs : List Frame) × (fs ≡ f ∷ gs)
 first_frame [] h = cc
 first_frame (f ∷ fs) h = (f, fs, refl)

@@ -45,7 +45,7 @@ use Rattle.hip_invariants.specs.Reached.{assigned_names, has_or_awaits, IsReache
 use Rattle.hip_invariants.specs.Laws.Callees.{function_free}
 
 module _ (P : Program) where
-  -- what an action may do: it keeps the invariant, and traps as unreachable only where that is allowed
+  -- What an action may do: it keeps the invariant, and traps as unreachable only where that is allowed.
   pub record StepKeeps (stuck : Type 0) (f : Frame) (x : Action) : Type 0 where
     pub kept : keeps (top_is_reached P) (caller_is_reached P) f x
     pub trap : x ≡ Traps traps.Unreachable → stuck
@@ -64,14 +64,14 @@ module _ (P : Program) where
   has_now rs q (inl h) = h
   has_now rs q (inr e) = cc
 
-  -- a register that has a value after an assignment had one before, or it is the one that is assigned
+  -- A register that has a value after an assignment had one before, or it is the one that is assigned.
   had : (dest : Option (List ℕ)) (v : ℕ) (rs : Registers) (q : List ℕ)
       → IsAmong (assigned_names (assigned dest v rs)) q → has_or_awaits rs dest q
   had None v rs q h = inl h
   had (Some name) v rs q (inl e) = inr (ap Some e)
   had (Some name) v rs q (inr h) = inl h
 
-  -- after an instruction
+  -- After an instruction.
   next_reached : (g b k : ℕ) (rs rs' : Registers) (waiting : Option (List ℕ)) (i : Instr)
       → (r : IsReached P None g b k rs) → slice_get r.block.body k ≡ Some i →
       ((q : List ℕ) → IsAmong (assigned_names rs) q → has_or_awaits rs' waiting q)
@@ -91,7 +91,7 @@ module _ (P : Program) where
     only = λ q h. ⊎_elim (λ l. r.only q (inl l)) (λ m. by_instr r.fn r.earlier b k r.block i q r.at e m) (new q h);
   }
 
-  -- after the result of a call
+  -- After the result of a call.
   returned_reached : (g b k : ℕ) (rs : Registers) (dest : Option (List ℕ)) (v : ℕ) → IsReached P dest g b k rs
       → IsReached P None g b k (assigned dest v rs)
   returned_reached g b k rs dest v r = record {
@@ -106,7 +106,7 @@ module _ (P : Program) where
   }
 
   module _ (s : IsSound P) where
-    -- at the start of a function that is entered
+    -- At the start of a function that is entered.
     pub entry_reached : (g : ℕ) (fn : Function) (rs : Registers) → slice_get P.functions g ≡ Some fn
         → ((q : List ℕ) → IsAmong (names_of (parameter_registers fn)) q → IsAmong (assigned_names rs) q)
         → ((q : List ℕ) → IsAmong (assigned_names rs) q → IsAmong (names_of (parameter_registers fn)) q)
@@ -142,7 +142,7 @@ module _ (P : Program) where
 
     -- ---- an instruction
 
-    -- an instruction assigns this register, or none
+    -- An instruction assigns this register, or none.
     record AssignsOnly (i : Instr) (dest : Option (List ℕ)) : Type 0 where
       pub only : (q : List ℕ) → IsAmong (names_of (assigned_by i)) q → dest ≡ Some q
       pub is : (q : List ℕ) → dest ≡ Some q → IsAmong (names_of (assigned_by i)) q
@@ -165,7 +165,7 @@ module _ (P : Program) where
 
     module _ (I : Input) (w : World) (f : Frame) (r : top_is_reached P f) (i : Instr)
         (at : slice_get r.block.body f.place ≡ Some i) where
-      -- the action keeps the invariant, and does not trap as unreachable
+      -- The action keeps the invariant, and does not trap as unreachable.
       abbrev InstrKeeps : Action → Type 0
       InstrKeeps x = StepKeeps ⊥ f x
 
@@ -217,7 +217,7 @@ module _ (P : Program) where
       params_only (p ∷ ps) (v ∷ vs) q (inl e) = inl e
       params_only (p ∷ ps) (v ∷ vs) q (inr h) = inr (params_only ps vs q h)
 
-      -- an external function that has no result assigns no register
+      -- An external function that has no result assigns no register.
       no_result : (x : ExternCall) → x ≢ calls.ReadI64 → (signature x).ret ≡ None
       no_result calls.ReadI64 n = absurd (n refl)
       no_result _ n = refl
@@ -338,7 +338,7 @@ module _ (P : Program) where
       end_labels_at : labels_named_at r.fn f.block ≡ end_labels r.block.end
       end_labels_at = ap (λ (o : Option Block). unwrap_or (option_map (λ (x : Block). end_labels x.end) o) []) r.at
 
-      -- control goes to the block with a label that the end names
+      -- Control goes to the block with a label that the end names.
       jump_there_keeps : (stuck : Type 0) (label : List ℕ) → drop f.place r.block.body ≡ []
           → IsAmong (end_labels r.block.end) label → (c : ℕ) → label_number r.fn label ≡ Some c
           → StepKeeps stuck f (jump_to P I f (Some c))

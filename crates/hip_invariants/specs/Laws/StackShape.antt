@@ -20,19 +20,19 @@ use Rattle.hip_runs.specs.Laws.StepLaws.{has_frame, standing-frame}
 use Rattle.hip_invariants.specs.Laws.InstrActions.{leaves_registers, instr_cases, of_instr_action}
 use Rattle.hip_invariants.specs.StackShape.{lie_between, lie_in_order, have_calls, HasShape, StackIsShaped}
 
--- a state has the shape
+-- A state has the shape.
 record KeepsShape (s : State) : Type 0 where
   is : HasShape s.world.mark s.frames
 
 -- ---- actions
 
--- what an action may take of the stack, with that number of frames below
+-- What an action may take of the stack, with that number of frames below.
 abbrev allowed : ℕ → ℕ → Action → Type 0
 allowed mark below (Allocates dest a n) = (mark ≤ a) × (a + n ≤ stack_end)
 allowed mark below (Calls g registers dest) = below < 16383
 allowed mark below _ = Unit {0}
 
--- the action takes no more of the stack than it may, at this mark and with that number of frames below
+-- The action takes no more of the stack than it may, at this mark and with that number of frames below.
 record Allowed (mark below : ℕ) (x : Action) : Type 0 where
   is : allowed mark below x
 
@@ -104,7 +104,7 @@ module _ (P : Program) (I : Input) where
   same_level f h [] e l = e ∙ l
   same_level f h (g ∷ fs) e l = ((l.0.0, e ∙ l.0.1), l.1)
 
-  -- another frame on top with the same blocks, mark and call
+  -- Another frame on top with the same blocks, mark and call.
   changed : (mark : ℕ) (f h : Frame) (fs : List Frame) → lie_in_order mark (h ∷ fs) → h.level ≡ f.level
       → HasShape mark (f ∷ fs) → HasShape mark (h ∷ fs)
   changed mark f h fs o e s = record {
@@ -209,7 +209,7 @@ module _ (P : Program) (I : Input) where
   }
   run_shaped (suc n) = step_shaped (run P I n) (run_shaped n)
 
--- one level fewer than frames
+-- One level fewer than frames.
 levels_fewer : (f : Frame) (fs : List Frame) → have_calls (f ∷ fs) → length (levels_of (f ∷ fs)) ≡ length fs
 levels_fewer f [] l = rw l refl
 levels_fewer f (g ∷ fs) l = rw l.0.1 (ap suc (levels_fewer g fs l.1))
@@ -219,7 +219,7 @@ levels_counted : (fs : List Frame) → has_frame fs ≡ true → have_calls fs
 levels_counted [] h l = cc
 levels_counted (f ∷ fs) h l = ap suc (levels_fewer f fs l)
 
--- in each state of a run
+-- In each state of a run.
 pub stack_is_shaped : (P : Program) (I : Input) (n : ℕ) → StackIsShaped (run P I n)
 stack_is_shaped P I n =
     let shape = (run_shaped P I n).is in

@@ -34,7 +34,7 @@ all_then_prefix old mid new s t p q = record {
   rose = subst (λ (n : ℕ). Rose n new.faults) p.faults q.rose;
 }
 
--- a prefix of the first text is one of both
+-- A prefix of the first text is one of both.
 pub prefix_of_more : (old new : SinkState) (s t : List ℕ) → AppendsPrefix old new s
     → AppendsPrefix old new (s ++ t)
 prefix_of_more old new s t q = record {

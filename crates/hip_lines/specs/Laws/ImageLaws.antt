@@ -14,7 +14,7 @@ pub record IsAhead {P : Type 0} (l l' : Line P) : Type 0 where
   pub ordered : IsOrdered l
   pub ordered_too : IsOrdered l'
 
--- both lists have as many lines, and each line of the second is ahead of the line at its place in the first
+-- Both lists have as many lines, and each line of the second is ahead of the line at its place in the first.
 abbrev pub AreAhead : {P : Type 0} → List (Line P) → List (Line P) → Type 0
 AreAhead [] [] = Unit {0}
 AreAhead (l ∷ ls) (l' ∷ ls') = IsAhead l l' × AreAhead ls ls'
@@ -69,7 +69,7 @@ module _ {P : Type 0} where
     ordered_too = record { durable = omega arith; flushed = a.ordered_too.flushed };
   }
 
-  -- a flush or a fence more
+  -- A flush or a fence more.
   pub ahead-more_flushed_line : (l l' : Line P) → IsAhead l l' → IsAhead l (flushed_line l')
   ahead-more_flushed_line l l' a =
       let n = same_length l l' a in
@@ -152,7 +152,7 @@ module _ {P : Type 0} where
   are_ahead_refl [] a = tt
   are_ahead_refl (l ∷ ls) a = (ahead_refl l a.0, are_ahead_refl ls a.1)
 
-  -- the line of ls' that stands where l stands in ls
+  -- The line of ls' that stands where l stands in ls.
   pub ahead-at : (ls ls' : List (Line P)) (k : ℕ) (l : Line P) → AreAhead ls ls' → slice_get ls k ≡ Some l
       → (l' : Line P) × (slice_get ls' k ≡ Some l') × IsAhead l l'
   ahead-at [] [] k l a e = absurd (let h : ⊥ = cc in h)
@@ -178,7 +178,7 @@ module _ {P : Type 0} (covers : P → ℕ → Bool) (value : P → ℕ → ℕ) 
     },
   )
 
-  -- images of lines that are further flushed and fenced are images of the lines
+  -- Images of lines that are further flushed and fenced are images of the lines.
   pub image-ahead : (first r : List ℕ) (ls ls' : List (Line P)) → AreAhead ls ls'
       → IsImage covers value first ls' r
       → IsImage covers value first ls r
@@ -189,7 +189,7 @@ module _ {P : Type 0} (covers : P → ℕ → Bool) (value : P → ℕ → ℕ) 
             line_image-ahead first r j l x.0 x.2 (h.lines j x.0 x.1);
       }
 
-  -- a flush leaves a line's images as they are
+  -- A flush leaves a line's images as they are.
   pub line_image-flushed_line : (first r : List ℕ) (j : ℕ) (l : Line P) → IsLineImage covers value first r j l
       → IsLineImage covers value first r j (flushed_line l)
   line_image-flushed_line first r j l h = (h.0, record { least = h.1.least; most = h.1.most; bytes = h.1.bytes })
@@ -198,7 +198,7 @@ module _ {P : Type 0} (covers : P → ℕ → Bool) (value : P → ℕ → ℕ) 
       → IsLineImage covers value first r j (flushed_line l) → IsLineImage covers value first r j l
   flushed_line-line_image first r j l h = (h.0, record { least = h.1.least; most = h.1.most; bytes = h.1.bytes })
 
-  -- a fence keeps exactly those images that have all flushed parts
+  -- A fence keeps exactly those images that have all flushed parts.
   pub line_image-fenced_line : (first r : List ℕ) (j : ℕ) (l : Line P) (q : ℕ) → l.flushed ≤ q
       → IsLineImageAt covers value first r j l q → IsLineImageAt covers value first r j (fenced_line l) q
   line_image-fenced_line first r j l q f h = record { least = f; most = h.most; bytes = h.bytes }
@@ -209,7 +209,7 @@ module _ {P : Type 0} (covers : P → ℕ → Bool) (value : P → ℕ → ℕ) 
   fenced_line-line_image first r j l q o h =
       (record { least = omega (arith, o.durable, h.least); most = h.most; bytes = h.bytes }, h.least)
 
-  -- a store keeps each image of its line and adds those that have the whole list
+  -- A store keeps each image of its line and adds those that have the whole list.
   pub line_image-with_part : (first r : List ℕ) (j : ℕ) (x : P) (l : Line P)
       → IsLineImage covers value first r j l
       → IsLineImage covers value first r j (with_part x l)
@@ -277,7 +277,7 @@ module _ {P : Type 0} (covers : P → ℕ → Bool) (value : P → ℕ → ℕ) 
   get_below (x ∷ ls) zero l e = omega arith
   get_below (x ∷ ls) (suc j) l e = omega (arith, get_below ls j l e)
 
-  -- the content of a pick is an image
+  -- The content of a pick is an image.
   pub image_of-image : (ls : List (Line P)) (pick : ℕ → ℕ) (first : List ℕ)
       → length first ≡ LINE_SIZE * length ls
       → IsPick covers value ls pick → IsImage covers value first ls (image_of covers value ls pick first)
@@ -303,7 +303,7 @@ module _ {P : Type 0} (covers : P → ℕ → Bool) (value : P → ℕ → ℕ) 
     );
   }
 
-  -- and every image is the content of a pick
+  -- And every image is the content of a pick.
 
   get_there : (ls : List (Line P)) (j : ℕ) → j < length ls → (l : Line P) × (slice_get ls j ≡ Some l)
   get_there [] j h = absurd (omega arith)
@@ -313,7 +313,7 @@ module _ {P : Type 0} (covers : P → ℕ → Bool) (value : P → ℕ → ℕ) 
   some_line : (l l' : Line P) (o : Option (Line P)) → o ≡ Some l → o ≡ Some l' → l ≡ l'
   some_line l l' o e f = cc
 
-  -- the number of parts that an image has of the line that stands at a place
+  -- The number of parts that an image has of the line that stands at a place.
   pick_by : (first r : List ℕ) (ls : List (Line P)) → IsImage covers value first ls r
       → (j : ℕ) (o : Option (Line P))
       → slice_get ls j ≡ o → ℕ

@@ -8,17 +8,17 @@ use Rattle.hip_types.specs.declared.areas.TheConstants.{LINE_SIZE}
 
 -- ---- which lines a range reaches
 
--- a byte of the range lies in the part of its line
+-- A byte of the range lies in the part of its line.
 pub has_bytes-of_byte : (o n b : ℕ) → o ≤ b → b < o + n → (has_bytes (b / LINE_SIZE) o n ≡ true)
     × (start_in (b / LINE_SIZE) o ≤ b) × (b < end_in (b / LINE_SIZE) o n)
 has_bytes-of_byte o n b h k = (grind (arith, nat_tests), omega arith, omega arith)
 
--- and a byte of a line's part of the range lies in the range and in that line
+-- And a byte of a line's part of the range lies in the range and in that line.
 pub byte-of_part : (o n j b : ℕ) → start_in j o ≤ b → b < end_in j o n → (o ≤ b) × (b < o + n)
     × (b / LINE_SIZE ≡ j)
 byte-of_part o n j b h k = (omega arith, omega arith, omega arith)
 
--- a range reaches no line outside those of its first and last byte
+-- A range reaches no line outside those of its first and last byte.
 pub has_bytes-other : (o n j : ℕ) → has_bytes j o n ≡ true → (o / LINE_SIZE ≤ j)
     × (j ≤ (o + n - 1) / LINE_SIZE)
     × (0 < n)
@@ -48,7 +48,7 @@ module _ {L : Type 0} (f : ℕ → L → L) (o n : ℕ) where
       slice_get-change_from 0 ls k ∙ ap (λ i. option_map (λ l. cond (has_bytes i o n) (f i l) l) (slice_get ls k))
       (let e : 0 + k ≡ k = omega arith in e)
 
--- changed lines seen through a function g are the seen lines changed
+-- Changed lines seen through a function g are the seen lines changed.
 pub map-change_from : {L M : Type 0} (g : L → M) (f : ℕ → L → L) (f' : ℕ → M → M) (o n : ℕ)
     → ((j : ℕ) (l : L) → g (f j l) ≡ f' j (g l)) → (j : ℕ) (ls : List L)
     → map g (change_from f o n j ls) ≡ change_from f' o n j (map g ls)
@@ -103,7 +103,7 @@ unfolding fresh_lines
 ordered-fresh_lines P zero = tt
 ordered-fresh_lines P (suc n) = (record { durable = omega arith; flushed = omega arith }, ordered-fresh_lines P n)
 
--- a line of ordered lines is ordered
+-- A line of ordered lines is ordered.
 pub ordered-at : {P : Type 0} (ls : List (Line P)) (j : ℕ) (l : Line P) → AreOrdered ls
     → slice_get ls j ≡ Some l
     → IsOrdered l

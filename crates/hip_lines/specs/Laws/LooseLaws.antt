@@ -7,7 +7,7 @@ use Rattle.hip_lines.specs.Loose.{IsLastOver, IsLooseBy, IsLoose, later, last_ov
 some_same : {A : Type 0} (x y : A) (o : Option A) → o ≡ Some x → o ≡ Some y → x ≡ y
 some_same x y o p q = cc
 
--- places of an append
+-- Places of an append.
 pub get-append_left : {A : Type 0} (xs ys : List A) (k : ℕ) → k < length xs
     → slice_get (xs ++ ys) k ≡ slice_get xs k
 get-append_left [] ys k h = absurd (omega arith)
@@ -52,11 +52,11 @@ module _ {P : Type 0} (covers : P → ℕ → Bool) where
 
   -- ---- `last_over` finds it
 
-  -- no part of the list covers the byte
+  -- No part of the list covers the byte.
   abbrev pub IsBare : List P → ℕ → Type 0
   IsBare ps b = (j : ℕ) (y : P) → slice_get ps j ≡ Some y → covers y b ≡ false
 
-  -- a find is right: the last part over the byte, or none where no part covers it
+  -- A find is right: the last part over the byte, or none where no part covers it.
   abbrev pub Finds : List P → ℕ → Option (ℕ × P) → Type 0
   Finds ps b None = IsBare ps b
   Finds ps b (Some (k, x)) = IsLastOver covers ps b k x
@@ -89,7 +89,7 @@ module _ {P : Type 0} (covers : P → ℕ → Bool) where
       join false c None h = bare c h
       join c e (Some (k, x)) h = tail k x h
 
-  -- the last part over a byte, after one more part
+  -- The last part over a byte, after one more part.
   pub last_over-append : (b : ℕ) (ps : List P) (p : P)
       → last_over covers b (ps ++ p ∷ []) ≡ cond (covers p b) (Some (length ps, p)) (last_over covers b ps)
   last_over-append b [] p = here (covers p b)
@@ -106,8 +106,8 @@ module _ {P : Type 0} (covers : P → ℕ → Bool) where
       here true = refl
       here false = refl
 
-  -- a byte is loose exactly where the parts that are not durable have a last one over it; its place counts from the
-  -- durable number
+  -- A byte is loose exactly where the parts that are not durable have a last one over it; its place counts from the
+  -- durable number.
   pub loose-drop : (l : Line P) (b k : ℕ) (x : P) → IsLastOver covers (drop l.durable l.parts) b k x
       → IsLooseBy covers l b (l.durable + k) x
   loose-drop l b k x h =
@@ -141,7 +141,7 @@ module _ {P : Type 0} (covers : P → ℕ → Bool) where
 
   -- ---- a store
 
-  -- where the new part covers the byte, that part makes the byte loose
+  -- Where the new part covers the byte, that part makes the byte loose.
   pub loose-with_part_over : (x : P) (l : Line P) (b : ℕ) → IsOrdered l → covers x b ≡ true
       → IsLooseBy covers (with_part x l) b (length l.parts) x
   loose-with_part_over x l b h c =
@@ -154,7 +154,7 @@ module _ {P : Type 0} (covers : P → ℕ → Bool) where
           → covers y b ≡ false
       after j y lt e = absurd (omega (arith, get-below (l.parts ++ x ∷ []) j y e, length-append l.parts (x ∷ [])))
 
-  -- where it does not, the byte is loose as before, by the same part
+  -- Where it does not, the byte is loose as before, by the same part.
   pub loose-with_part_beside : (x : P) (l : Line P) (b k : ℕ) (y : P) → covers x b ≡ false
       → IsLooseBy covers l b k y
       → IsLooseBy covers (with_part x l) b k y
@@ -253,7 +253,7 @@ get-of_map f [] k y e = absurd (let h : ⊥ = cc in h)
 get-of_map f (x ∷ xs) zero y e = (x, refl, some_same (f x) y (Some (f x)) refl e)
 get-of_map f (x ∷ xs) (suc k) y e = get-of_map f xs k y e
 
--- a part makes a byte loose exactly where the part's image under the function does
+-- A part makes a byte loose exactly where the part's image under the function does.
 pub loose-map_line : {P Q : Type 0} (f : P → Q) (covers : Q → ℕ → Bool) (l : Line P) (b k : ℕ) (x : P)
     → IsLooseBy (λ p. covers (f p)) l b k x → IsLooseBy covers (map_line f l) b k (f x)
 loose-map_line {P} {Q} f covers l b k x h =

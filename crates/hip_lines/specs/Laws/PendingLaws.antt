@@ -40,7 +40,7 @@ pending-fenced_line l h =
     ∙ sym (drop-drop l.durable (l.flushed - l.durable) l.parts))
     (let e : l.flushed - l.flushed ≡ 0 = omega arith in e)
 
--- the same for all lines
+-- The same for all lines.
 pub pending-change_from : {P : Type 0} (f : ℕ → Line P → Line P) (f' : ℕ → Pending P → Pending P)
     (o n : ℕ)
     → ((j : ℕ) (l : Line P) → IsOrdered l → pending_of (f j l) ≡ f' j (pending_of l))
@@ -60,7 +60,7 @@ pending-fenced [] a = refl
 pending-fenced (l ∷ ls) a = ap₂ (λ w ws. w ∷ ws) (pending-fenced_line l a.0) (pending-fenced ls a.1)
 
 module _ {P : Type 0} (covers : P → ℕ → Bool) where
-  -- the last pending part over a byte is the part that makes it loose; the byte is not loose where there is none
+  -- The last pending part over a byte is the part that makes it loose; the byte is not loose where there is none.
   pub pending-loose : (l : Line P) (b : ℕ) → MatchOption (last_over covers b (pending_of l).parts)
       (IsLoose covers l b → ⊥) (λ f. IsLooseBy covers l b (l.durable + f.0) f.1)
   pending-loose l b =
@@ -73,7 +73,7 @@ module _ {P : Type 0} (covers : P → ℕ → Bool) where
           d.over in let z : ⊥ = cc in z
       go (Some (k, x)) h = loose-drop covers l b k x h
 
-  -- the part is flushed among the pending parts exactly if it is flushed in its line
+  -- The part is flushed among the pending parts exactly if it is flushed in its line.
   pub pending-flushed : (l : Line P) (k : ℕ) → IsOrdered l
       → (k < (pending_of l).flushed → l.durable + k < l.flushed)
       × (l.durable + k < l.flushed → k < (pending_of l).flushed)

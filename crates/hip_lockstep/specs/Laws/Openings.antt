@@ -83,7 +83,7 @@ stops_here P bytes es rest kind spells head s = record {
       (refl, subst (λ p. StopsAt true p kind) (sym (after_stated es rest)) s));
 }
 
--- the pieces of a front are the whole header, which has fewer than two entries
+-- The pieces of a front are the whole header, which has fewer than two entries.
 all_of_header : (P : Program) (es : List Entry) (xs last : List (Option Entry))
     → ((ys zs : List (Option Entry)) → stated es ≡ ys ++ zs → header P ys ≡ Stops (length ys))
     → stated es ≡ xs ++ last → header P xs ≡ Stops (length xs)
@@ -134,7 +134,7 @@ module _ (P : Program) (start : CabinetState) (es : List Entry) (r : ReaderState
   }
   start_missing r' s' refusals.NoMemory h = absurd h
 
--- the second entry is not valid
+-- The second entry is not valid.
 pub start_differs : (P : Program) (start : CabinetState) (es : List Entry) (e : Entry) (r : ReaderState)
     (s : CabinetState) → HasReadEntries start r s (es ++ e ∷ [])
     → ((rest : List (Option Entry)) → header P (stated es ++ Some e ∷ rest) ≡ Stops (length es))
@@ -256,7 +256,7 @@ module _ {P : Program} {start : CabinetState} {r : ReaderState} {s : CabinetStat
   counts : count ≡ length (trace P (filled P given) 0)
   counts = is.counted ∙ ap (λ es. length es) entries_are
 
-  -- no entry could be read after those of the header
+  -- No entry could be read after those of the header.
   pub value_missing : (r' : ReaderState) (s' : CabinetState) (refusal : ReplayRefusal)
       → ReadsEntry count r r' s s' (Err refusal) → Refuses P r' start s' refusal
   value_missing r' s' refusal h =
@@ -279,7 +279,7 @@ module _ {P : Program} {start : CabinetState} {r : ReaderState} {s : CabinetStat
       ∙ ap (header P) (append_assoc (stated is.entries) (Some e ∷ []) more)
       ∙ is.header (Some e ∷ more)
 
-  -- one more entry of the header
+  -- One more entry of the header.
   pub value_taken : (r' : ReaderState) (s' : CabinetState) (e : Entry) (next : Input) → HasNext r r' s s' e
       → with_entry P given (Some e) ≡ Some next → HasGiven P start r' s' next (count + 1)
   value_taken r' s' e next h q = record {
@@ -291,13 +291,13 @@ module _ {P : Program} {start : CabinetState} {r : ReaderState} {s : CabinetStat
         ∙ ap (λ n. header_from P next n more) (let one : suc count ≡ count + 1 = omega arith in one);
   }
 
-  -- there is no memory for what the entry gives
+  -- There is no memory for what the entry gives.
   pub value_dropped : (r' : ReaderState) (s' : CabinetState) (e : Entry) → HasNext r r' s s' e
       → HasStoppedReplay start s'
   value_dropped r' s' e h = stopped_after start r' s' (is.entries ++ e ∷ [])
       (next_read start s s' r r' is.entries e room is.read h)
 
-  -- the first entry after the header
+  -- The first entry after the header.
   pub value_refused : (r' : ReaderState) (s' : CabinetState) (e : Entry) → HasNext r r' s s' e
       → with_entry P given (Some e) ≡ None
       → HasAllGiven P start r' s' given (record { next = e; entries = count })
@@ -319,7 +319,7 @@ first_given P start r s limit base h = record {
   header = λ more. both_valid P (Some h.first) limit (Some h.second) base more h.starts h.registers;
 }
 
--- all entries of the header were read, so its input is known
+-- All entries of the header were read, so its input is known.
 pub header_read : (P : Program) (start : CabinetState) (r : ReaderState) (s : CabinetState) (given : Input)
     (lockstep : Lockstep) → HasAllGiven P start r s given lockstep
     → HasHeader P start r s (record { input = filled P given; lockstep = lockstep })
@@ -348,7 +348,7 @@ header_read P start r s given lockstep h =
 
 -- ---- how much was given
 
--- K has more numbers and bytes than J, and no more than a valid input has
+-- K has more numbers and bytes than J, and no more than a valid input has.
 pub record GivesMore (P : Program) (J K : Input) : Type 0 where
   pub numbers : length J.numbers ≤ length K.numbers
   pub image : length J.image ≤ length K.image
@@ -424,7 +424,7 @@ entry_gives P J K Cut fits few within q = absurd (let z : ⊥ = cc in z)
 
 -- ---- the loop over INPUT and IMAGE entries
 
--- what was read and given since the first reader, cabinet and input
+-- What was read and given since the first reader, cabinet and input.
 pub record IsGiving (P : Program) (r0 : ReaderState) (s0 : CabinetState) (given0 : Input) (r : ReaderState)
     (s : CabinetState) (given : Input) (count : ℕ) : Type 0 where
   pub progress : r.progress ≡ Reading
@@ -497,7 +497,7 @@ first_given_at P start r s limit base numbers image h n i =
     (subst (λ bs. HasGiven P start r s (record { base = base; image = bs; numbers = []; limit = limit }) 2) (sym i)
     (first_given P start r s limit base h))
 
--- the given bytes go no further than the region
+-- The given bytes go no further than the region.
 pub image_within : {P : Program} {start : CabinetState} {r : ReaderState} {s : CabinetState} {given : Input}
     {lockstep : Lockstep} → HasAllGiven P start r s given lockstep → length given.image ≤ region_size P
 image_within {P} {start} {r} {s} {given} {lockstep} h =

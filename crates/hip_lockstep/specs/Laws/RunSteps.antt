@@ -48,7 +48,7 @@ trace_after P I n e going at =
     ++ (if is_some o then [] else entry_list (entry_of_event (event P I (run P I n))))) going
     ∙ ap (λ x. trace P I n ++ entry_list (entry_of_event x)) at
 
--- a step that ends a run has an entry
+-- A step that ends a run has an entry.
 end_has_entry : (e : Event) (x : Ending) → ending_by e ≡ Some x → entry_of_event e ≡ Some (entry_of_ending x)
 end_has_entry (events.End y) x h = let same : y ≡ x = cc in ap (λ z. Some (entry_of_ending z)) same
 end_has_entry events.Quiet x h = absurd (let z : ⊥ = cc in z)
@@ -66,7 +66,7 @@ no_entry_goes_on e q = go (ending_by e) refl
     go None h = h
     go (Some x) h = absurd (let there = end_has_entry e x h in let z : ⊥ = cc in z)
 
--- the run's trace has an entry after those of some steps
+-- The run's trace has an entry after those of some steps.
 pub record HasMoreEntries (P : Program) (I : Input) (n : ℕ) : Type 0 where
   pub next : Entry
   pub more : List Entry
@@ -133,7 +133,7 @@ more_entries P I n going =
 
 -- ---- what a file spells
 
--- no entry is spelled first
+-- No entry is spelled first.
 abbrev pub IsUnspelled : List (Option Entry) → Type 0
 IsUnspelled [] = Unit {0}
 IsUnspelled (None ∷ rest) = Unit {0}
@@ -170,7 +170,7 @@ spelled_next bytes es e o h = (
       ∙ append_assoc (stated es) (Some e ∷ []) (spelled true h.left),
 )
 
--- the bytes that were taken before a read failed
+-- The bytes that were taken before a read failed.
 pub record HasFront (es : List Entry) (bytes : List ℕ) (rest : Option (List ℕ)) : Type 0 where
   pub front : List ℕ
   pub taken : IsTaken front bytes rest
@@ -208,7 +208,7 @@ pub later_faults : (start s s' : CabinetState) → IsReading start s → s.fault
 later_faults start s s' p q = let e = p.faults in omega (arith, e, q)
 
 module _ (P : Program) (I : Input) (start : CabinetState) (valid : IsValid P I) where
-  -- the file and the run's trace differ after the entries of some steps
+  -- The file and the run's trace differ after the entries of some steps.
   pub differs_run : (n : ℕ) (bytes : List ℕ) (rest : List (Option Entry)) (whole more : List Entry)
       (kind : MisfitKind) → header P (spelled true bytes) ≡ Gives (header_entries I) I
       → spelled true bytes ≡ stated (trace P I n) ++ rest → IsTrace P I whole → whole ≡ trace P I n ++ more
@@ -246,7 +246,7 @@ module _ (P : Program) (I : Input) (start : CabinetState) (valid : IsValid P I) 
         });
   }
 
-  -- no entry could be read after those of some steps, where the run goes on
+  -- No entry could be read after those of some steps, where the run goes on.
   module _ (n : ℕ) (r : ReaderState) (s : CabinetState) (going : (run P I n).world.ending ≡ None)
       (few : length (trace P I n) + 1 < 2 ^ 128) (read : HasReadEntries start r s (trace P I n))
       (head : (bytes : List ℕ) → start.rest ≡ Some bytes → (rest : List (Option Entry))

@@ -9,7 +9,7 @@ use Rattle.hip_mem.specs.Areas.{Areas, IsLaidOut, mark_of, is_valid, are_valid, 
 
 -- ---- tests
 
--- an address is in an area or not
+-- An address is in an area or not.
 pub in_or_not : (start : ℕ) (xs : List ℕ) (a : ℕ)
     → ((is_in start xs a ≡ true) × (start ≤ a) × (a < start + length xs))
     ⊎ ((is_in start xs a ≡ false) × ((a < start) ⊎ (start + length xs ≤ a)))
@@ -27,7 +27,7 @@ pub is_in-bounds : (start : ℕ) (xs : List ℕ) (a : ℕ) → is_in start xs a 
     × (a < start + length xs)
 is_in-bounds start xs a h = grind (arith, nat_tests)
 
--- the same addresses are in an area after its content was replaced by one of the same length
+-- The same addresses are in an area after its content was replaced by one of the same length.
 pub is_in-length : (start : ℕ) (xs ys : List ℕ) (a : ℕ) → length ys ≡ length xs
     → is_in start ys a ≡ is_in start xs a
 is_in-length start xs ys a e = ap (λ n. nat_le start a && nat_lt a (start + n)) e
@@ -54,7 +54,7 @@ is_valid-after_write w r a =
     (ap₂ (λ x y. x || y) (is_in-length stack_start r.stack _ a (length-area_written w stack_start r.stack))
     (is_in-length r.base r.region _ a (length-area_written w r.base r.region)))
 
--- the byte of an area after a write
+-- The byte of an area after a write.
 area_byte : (w : Write) (start : ℕ) (xs : List ℕ) (a : ℕ) → start ≤ a → a < start + length xs
     → slice_index (area_written w start xs) (a - start) ≡ byte_written w a (slice_index xs (a - start))
 area_byte w start xs a h k =
@@ -88,7 +88,7 @@ byte_in-after_write w r a v =
         absurd (let p = x.0 in let q = y.0 in let s = z.0 in let e : is_valid r a ≡ false = rw (p, q, s) refl in
         let n : ⊥ = cc in n)
 
--- the last write comes last
+-- The last write comes last.
 pub byte_from-append : (ws : List Write) (w : Write) (a first : ℕ)
     → byte_from (ws ++ w ∷ []) a first ≡ byte_written w a (byte_from ws a first)
 byte_from-append [] w a first = refl
@@ -172,7 +172,7 @@ pub covered_or_not : (w : Write) (a : ℕ)
     ⊎ ((write_covers w a ≡ false) × ((a < w.addr) ⊎ (w.addr + length w.bytes ≤ a)))
 covered_or_not w a = grind (arith, nat_tests)
 
--- a write that does not cover the byte leaves it as it is
+-- A write that does not cover the byte leaves it as it is.
 pub not_written : (w : Write) (a old : ℕ) → (a < w.addr) ⊎ (w.addr + length w.bytes ≤ a)
     → byte_written w a old ≡ old
 not_written w a old h = go (covered_or_not w a)
@@ -187,7 +187,7 @@ not_written w a old h = go (covered_or_not w a)
         both (inr l) = omega (arith, l, x.2)
     go (inr x) = ap (λ b. cond b (slice_index w.bytes (a - w.addr)) old) x.0
 
--- a write of zeros gives zeros
+-- A write of zeros gives zeros.
 pub zeros_written : (addr n a old : ℕ) → addr ≤ a → a < addr + n
     → byte_written (record { addr = addr; bytes = zeros n }) a old ≡ 0
 zeros_written addr n a old h k = go (covered_or_not (record { addr = addr; bytes = zeros n }) a)
@@ -206,11 +206,11 @@ zeros_written addr n a old h k = go (covered_or_not (record { addr = addr; bytes
         both (inl l) = omega (arith, l, h)
         both (inr l) = omega (arith, l, k, length-zeros n)
 
--- the write of a new stack block: zeros from the old mark up to the new one
+-- The write of a new stack block: zeros from the old mark up to the new one.
 abbrev pub push_write : ℕ → Areas → Write
 push_write mark r = record { addr = mark_of r; bytes = zeros (mark - mark_of r) }
 
--- the areas lie apart, in this order
+-- The areas lie apart, in this order.
 pub record AreApart (r : Areas) : Type 0 where
   pub volatile : volatile_start + length r.volatile ≤ stack_start
   pub stack : mark_of r ≤ stack_end
@@ -378,7 +378,7 @@ are_valid-after_write w r a zero = refl
 are_valid-after_write w r a (suc n) =
     ap₂ (λ b c. b && c) (is_valid-after_write w r a) (are_valid-after_write w r (suc a) n)
 
--- if the areas hold a memory, their valid bytes are the memory's
+-- If the areas hold a memory, their valid bytes are the memory's.
 pub bytes_in-bytes_at : (r : Areas) (m : Memory) (n a : ℕ) → Holds r m → are_valid r a n ≡ true
     → bytes_in r a n ≡ bytes_at m a n
 bytes_in-bytes_at r m zero a h e = refl
@@ -386,7 +386,7 @@ bytes_in-bytes_at r m (suc n) a h e =
     let b = both_true (is_valid r a) (are_valid r (suc a) n) e in
     ap₂ (λ x xs. x ∷ xs) (h.bytes a b.0) (bytes_in-bytes_at r m n (suc a) h b.1)
 
--- a read gives what was written
+-- A read gives what was written.
 bytes_in-written : (w : Write) (r : Areas) (n k : ℕ) → are_valid r (w.addr + k) n ≡ true
     → k + n ≡ length w.bytes
     → bytes_in (after_write w r) (w.addr + k) n ≡ drop k w.bytes
@@ -432,11 +432,11 @@ bytes_in-after_write w r e =
 
 -- ---- in a `Ram`, whose areas do not touch, consecutive valid bytes lie in one area
 
--- the n bytes from a on lie in an area
+-- The n bytes from a on lie in an area.
 abbrev pub Fits : ℕ → List ℕ → ℕ → ℕ → Type 0
 Fits start xs a n = (start ≤ a) × (a + n ≤ start + length xs)
 
--- the n bytes from a on lie in one of the three areas
+-- The n bytes from a on lie in one of the three areas.
 abbrev pub FitsOne : Areas → ℕ → ℕ → Type 0
 FitsOne r a n = Fits volatile_start r.volatile a n ⊎ (Fits stack_start r.stack a n ⊎ Fits r.base r.region a n)
 
@@ -546,6 +546,6 @@ laid_out-after_pop mark r low high h =
       region = h.region;
     }
 
--- a new block does not lie below the mark
+-- A new block does not lie below the mark.
 pub mark-le-block : (r : Areas) (align : ℕ) → mark_of r ≤ block_address r align
 mark-le-block r align = omega arith

@@ -22,7 +22,7 @@ slice_index-zeros (suc n) (suc i) = slice_index-zeros n i
 power : (n : ℕ) → 256 ^ suc n ≡ 256 * 256 ^ n
 power n = omega arith
 
--- a number below 256 ^ n is the number of its n low bytes
+-- A number below 256 ^ n is the number of its n low bytes.
 pub little_endian-bytes_of : (n v : ℕ) → v < 256 ^ n → little_endian (bytes_of n v) ≡ v
 little_endian-bytes_of zero v h = omega (arith, h)
 little_endian-bytes_of (suc n) v h =
@@ -54,7 +54,7 @@ little_endian-below (b ∷ bs) h =
     let e = little_endian-below bs (λ i. h (suc i)) in
     omega (arith, e, low, power (length bs))
 
--- zeros after the first n bytes do not change the number
+-- Zeros after the first n bytes do not change the number.
 pub little_endian-take : (n : ℕ) (bs : List ℕ) → ((i : ℕ) → n ≤ i → slice_index bs i ≡ 0)
     → little_endian bs ≡ little_endian (take n bs)
 little_endian-take n [] h = ap little_endian (sym (take-nil n))

@@ -7,7 +7,7 @@ use Rattle.std.proofs.lemmas.Slice.Eq.{bytes_eq-Decides}
 use Rattle.hip_names.specs.Laws.NameLaws.{among-left, among-right, among-either}
 use Rattle.hip_names.specs.Names.{AllDiffer, IsAmong}
 
--- no name of the first list is one of the second
+-- No name of the first list is one of the second.
 abbrev pub Apart : List (List ℕ) → List (List ℕ) → Type 0
 Apart xs ys = (q : List ℕ) → IsAmong xs q → ¬ IsAmong ys q
 
@@ -46,7 +46,7 @@ unfolding IsDistinct
 differ_distinct [] d = tt
 differ_distinct (x ∷ xs) d = (none_among x xs d.0, differ_distinct xs d.1)
 
--- what is among the names of some items is the name of one of them
+-- What is among the names of some items is the name of one of them.
 pub among_at : {A : Type 0} (name : A → List ℕ) (xs : List A) (q : List ℕ) → IsAmong (map name xs) q
     → (k : ℕ) × (x : A) × (slice_get xs k ≡ Some x) × (q ≡ name x)
 among_at name [] q h = absurd h

@@ -18,7 +18,7 @@ placed false p n = past (nat_lt p n) (nat_lt (1 + p) (suc n)) (grind (arith, nat
     past true c e = let one : 1 + p ≡ suc p = omega arith in rw (e, one) refl
     past false c e = rw e refl
 
--- the first name has number 0, and each other one its number among the rest, plus 1
+-- The first name has number 0, and each other one its number among the rest, plus 1.
 pub number_of-cons : (x : List ℕ) (xs : List (List ℕ)) (name : List ℕ)
     → number_of (x ∷ xs) name ≡ cond (bytes_eq name x) (Some 0) (option_map suc (number_of xs name))
 number_of-cons x xs name = placed (bytes_eq name x) _ (length xs)
@@ -27,15 +27,15 @@ at_first : (b : Bool) (name x : List ℕ) (xs : List (List ℕ)) → bytes_eq na
     → number_of (x ∷ xs) name ≡ cond b (Some 0) (option_map suc (number_of xs name))
 at_first b name x xs e = number_of-cons x xs name ∙ ap (λ t. cond t (Some 0) (option_map suc (number_of xs name))) e
 
--- the name is x, the first of the names, and k is its number, 0
+-- The name is x, the first of the names, and k is its number, 0.
 abbrev pub IsHere : (x name : List ℕ) → ℕ → Type 0
 IsHere x name k = (k ≡ 0) × (x ≡ name) × (bytes_eq name x ≡ true)
 
--- the name is not x, the first of the names, and k is one more than its number among the rest
+-- The name is not x, the first of the names, and k is one more than its number among the rest.
 abbrev pub IsLater : (x : List ℕ) (xs : List (List ℕ)) (name : List ℕ) → ℕ → Type 0
 IsLater x xs name k = (j : ℕ) × (bytes_eq name x ≡ false) × (number_of xs name ≡ Some j) × (k ≡ suc j)
 
--- the name that has a number is the first one, or it has a number among the rest
+-- The name that has a number is the first one, or it has a number among the rest.
 pub number_cases : (x : List ℕ) (xs : List (List ℕ)) (name : List ℕ) (k : ℕ)
     → number_of (x ∷ xs) name ≡ Some k
     → IsHere x name k ⊎ IsLater x xs name k
@@ -56,7 +56,7 @@ number_later : (x : List ℕ) (xs : List (List ℕ)) (name : List ℕ) (k : ℕ)
     → number_of xs name ≡ Some k → number_of (x ∷ xs) name ≡ Some (suc k)
 number_later x xs name k t e = at_first false name x xs t ∙ ap (option_map suc) e
 
--- the item at a name's number is that name
+-- The item at a name's number is that name.
 pub number_of-there : (xs : List (List ℕ)) (name : List ℕ) (k : ℕ) → number_of xs name ≡ Some k
     → slice_get xs k ≡ Some name
 number_of-there [] name k e = cc
@@ -65,7 +65,7 @@ number_of-there (x ∷ xs) name k e =
     (λ l. subst (λ n. slice_get (x ∷ xs) n ≡ Some name) (sym l.3) (number_of-there xs name l.0 l.2))
     (number_cases x xs name k e)
 
--- no earlier item is that name
+-- No earlier item is that name.
 pub number_of-least : (xs : List (List ℕ)) (name : List ℕ) (k j : ℕ) → number_of xs name ≡ Some k
     → slice_get xs j ≡ Some name → k ≤ j
 number_of-least [] name k j e f = cc
@@ -78,7 +78,7 @@ number_of-least (x ∷ xs) name k (suc j) e f =
     ⊎_elim (λ h. omega (arith, h.0)) (λ l. let rest = number_of-least xs name l.0 j l.2 f in omega (arith, l.3))
     (number_cases x xs name k e)
 
--- names that are added at the end of a list leave the numbers of its names as they are
+-- Names that are added at the end of a list leave the numbers of its names as they are.
 pub number_of-front : (xs ys : List (List ℕ)) (name : List ℕ) (k : ℕ) → number_of xs name ≡ Some k
     → number_of (xs ++ ys) name ≡ Some k
 number_of-front [] ys name k e = cc
@@ -87,7 +87,7 @@ number_of-front (x ∷ xs) ys name k e =
     (λ l. number_later x (xs ++ ys) name l.0 l.1 (number_of-front xs ys name l.0 l.2) ∙ ap Some (sym l.3))
     (number_cases x xs name k e)
 
--- a name in the list has a number
+-- A name in the list has a number.
 pub number_of-known : (xs : List (List ℕ)) (name : List ℕ) (k : ℕ) → slice_get xs k ≡ Some name
     → (j : ℕ) × (number_of xs name ≡ Some j)
 number_of-known [] name k e = cc
@@ -100,7 +100,7 @@ number_of-known (x ∷ xs) name (suc k) e = by_first (bytes_eq name x) refl (num
     by_first true t rest = (0, at_first true name x xs t)
     by_first false t rest = (suc rest.0, number_later x xs name rest.0 t rest.1)
 
--- its number is a place that has it, if no earlier place has it
+-- Its number is a place that has it, if no earlier place has it.
 pub number_of-first : (xs : List (List ℕ)) (name : List ℕ) (k : ℕ) → slice_get xs k ≡ Some name
     → ((j : ℕ) → j < k → ¬ (slice_get xs j ≡ Some name)) → number_of xs name ≡ Some k
 number_of-first xs name k e none =
@@ -111,7 +111,7 @@ number_of-first xs name k e none =
     (eq-or-lt_of_le least) in
     found.1 ∙ ap Some same
 
--- a name that is not in the first list has its number after the numbers of that list
+-- A name that is not in the first list has its number after the numbers of that list.
 pub number_of-past : (xs ys : List (List ℕ)) (name : List ℕ) (k : ℕ) → number_of ys name ≡ Some k
     → ((j : ℕ) → ¬ (slice_get xs j ≡ Some name)) → number_of (xs ++ ys) name ≡ Some (length xs + k)
 number_of-past [] ys name k e none = e ∙ ap Some (sym (zero-add k))
@@ -124,7 +124,7 @@ number_of-past (x ∷ xs) ys name k e none =
     other true t = absurd (none 0 (ap Some (sym ((bytes_eq-Decides name x).0 t))))
     other false t = t
 
--- a name of the whole list has a number in the first list, or it is in the rest
+-- A name of the whole list has a number in the first list, or it is in the rest.
 pub number_of-append : (xs ys : List (List ℕ)) (name : List ℕ) (k : ℕ) → number_of (xs ++ ys) name ≡ Some k
     → length xs ≤ k ⊎ (number_of xs name ≡ Some k)
 number_of-append [] ys name k e = inl (omega arith)

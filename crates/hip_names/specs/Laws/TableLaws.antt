@@ -62,7 +62,7 @@ module _ {V : Type 0} where
       ap (λ o. if bytes_eq x.name name then Some x.value else o) (of-push es e name)
       ∙ later_if (bytes_eq x.name name) x.value (value_of es name) (at_name (bytes_eq e.name name) e.value)
 
-  -- after a new name is added, the table finds it
+  -- After a new name is added, the table finds it.
   pub entry_added : (ns : List (List ℕ)) (vs : List V) (es : List (Entry V)) (n : List ℕ) (v : V)
       → StandsFor ns vs es
       → StandsFor (ns ++ n ∷ []) (vs ++ v ∷ []) (es ++ record { name = n; value = v } ∷ [])
@@ -74,7 +74,7 @@ module _ {V : Type 0} where
         ∙ sym (of-push es (record { name = n; value = v }) name);
   }
 
-  -- a name that is there has a value
+  -- A name that is there has a value.
   has_value : (ns : List (List ℕ)) (vs : List V) (name : List ℕ) → length ns ≡ length vs
       → is_among ns name ≡ true
       → value_beside ns vs name ≡ None → ⊥
@@ -93,7 +93,7 @@ module _ {V : Type 0} where
   kept (Some v) later h = refl
   kept None later h = h refl
 
-  -- a name that is there keeps its value
+  -- A name that is there keeps its value.
   pub entry_kept : (ns : List (List ℕ)) (vs : List V) (es : List (Entry V)) (n : List ℕ) (v : V)
       → is_among ns n ≡ true
       → StandsFor ns vs es → StandsFor ns vs (es ++ record { name = n; value = v } ∷ [])

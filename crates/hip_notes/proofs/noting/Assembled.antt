@@ -74,7 +74,7 @@ pub record Did (P : Program) (I : Input) (c0 c1 c2 c3 c4 c5 : Notes) (lines : Li
   pub r4 : c4 ≡ record c3 { hit = c4.hit; flags = c4.flags }
   pub r5 : c5 ≡ record c4 { steps = c4.steps + 1; entries = cond (has_entry e) (c4.entries + 1) c4.entries; fence = cond (fences e) (Some c4.steps) c4.fence }
 
--- the calls stood after fewer steps than these
+-- The calls stood after fewer steps than these.
 pub stood_next : (P : Program) (I : Input) (n : ℕ) (calls : List Level) → Stood P I n calls → Stood P I (suc n) calls
 stood_next P I n calls s = record { steps = s.steps; few = (let le = s.few in omega (arith, le)); are = s.are }
 
@@ -222,11 +222,11 @@ forgotten P I n region c c' h e k r = subst (λ (x : Notes). AreNoted P I n x) (
 
 -- ---- the calls are looked at
 
--- the calls that stand now
+-- The calls that stand now.
 pub stood_now : (P : Program) (I : Input) (n : ℕ) (calls : List Level) → calls ≡ levels_of (run P I n).frames → Stood P I n calls
 stood_now P I n calls e = record { steps = n; few = omega arith; are = e }
 
--- the notes after a look at the calls
+-- The notes after a look at the calls.
 pub looked_at : (P : Program) (I : Input) (n : ℕ) (c c' : Notes) → AreNoted P I n c → Stood P I n c'.calls → c' ≡ record c { calls = c'.calls } → AreNoted P I n c'
 looked_at P I n c c' h s r = subst (λ (x : Notes). AreNoted P I n x) (sym r) (record {
   steps = h.steps;

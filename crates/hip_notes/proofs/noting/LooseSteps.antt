@@ -10,14 +10,14 @@ use Rattle.hip_runs.specs.State.{Flush, StorePart}
 use Rattle.hip_notes.specs.Standing.{IsLooseAt}
 use Rattle.hip_runs.specs.StoredParts.Persistence.{fence_line, fenced_lines, flush_line, noted_fence, noted_flush}
 
--- where one line of the lines is, another was before
+-- Where one line of the lines is, another was before.
 was_there : {A : Type 0} (f : A → A) (o : Option A) (y : A) → option_map f o ≡ Some y → (x : A) × (o ≡ Some x) × (f x ≡ y)
 was_there f None y e = absurd (let z : ⊥ = cc in z)
 was_there f (Some x) y e = (x, refl, (let z : f x ≡ y = cc in z))
 
 -- ---- a fence
 
--- a line's byte that is loose after a fence was so before, by a part that is not flushed
+-- A line's byte that is loose after a fence was so before, by a part that is not flushed.
 fence_back : (l : Line StorePart) (b k : ℕ) (y : StorePart) → IsOrdered l → IsLooseBy covers (fence_line l) b k y
     → (x : StorePart) × IsLooseBy covers l b k x × (y ≡ noted_fence x) × (l.flushed ≤ k)
 fence_back l b k y o h =
@@ -40,7 +40,7 @@ flush_back flush l b k y h =
     let m = map_line-loose (noted_flush flush) covers l b k y (flushed_line-loose covers (map_line (noted_flush flush) l) b k y h) in
     (m.0, m.1, sym m.2)
 
--- the part of a byte after a flush of its line, or of another line
+-- The part of a byte after a flush of its line, or of another line.
 abbrev pub met_by : Flush → Bool → StorePart → StorePart
 met_by flush meets x = cond meets (noted_flush flush x) x
 
@@ -56,7 +56,7 @@ flushed_back flush o n ls b k y h =
     go true l at by = let r = flush_back flush l b k y by in (r.0, record { line = l; line_at = at; loose = r.1 }, r.2)
     go false l at by = (y, record { line = l; line_at = at; loose = by }, refl)
 
--- a fence right after a flush leaves no loose byte in the flushed lines
+-- A fence right after a flush leaves no loose byte in the flushed lines.
 pub persisted_back : (flush : Flush) (o n : ℕ) (ls : List (Line StorePart)) (b k : ℕ) (y : StorePart) → AreOrdered ls
     → IsLooseAt (fenced_lines (change_range (λ _ l. flush_line flush l) o n ls)) b k y
     → (x : StorePart) × IsLooseAt ls b k x × (y ≡ noted_fence x) × (has_bytes (b / LINE_SIZE) o n ≡ false)

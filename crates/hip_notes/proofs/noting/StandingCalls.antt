@@ -1,5 +1,5 @@
--- Which calls stand after some steps of a run, beside those that stood after fewer: calls of one birth at the same distance
--- from the bottom are the same, with the same calls outside of them.
+-- Which calls stand after some steps of a run, beside those that stood after fewer: calls of one birth at the same
+-- distance from the bottom are the same, with the same calls outside of them.
 use Rattle.std.proofs.Common.{◌≡◌, ℕ, zero, suc, ◌+◌, ◌-◌, ◌≤◌, ◌<◌, List, [], ◌∷◌, length, drop, Option, Some, None, slice_get, refl, sym, ap, ◌∙◌, subst, arith}
 use Rattle.std.proofs.lemmas.Option.{same_Some}
 use Rattle.hip_tree.specs.declared.program.Program.{Program}
@@ -49,7 +49,7 @@ abbrev pub SameOnes : List Level → List Level → Type 0
 SameOnes old new = (a b : ℕ) (l m : Level) → length old + b ≡ length new + a → slice_get old a ≡ Some l
     → slice_get new b ≡ Some m → l.birth ≡ m.birth → drop a old ≡ drop b new
 
--- each of these calls began before so many steps
+-- Each of these calls began before so many steps.
 abbrev AreBefore : ℕ → List Level → Type 0
 AreBefore steps ls = (k : ℕ) (l : Level) → slice_get ls k ≡ Some l → l.birth < steps
 
@@ -66,11 +66,11 @@ none_left : (ls : List Level) → drop (length ls) ls ≡ []
 none_left [] = refl
 none_left (x ∷ ls) = none_left ls
 
--- outside of all calls there is none
+-- Outside of all calls there is none.
 pub same_bottom : (old new : List Level) → drop (length old) old ≡ drop (length new) new
 same_bottom old new = none_left old ∙ sym (none_left new)
 
--- a call that began no earlier is none of the old ones
+-- A call that began no earlier is none of the old ones.
 ones_enter : (old new : List Level) (start : ℕ) → AreBefore start old → (x : Level) → start ≤ x.birth → SameOnes old new
     → SameOnes old (x ∷ new)
 ones_enter old new start h x late k a zero l m d p q e =
@@ -101,7 +101,7 @@ module _ (P : Program) (I : Input) (then : ℕ) where
   abbrev Old : List Level
   Old = levels_of (run P I then).frames
 
-  -- what holds after n steps
+  -- What holds after n steps.
   record Later (n : ℕ) : Type 0 where
     steps : (run P I then).counts.steps ≤ (run P I n).counts.steps
     ones : SameOnes Old (levels_of (run P I n).frames)

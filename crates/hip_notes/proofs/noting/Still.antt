@@ -61,7 +61,7 @@ nothing_hit events.Fence s P I hs = refl
 nothing_hit (events.Assert a n) s P I hs = refl
 nothing_hit (events.End x) s P I hs = refl
 
--- a step that shows nothing except what it prints has no entry
+-- A step that shows nothing except what it prints has no entry.
 pub still_counted : (e : Event) → is_still e ≡ true → (c : Notes)
     → record c { steps = c.steps + 1 } ≡ record c { steps = c.steps + 1; entries = cond (has_entry e) (c.entries + 1) c.entries; fence = cond (fences e) (Some c.steps) c.fence }
 still_counted events.Quiet s c = refl
@@ -98,7 +98,7 @@ still_needs (events.End x) s k = let z : ⊥ = cc in z
 
 -- ---- the notes
 
--- a step that shows nothing except what it prints, and has no new mark
+-- A step that shows nothing except what it prints, and has no new mark.
 pub still_noted : (P : Program) (I : Input) (n : ℕ) → has_ended (run P I n) ≡ false → (c : Notes) → AreNoted P I n c
     → is_still (event P I (run P I n)) ≡ true
     → AddUnlessEnded (event P I (run P I n)) c.marks.keys [] (marks_ahead P I (run P I n)) → AreNoted P I (suc n) (record c { steps = c.steps + 1 })
@@ -119,7 +119,7 @@ still_noted P I n going c h still alike =
     } in
     assembled P I n going c c c c c (record c { steps = c.steps + 1 }) h (λ k. absurd (still_needs e still k)) I.base (length I.image) refl refl did
 
--- a plain step: it has no event, and its instruction no pointer operand
+-- A plain step: it has no event, and its instruction no pointer operand.
 pub plain_noted : (P : Program) (I : Input) (n : ℕ) → has_ended (run P I n) ≡ false → event P I (run P I n) ≡ events.Quiet
     → ((operand : ℕ) → pointer_of P I (run P I n) operand ≡ None) → (c : Notes) → AreNoted P I n c → AreNoted P I (suc n) (record c { steps = c.steps + 1 })
 plain_noted P I n going quiet none c h =
@@ -135,7 +135,7 @@ pub record IsPlainAt (P : Program) (I : Input) (n : ℕ) : Type 0 where
   pub quiet : event P I (run P I n) ≡ events.Quiet
   pub pointer : (operand : ℕ) → pointer_of P I (run P I n) operand ≡ None
 
--- the notes after k plain steps more
+-- The notes after k plain steps more.
 pub plain_steps_noted : (P : Program) (I : Input) (n k : ℕ) → ((j : ℕ) → j < k → IsPlainAt P I (n + j)) → (c : Notes) → AreNoted P I n c → AreNoted P I (n + k) (record c { steps = c.steps + k })
 plain_steps_noted P I n zero plain c h =
     let steps : c.steps ≡ c.steps + 0 = omega arith in
@@ -148,7 +148,7 @@ plain_steps_noted P I n (suc k) plain c h =
     (subst (λ (x : Notes). AreNoted P I (suc (n + k)) x) (ap (λ i. record c { steps = i }) steps)
     (plain_noted P I (n + k) at.going at.quiet at.pointer (record c { steps = c.steps + k }) (plain_steps_noted P I n k (λ j lt. plain j (omega (arith, lt))) c h)))
 
--- they can be counted
+-- They can be counted.
 pub plain_steps_few : (P : Program) (I : Input) (n k : ℕ) → ((j : ℕ) → j < k → IsPlainAt P I (n + j)) → (c : Notes) → AreNoted P I n c
     → IsBounded P I (n + k) → I.limit ≤ 2 ^ 40 → longest P < 2 ^ 64 → c.steps + k < 2 ^ 128
 plain_steps_few P I n k plain c h bounded limit short =

@@ -20,7 +20,7 @@ use Rattle.hip_sound.specs.declared.fault.TypeRefusal.{TypeRefusal}
 
 -- ---- the first use without an assignment
 
--- a list has one first item that Q does not hold of
+-- A list has one first item that Q does not hold of.
 one_first : {A : Type 0} (Q : A → Type 0) (v w : List A) (x y : A) (a b : List A) → v ++ x ∷ a ≡ w ++ y ∷ b
     → All Q v
     → All Q w → (Q x → ⊥) → (Q y → ⊥) → x ≡ y
@@ -38,7 +38,7 @@ within : {A : Type 0} (Q : A → Type 0) (v : List A) (x : A) (a : List A) → A
 within Q [] x a all = All-head Q x a all
 within Q (z ∷ v) x a all = within Q v x a (All-tail Q z (v ++ x ∷ a) all)
 
--- no function before the first use without an assignment has such a use
+-- No function before the first use without an assignment has such a use.
 not_before : (P : Program) (p q : Place) (a b : List ℕ) → (u : IsFirstUnassigned P p a)
     → (v : IsFirstUnassigned P q b)
     → u.function < v.function → ⊥
@@ -76,21 +76,21 @@ one_unassigned P p q a b u v =
 
 -- ---- the first rule that is broken
 
--- the program is not what its canonical text reads as; the fault is its shape, and the place the whole program
+-- The program is not what its canonical text reads as; the fault is its shape, and the place the whole program.
 pub record Unspelled (P : Program) (fault : TypeFault) (place : Place) : Type 0 where
   pub unspelled : ¬ IsSpelled P
   pub fault_is : fault ≡ faults.BadShape
   pub place_is : place ≡ places.Whole
 
--- the program is spelled, and the first finding of the checks is this fault at this place
+-- The program is spelled, and the first finding of the checks is this fault at this place.
 pub record Breaks (P : Program) (fault : TypeFault) (place : Place) : Type 0 where
   pub spelled : IsSpelled P
   pub rule : Fault
   pub fault_is : fault ≡ fault_of rule
   pub found : (rules_check P).found ≡ Some (record { fault = rule; place = place })
 
--- the program is spelled, the checks find nothing, and at this place is the first use of a register that is not
--- assigned on every path
+-- The program is spelled, the checks find nothing, and at this place is the first use of a register that is not
+-- assigned on every path.
 pub record LacksAssignment (P : Program) (fault : TypeFault) (place : Place) : Type 0 where
   pub spelled : IsSpelled P
   pub passed : (rules_check P).found ≡ None
@@ -98,7 +98,7 @@ pub record LacksAssignment (P : Program) (fault : TypeFault) (place : Place) : T
   pub fault_is : fault ≡ faults.Unassigned path
   pub first : IsFirstUnassigned P place path
 
--- how a program breaks a rule: by its spelling, by a check, or by a path
+-- How a program breaks a rule: by its spelling, by a check, or by a path.
 abbrev BreaksARule : Program → TypeFault → Place → Type 0
 BreaksARule P fault place = Unspelled P fault place ⊎ (Breaks P fault place ⊎ LacksAssignment P fault place)
 
@@ -122,7 +122,7 @@ by_fault P faults.BadEdge place f = broken P breaks.BadEdge place f
 by_fault P faults.TooLarge place f = broken P breaks.TooLarge place f
 by_fault P faults.NoMemory place f = absurd f
 
--- the places are equal, and so are the faults, except for the path that shows a register without an assignment
+-- The places are equal, and so are the faults, except for the path that shows a register without an assignment.
 pub record IsSame (a b : TypeFault) (p q : Place) : Type 0 where
   pub fault : without_path a ≡ without_path b
   pub place : p ≡ q

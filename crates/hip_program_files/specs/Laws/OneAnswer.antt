@@ -22,11 +22,11 @@ use Rattle.hip_sound.specs.declared.fault.Place.{Place}
 use Rattle.hip_sound.specs.declared.fault.TypeFault.{TypeFault}
 use Rattle.hip_sound.specs.declared.fault.TypeRefusal.{TypeRefusal}
 
--- byte strings that one option holds are the same
+-- Byte strings that one option holds are the same.
 pub same_bytes : (o : Option (List ℕ)) (a b : List ℕ) → o ≡ Some a → o ≡ Some b → a ≡ b
 same_bytes o a b p q = let k : Some a ≡ Some b = sym p ∙ q in cc
 
--- an option that holds bytes is not None
+-- An option that holds bytes is not None.
 pub not_there : (o : Option (List ℕ)) (a : List ℕ) → o ≡ Some a → o ≡ None → ⊥
 not_there o a p q = let k : Some a ≡ None = sym p ∙ q in cc
 

@@ -10,7 +10,7 @@ use Rattle.hip_grammar.specs.declared.refusal.ParseRefusal.{ParseRefusal}
 use Rattle.hip_grammar.specs.declared.refusal.ParseRefusal.TheVariants as parse
 use Rattle.hip_tokens.specs.Tokens.{At, tokens}
 
--- two ends of one list that are equally long are equal
+-- Two ends of one list that are equally long are equal.
 same_end : (v w a b : List At) → v ++ a ≡ w ++ b → length a ≡ length b → a ≡ b
 same_end [] [] a b e same = e
 same_end [] (x ∷ w) a b e same =
@@ -19,7 +19,7 @@ same_end (x ∷ v) [] a b e same =
     absurd (let long = ap length e in omega (arith, long, same, length-append (x ∷ v) a))
 same_end (x ∷ v) (y ∷ w) a b e same = same_end v w a b (let tails : v ++ a ≡ w ++ b = cc in tails) same
 
--- different faults give different refusals
+-- Different faults give different refusals.
 stable : (a b : Fault) → ((a ≡ b → ⊥) → ⊥) → a ≡ b
 stable faults.Syntax faults.Syntax h = refl
 stable faults.Unsupported faults.Unsupported h = refl
@@ -54,7 +54,7 @@ same_refusal bytes why other l m p q =
     let line : l ≡ m = p.refused.2 ∙ ap (line_at bytes) rest ∙ sym q.refused.2 in
     ap (λ w. refusal_of w l) fault ∙ ap (refusal_of other) line
 
--- a refusal by its fault and its line
+-- A refusal by its fault and its line.
 pub record IsRefusedAs (bytes : List ℕ) (refusal : ParseRefusal) : Type 0 where
   pub why : Fault
   pub line : ℕ

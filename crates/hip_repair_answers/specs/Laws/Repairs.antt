@@ -66,14 +66,14 @@ rerun_alike P I found a b x y =
 
 -- ---- runs are answered
 
--- no report is left in the findings of the repaired program's run
+-- No report is left in the findings of the repaired program's run.
 pub nothing_left : (P : Program) (I : Input) (found after : Findings) → IsSound P → IsValid P I
     → IsFound P I found
     → IsFound (repaired_for P found) I after → after.reports ≡ []
 nothing_left P I found after sound valid is later =
     ap (λ (f : Findings). f.reports) later.is ∙ (cures P I found sound valid is).clean later.steps
 
--- there is an answer for each run
+-- There is an answer for each run.
 abbrev pub Makes : (Program → Input → Findings → Answer → Type 0) → Type 0
 Makes Texts = (P : Program) (I : Input) (found : Findings) → IsSound P → IsValid P I → IsFound P I found
     → (a : Answer) × (a.status ≡ Done) × Texts P I found a

@@ -26,7 +26,7 @@ use Rattle.hip_repairs.proofs.simulation.Harm.{nothing_held, nothing_kept}
 use Rattle.hip_repair_survival.specs.Laws.LoosensNothing.{as_durable, loosens_nothing, matched_onward}
 use Rattle.hip_repair_survival.specs.Laws.SameStores.{report_there}
 
--- a state in which something is checked next has not ended
+-- A state in which something is checked next has not ended.
 going_of : (P : Program) (I : Input) (s : State) (range : Range) → next_check P I s ≡ Some range
     → s.world.ending ≡ None
 going_of P I s range e = by s.world.ending refl e
@@ -37,7 +37,7 @@ going_of P I s range e = by s.world.ending refl e
     by None h q = h
     by (Some x) h q = absurd (let z : ⊥ = cc in z)
 
--- and the state checks the range that its event says
+-- And the state checks the range that its event says.
 next_is : (P : Program) (I : Input) (s : State) → s.world.ending ≡ None
     → next_check P I s ≡ checked_by I (event P I s)
 next_is P I s going = ap (λ (o : Option Ending). cond (is_some o) None (checked_by I (event P I s))) going

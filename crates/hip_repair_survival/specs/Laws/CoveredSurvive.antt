@@ -18,7 +18,7 @@ use Rattle.hip_repairs.proofs.Theorems.{repaired_is_sound, hoisted_calls_are_cov
 use Rattle.hip_survival.specs.Laws.TightBytes.{tight_survives}
 use Rattle.hip_repair_survival.specs.Kept.{CoveredSurvive}
 
--- a byte is not loose if the last part over it is durable
+-- A byte is not loose if the last part over it is durable.
 tight_last : (ls : List (Line StorePart)) (j : ℕ) (l : Line StorePart) → slice_get ls j ≡ Some l
     → (b k : ℕ) (x : StorePart)
     → IsLastOver covers l.parts b k x → k < l.durable

@@ -62,7 +62,7 @@ as_durable P plan skip s I v n =
     let f = follows P plan skip I (sound_callable P (sound-passes P s)) v nothing_held (nothing_kept P plan skip I) n in
     pair_durable P plan skip I f.size (run P I (matched P plan skip I n)) (run (repaired P plan skip) I n) f.pair
 
--- the number of the corresponding step begins with 0, and stays or grows by 1 at each step
+-- The number of the corresponding step begins with 0, and stays or grows by 1 at each step.
 pub matched_onward : (P : Program) (plan : Plan) (skip : Site → Bool) (I : Input) (n : ℕ)
     → (matched P plan skip I (suc n) ≡ matched P plan skip I n)
     ⊎ (matched P plan skip I (suc n) ≡ suc (matched P plan skip I n))

@@ -26,7 +26,7 @@ Lines = List (Line StorePart)
 
 -- ---- lines with the same contents
 
--- the line of the second list at the place of a line of the first
+-- The line of the second list at the place of a line of the first.
 pub same_line : (ls ls' : Lines) → map contents ls ≡ map contents ls' → (m : ℕ) (l : Line StorePart)
     → slice_get ls m ≡ Some l
     → (l' : Line StorePart) × (slice_get ls' m ≡ Some l') × (contents l' ≡ contents l)
@@ -35,7 +35,7 @@ same_line ls ls' same m l e =
     ap (λ (cs : List (List Content)). slice_get cs m) (sym same) ∙ get-map contents ls m l e in
     get-of_map contents ls' m (contents l) seen
 
--- the part of the second line at the place of a part of the first
+-- The part of the second line at the place of a part of the first.
 pub same_part : (l l' : Line StorePart) → contents l' ≡ contents l → (k : ℕ) (x : StorePart)
     → slice_get l.parts k ≡ Some x
     → (x' : StorePart) × (slice_get l'.parts k ≡ Some x')
@@ -60,8 +60,8 @@ same_place ls ls' same m k t h = go (slice_get ls m) refl h
           subst (λ o. HasPlace o k x.0.step) (sym r.1) (record { part = x.0; there = x.1; step_is = refl }),
         )
 
--- a byte that is loose in one line is loose in the other by the part at the same place, if no more of the other's parts
--- are durable
+-- A byte that is loose in one line is loose in the other by the part at the same place, if no more of the other's parts
+-- are durable.
 same_loose : (l l' : Line StorePart) → contents l' ≡ contents l → l'.durable ≤ l.durable
     → (b k : ℕ) (x : StorePart)
     → IsLooseBy covers l b k x → (x' : StorePart) × IsLooseBy covers l' b k x'
@@ -89,7 +89,7 @@ module _ (P Q : Program) (I : Input) (steps_of : ℕ → ℕ)
       → (u : ℕ) × HasPlace (slice_get (run Q I n).lines m) k u
   back n m k t h = same_place (run P I (steps_of n)).lines (run Q I n).lines (sym (same n)) m k t h
 
-  -- the parts at the same place of both runs' lines were stored in corresponding steps
+  -- The parts at the same place of both runs' lines were stored in corresponding steps.
   pub same_step : (n m k t u : ℕ) → HasPlace (slice_get (run Q I n).lines m) k t
       → HasPlace (slice_get (run P I (steps_of n)).lines m) k u → u ≡ steps_of t
   same_step n m k t u a b = by (onward t) (order (steps_of t) u)
@@ -119,7 +119,7 @@ module _ (P Q : Program) (I : Input) (steps_of : ℕ → ℕ)
       by (inl e) (inl le) = absurd (omega (arith, e, le, upper))
       by (inr e) (inl le) = omega (arith, e, le, upper)
 
-  -- the line of P's run at the place of one of Q's, and how much of it is durable
+  -- The line of P's run at the place of one of Q's, and how much of it is durable.
   pub line_there : (n m : ℕ) (l' : Line StorePart) → slice_get (run Q I n).lines m ≡ Some l'
       → (l : Line StorePart) × (slice_get (run P I (steps_of n)).lines m ≡ Some l) × (contents l ≡ contents l')
       × (l.durable ≤ l'.durable)
@@ -127,14 +127,14 @@ module _ (P Q : Program) (I : Input) (steps_of : ℕ → ℕ)
       let r = same_line (run Q I n).lines (run P I (steps_of n)).lines (same n) m l' e in
       (r.0, r.1, r.2, (durable n m r.0 l' r.1 e).1)
 
-  -- a byte that is loose in Q's run is loose in P's
+  -- A byte that is loose in Q's run is loose in P's.
   pub loose_there : (n b : ℕ) → IsLooseAt (run Q I n) b → IsLooseAt (run P I (steps_of n)) b
   loose_there n b h =
       let r = line_there n (b / 64) h.0 h.1 in
       let x = same_loose h.0 r.0 r.2 r.3 b h.2.0 h.2.1 h.2.2 in
       (r.0, r.1, (h.2.0, x.0, x.1))
 
-  -- for each report of Q's run P's run has one of the same store
+  -- For each report of Q's run P's run has one of the same store.
   pub report_there : (n : ℕ) (range : Range) (r' : Report) → In r' (check_reports (run Q I n) (Some range))
       → HasReportOf P Q I steps_of n range r'
   report_there n range r' i =

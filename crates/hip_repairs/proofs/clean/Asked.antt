@@ -31,7 +31,7 @@ module _ (P : Program) (plan : Plan) (found : Findings) (contains : Contains pla
 
 -- ---- the chosen level
 
--- a level of the path: 0, or one after a call that may be chosen
+-- A level of the path: 0, or one after a call that may be chosen.
 abbrev pub IsLevel : ℕ → ℕ → List Site → ℕ → Type 0
 IsLevel first more path level = (k : ℕ) × (k < more) × (k < length path) × (level ≡ first + k)
 
@@ -75,7 +75,7 @@ count_closed : (standing closed ls : List Level) → ((v : Level) → In v close
 count_closed standing [] ls c h = count_open standing ls h
 count_closed standing (l ∷ closed) ls c h = rw (c l (inl refl)) (ap suc (count_closed standing closed ls (λ v i. c v (inr i)) h))
 
--- the call at a place before the number of those that have returned is one of these
+-- The call at a place before the number of those that have returned is one of these.
 call_at : (closed ls : List Level) (k : ℕ) → k < length closed → (v : Level) × In v closed × (slice_get (map (λ l. l.call) (closed ++ ls)) k ≡ Some v.call)
 call_at [] ls k h = absurd (omega arith)
 call_at (l ∷ closed) ls zero h = (l, inl refl, refl)
@@ -84,7 +84,7 @@ call_at (l ∷ closed) ls (suc k) h = let r = call_at closed ls k (omega arith) 
 in_closed : (closed ls : List Level) (v : Level) → In v closed → In v (closed ++ ls)
 in_closed closed ls v i = append-left closed ls v i
 
--- a call that stands is open
+-- A call that stands is open.
 pub in_open : (standing : List Level) (v : Level) → In v standing → is_open standing v ≡ true
 in_open [] v i = absurd i
 in_open (l ∷ ls) v (inl e) = let q : nat_eq l.birth v.birth ≡ true = subst (λ (x : Level). nat_eq x.birth v.birth ≡ true) e (let z : nat_eq v.birth v.birth ≡ true = grind (arith, nat_tests) in z) in rw q refl
@@ -94,7 +94,7 @@ in_open (l ∷ ls) v (inr i) = go (nat_eq l.birth v.birth) (in_open ls v i)
     go true h = refl
     go false h = h
 
--- where a level after a call is chosen, that call has returned
+-- Where a level after a call is chosen, that call has returned.
 pub record IsReturned (standing levels : List Level) (k : ℕ) : Type 0 where
   pub call : Level
   pub of : In call levels

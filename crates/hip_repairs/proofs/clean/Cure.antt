@@ -93,7 +93,7 @@ and_true : (a b : Bool) → a && b ≡ true → (a ≡ true) × (b ≡ true)
 and_true true b e = (refl, e)
 and_true false b e = absurd (let z : ⊥ = cc in z)
 
--- a loose part is a part of the lines, and its step is the given one
+-- A loose part is a part of the lines, and its step is the given one.
 loose_from_part : (o n made g p k : ℕ) (xs : List StorePart) (q : LoosePart) → In q (loose_from o n made g p k xs) → In q.part xs × (q.part.step ≡ made)
 loose_from_part o n made g p k [] q i = absurd i
 loose_from_part o n made g p k (x ∷ xs) q i = go (nat_eq x.step made && (nat_le g k && is_last o n x xs)) refl (λ j. loose_from_part o n made g p (suc k) xs q j) i
@@ -116,7 +116,7 @@ loose_part o n made (l ∷ ls) q i = go (in-append (loose_in o n made l) (loose_
     go (inl j) rest = let r = loose_from_part o n made l.durable l.flushed 0 l.parts q j in (inl r.0, r.1)
     go (inr j) rest = let r = rest j in (inr r.0, r.1)
 
--- whether a part is the last one over a byte depends on contents alone
+-- Whether a part is the last one over a byte depends on contents alone.
 abbrev content_of : StorePart → Content
 content_of p = record { offset = p.offset; bytes = p.bytes }
 
@@ -144,7 +144,7 @@ cons_not x xs e = cc
 nil_not : {A : Type 0} (x : A) (xs : List A) → [] ≡ x ∷ xs → ⊥
 nil_not x xs e = cc
 
--- the facts about a part at place k of a line, where the repaired program's line has g' durable and p' flushed parts
+-- The facts about a part at place k of a line, where the repaired program's line has g' durable and p' flushed parts.
 module _ (plan : Plan) (up : List Level) (F : Flush → Type 0) (o n : ℕ) (Whole : ℕ → LoosePart → Type 0) where
   abbrev Cured : ℕ → ℕ → ℕ → Type 0
   Cured p g' p' = (x : StorePart) (k : ℕ) → Whole x.step (record { part = x; flushed = nat_lt k p }) → Safe plan up F g' p' k x → (k < p → (f : Flush) × (x.first_flush ≡ Some f)) → k < g'
@@ -217,13 +217,13 @@ module _ (P : Program) (plan : Plan) (found : Findings) (contains : Contains pla
   abbrev report : LoosePart → List LoosePart → Report
   report p ps = report_by up (suc s.counts.entries) p.part (p ∷ ps)
 
-  -- the report of a store that has loose parts is one of those found
+  -- The report of a store that has loose parts is one of those found.
   found_there : (made : ℕ) (p : LoosePart) (ps : List LoosePart) → loose made ≡ p ∷ ps → made < s.counts.steps → In (report p ps) found.reports
   found_there made p ps e lt =
       there (report p ps) (in_flat (λ m. report_of up (suc s.counts.entries) (loose m)) (range_with_len 0 s.counts.steps) made (report p ps) (in_range 0 s.counts.steps made (omega arith) (omega arith))
       (subst (λ (qs : List LoosePart). In (report p ps) (report_of up (suc s.counts.entries) qs)) (sym e) (inl refl)))
 
-  -- a loose part x at place k of a line; g' parts of the repaired program's line are durable, and p' are flushed
+  -- A loose part x at place k of a line; g' parts of the repaired program's line are durable, and p' are flushed.
   module _ (x : StorePart) (k p g' p' : ℕ) (safe : Safe plan up (Known s.lines) g' p' k x) (noted : k < p → (f : Flush) × (x.first_flush ≡ Some f)) (made : PartOf s.lines x) where
     abbrev here : LoosePart
     here = record { part = x; flushed = nat_lt k p }
@@ -247,7 +247,7 @@ module _ (P : Program) (plan : Plan) (found : Findings) (contains : Contains pla
       same_fenced : q.part.fenced ≡ x.fenced
       same_fenced = history.fenced q.part x q_in.0 made q_in.1
 
-      -- all loose parts are flushed
+      -- All loose parts are flushed.
       by_fence : all_flushed (q ∷ qs) ≡ true → k < g'
       by_fence all =
           let lt : k < p = all_in (q ∷ qs) is_loose all in
@@ -266,7 +266,7 @@ module _ (P : Program) (plan : Plan) (found : Findings) (contains : Contains pla
           asks : (f : Flush) → latest_flush (q ∷ qs) ≡ Some f → all_flushed (q ∷ qs) ≡ true → asks_fence (report q qs).kind (choice P found (report q qs)) (report q qs).flush_site (report q qs).path f.site ≡ true
           asks f is all = rw (all, is) (site_same f.site)
 
-      -- the store itself is repaired
+      -- The store itself is repaired.
       level_0 : all_flushed (q ∷ qs) ≡ false → best_on P found (closed_count up q.part.levels) (q.part.site ∷ map (λ l. l.call) q.part.levels) ≡ 0 → k < g'
       level_0 some level = go q.part.fenced refl
         where
@@ -290,7 +290,7 @@ module _ (P : Program) (plan : Plan) (found : Findings) (contains : Contains pla
           go true t = safe.fenced x_flush (sym same_fenced ∙ t)
           go false t = safe.both x_flush (subst (λ (y : Site). has_site plan.fence_after y ≡ true) same_site_as (fence_asked t))
 
-      -- a call that has returned is hoisted
+      -- A call that has returned is hoisted.
       level_up : all_flushed (q ∷ qs) ≡ false → IsLevel 1 (closed_count up q.part.levels) (map (λ l. l.call) q.part.levels) (best_on P found (closed_count up q.part.levels) (q.part.site ∷ map (λ l. l.call) q.part.levels)) → k < g'
       level_up some level =
           let v = returned_at up q.part.levels (history.split q.part q_in.0) level.0 level.1 in
@@ -324,7 +324,7 @@ module _ (P : Program) (plan : Plan) (found : Findings) (contains : Contains pla
         go [] e j = absurd j
         go (q ∷ qs) e j = cured_here q qs e j
 
-  -- so nothing is loose in the lines across
+  -- So nothing is loose in the lines across.
   pub none_loose : (ls' : Lines) → Ahead s.lines ls' → AllKept plan up (Known s.lines) s.lines ls' → (made : ℕ) → loose_parts range.offset range.size ls' made ≡ []
   none_loose ls' ahead kept made =
       none_of_lines plan up (Known s.lines) range.offset range.size (λ m q. In q (loose m)) s.lines ls' ahead kept history.flushed (λ m q i. i)

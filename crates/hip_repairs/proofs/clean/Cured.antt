@@ -43,7 +43,7 @@ ended_next P I s e = go s.world.ending e
     go None h = absurd (let z : ⊥ = cc in z)
     go (Some x) h = refl
 
--- a run that has ended stays ended
+-- A run that has ended stays ended.
 ended_later : (P : Program) (I : Input) (m k : ℕ) → has_ended (run P I m) ≡ true → has_ended (run P I (k + m)) ≡ true
 unfolding run
 ended_later P I m zero e = let q : 0 + m ≡ m = omega arith in subst (λ n. has_ended (run P I n) ≡ true) (sym q) e
@@ -52,7 +52,7 @@ ended_later P I m (suc k) e =
     let q : suc k + m ≡ suc (k + m) = omega arith in
     subst (λ n. has_ended (run P I n) ≡ true) (sym q) (ap has_ended (ended_next P I (run P I (k + m)) before) ∙ before)
 
--- the reports of each check of a run's first steps are among theirs
+-- The reports of each check of a run's first steps are among theirs.
 check_in : (P : Program) (I : Input) (j k : ℕ) (r : Report) → In r (check_reports (run P I j) (next_check P I (run P I j))) → In r (reports P I (k + suc j))
 unfolding reports
 check_in P I j zero r i = let q : 0 + suc j ≡ suc j = omega arith in subst (λ n. In r (reports P I n)) (sym q) (append-right (reports P I j) _ r i)
@@ -72,7 +72,7 @@ module _ (P : Program) (plan : Plan) (skip : Site → Bool) (I : Input) (good : 
   abbrev Q : Program
   Q = repaired P plan skip
 
-  -- a report of a check before the end is one of those found
+  -- A report of a check before the end is one of those found.
   report_found : (j : ℕ) (r : Report) → has_ended (run P I j) ≡ false → In r (check_reports (run P I j) (next_check P I (run P I j))) → In r found.reports
   report_found j r going i = go (before j is_found.steps)
     where
@@ -89,7 +89,7 @@ module _ (P : Program) (plan : Plan) (skip : Site → Bool) (I : Input) (good : 
       go (inl k) = subst (λ (f : Findings). In r f.reports) (sym is_found.is) (subst (λ n. In r (reports P I n)) k.1 (check_in P I j k.0 r i))
       go (inr k) = absurd (let e : has_ended (run P I j) ≡ true = subst (λ n. has_ended (run P I n) ≡ true) k.1 (ended_later P I is_found.steps k.0 is_found.ended) in let z : ⊥ = cc in z)
 
-  -- a step of the repaired program has no report
+  -- A step of the repaired program has no report.
   step_clean : (n : ℕ) → check_reports (run Q I n) (next_check Q I (run Q I n)) ≡ []
   step_clean n = go (next_check Q I (run Q I n)) refl
     where

@@ -155,7 +155,7 @@ module _ (P : Program) (plan : Plan) (skip : Site → Bool) (I : Input) (good : 
     abbrev event_by' : Option End → List Instr → Event
     event_by' o is = event_at I w fs' (deed_of (repaired P plan skip) I w (length fs') frame' o is)
 
-    -- how an event of the repaired program relates to the program's, at an inserted instruction and elsewhere
+    -- How an event of the repaired program relates to the program's, at an inserted instruction and elsewhere.
     abbrev Suits : Bool → Event → Event → Type 0
     Suits inserted x x' = (inserted ≡ true → checked_by I x' ≡ None) × (inserted ≡ false → x' ≡ x)
 
@@ -188,7 +188,7 @@ module _ (P : Program) (plan : Plan) (skip : Site → Bool) (I : Input) (good : 
         (subst (λ (is : List Instr). Suits (is_inserted (pend ++ more)) (event_by (end_at P frame) is) (event_by' (end_at P frame) (instrs_of (pend ++ more)))) (sym e)
         (ready_suits (end_at P frame) pend range fenced r)))))
 
-  -- at a state that has not ended
+  -- At a state that has not ended.
   pub record Checks (s s' : State) : Type 0 where
     pub inserted : stands_inserted P plan skip s' ≡ true → checked_by I (event (repaired P plan skip) I s') ≡ None
     pub same : stands_inserted P plan skip s' ≡ false → event (repaired P plan skip) I s' ≡ event P I s

@@ -1,5 +1,5 @@
--- What the plan's flushes and fences keep: which of the program's parts of stores are flushed and durable in the repaired program's
--- run.
+-- What the plan's flushes and fences keep: which of the program's parts of stores are flushed and durable in the
+-- repaired program's run.
 use Rattle.std.proofs.Common.{◌≡◌, ◌⊎◌, inl, inr, ℕ, zero, suc, ◌+◌, ◌-◌, ◌<◌, ◌≤◌, Bool, true, false, cond, List, [], ◌∷◌, ◌++◌, map, length, Option, Some, None, refl, sym, ap, ◌∙◌, subst, arith, length-append}
 use Rattle.std.proofs.lemmas.List.{length-map}
 use Rattle.hip_tree.specs.Sites.{has_site}
@@ -12,14 +12,14 @@ use Rattle.hip_runs.specs.State.{Level, Flush, StorePart}
 use Rattle.hip_repairs.specs.declared.plan.Plan.{Plan}
 use Rattle.hip_repairs.proofs.simulation.Facts.{Lines, fence_if}
 
--- What holds of the part x of the program at place k, where the repaired program's line has these numbers of durable and of flushed
--- parts: by the calls that the plan adds, and by the first flushes that are known.
+-- What holds of the part x of the program at place k, where the repaired program's line has these numbers of durable
+-- and of flushed parts: by the calls that the plan adds, and by the first flushes that are known.
 pub record Safe (plan : Plan) (up : List Level) (F : Flush → Type 0) (durable flushed k : ℕ) (x : StorePart) : Type 0 where
   pub known : (f : Flush) → x.first_flush ≡ Some f → k < flushed
   pub flushes : has_site plan.flush_after x.site ≡ true → k < flushed
   pub both : has_site plan.flush_after x.site ≡ true → has_site plan.fence_after x.site ≡ true → k < durable
   pub fenced : has_site plan.flush_after x.site ≡ true → x.fenced ≡ true → k < durable
-  -- a planned fence after a flush makes all durable that were flushed
+  -- A planned fence after a flush makes all durable that were flushed.
   pub fences : (f h : Flush) → x.first_flush ≡ Some f → F h → f.step ≤ h.step → has_site plan.fence_after h.site ≡ true → k < durable
   pub under : (v : Level) → In v x.levels → has_site plan.hoist v.call ≡ true → k < flushed
   pub closed : (v : Level) → In v x.levels → has_site plan.hoist v.call ≡ true → (k < durable) ⊎ In v up
@@ -52,9 +52,9 @@ module _ (plan : Plan) (up : List Level) where
   safe_append F g p k [] x a s = let e : k + 0 ≡ k = omega arith in (subst (λ j. Safe plan up F g p j x) e s, tt)
   safe_append F g p k (y ∷ xs) x a s = let e : k + suc (length xs) ≡ suc k + length xs = omega arith in (a.0, safe_append F g p (suc k) xs x a.1 (subst (λ j. Safe plan up F g p j x) e s))
 
-  -- a flush of the line
+  -- A flush of the line.
   module _ (F F' : Flush → Type 0) (flush : Flush) (more : (h : Flush) → F' h → (h ≡ flush) ⊎ F h) (timed : (h : Flush) → F h → h.step < flush.step) where
-    -- a planned fence after a known flush, which is this one or an earlier one
+    -- A planned fence after a known flush, which is this one or an earlier one.
     fences_now : (k g : ℕ) (o : Option Flush) (f h : Flush) → earlier o flush ≡ Some f → f.step ≤ h.step → has_site plan.fence_after h.site ≡ true → (h ≡ flush) ⊎ F h → (has_site plan.fence_after flush.site ≡ true → k < g) → ((f h : Flush) → o ≡ Some f → F h → f.step ≤ h.step → has_site plan.fence_after h.site ≡ true → k < g) → k < g
     fences_now k g o f h e le q (inl same) now old = now (subst (λ (x : Flush). has_site plan.fence_after x.site ≡ true) same q)
     fences_now k g None f h e le q (inr i) now old = let same : f ≡ flush = cc in let t = timed h i in let le' : flush.step ≤ h.step = subst (λ (x : Flush). x.step ≤ h.step) same le in absurd (omega arith)
@@ -75,7 +75,7 @@ module _ (plan : Plan) (up : List Level) where
       safe_flush g p g' p' (suc k) xs hg (omega arith) (λ h. omega (arith, hs h)) a.1,
     )
 
-    -- a line that the flush leaves as it is, which the planned fence makes durable as far as it is flushed
+    -- A line that the flush leaves as it is, which the planned fence makes durable as far as it is flushed.
     safe_beside : (g p g' k : ℕ) (xs : List StorePart) → g ≤ g' → (has_site plan.fence_after flush.site ≡ true → p ≤ g') → AllSafe plan up F g p k xs → AllSafe plan up F' g' p k xs
     safe_beside g p g' k [] hg hs a = tt
     safe_beside g p g' k (x ∷ xs) hg hs a = (
@@ -95,7 +95,7 @@ module _ (plan : Plan) (up : List Level) where
         fences_beside f h e le q (inl same) = let z = hs (subst (λ (y : Flush). has_site plan.fence_after y.site ≡ true) same q) in let y = a.0.known f e in omega arith
         fences_beside f h e le q (inr i) = omega (arith, a.0.fences f h e i le q)
 
-  -- a fence of the line
+  -- A fence of the line.
   safe_fence : (F F' : Flush → Type 0) → (g p g' k : ℕ) (xs : List StorePart) → g ≤ g' → p ≤ g' → AllSafe plan up F g p k xs → AllSafe plan up F' g' p k (map noted_fence xs)
   safe_fence F F' g p g' k [] hg hp a = tt
   safe_fence F F' g p g' k (x ∷ xs) hg hp a = (
@@ -111,7 +111,7 @@ module _ (plan : Plan) (up : List Level) where
     safe_fence F F' g p g' (suc k) xs hg hp a.1,
   )
 
-  -- a flush of the line with a fence after it: all is durable
+  -- A flush of the line with a fence after it: all is durable.
   safe_persist : (F F' : Flush → Type 0) (flush : Flush) (g p g' p' k : ℕ) (xs : List StorePart) → g ≤ g' → k + length xs ≤ p' → k + length xs ≤ g' → AllSafe plan up F g p k xs → AllSafe plan up F' g' p' k (map noted_fence (map (noted_flush flush) xs))
   safe_persist F F' flush g p g' p' k [] hg hp hs a = tt
   safe_persist F F' flush g p g' p' k (x ∷ xs) hg hp hs a = (
@@ -301,13 +301,13 @@ module _ (plan : Plan) (up : List Level) where
 
   -- ---- a store of both, and then the inserted flush and fence
 
-  -- what is inserted after a store at site s: perhaps a flush, perhaps a fence
+  -- What is inserted after a store at site s: perhaps a flush, perhaps a fence.
   pub record Wants (s : Site) (b c : Bool) : Type 0 where
     pub flush : has_site plan.flush_after s ≡ true → b ≡ true
     pub fence : has_site plan.fence_after s ≡ true → c ≡ true
     pub hoisted : (v : Level) → In v up → has_site plan.hoist v.call ≡ true → b ≡ true
 
-  -- a part of a store that was just made
+  -- A part of a store that was just made.
   pub record IsNew (s : Site) (x : StorePart) : Type 0 where
     pub fresh : x.first_flush ≡ None
     pub unfenced : x.fenced ≡ false
@@ -370,7 +370,7 @@ module _ (plan : Plan) (up : List Level) where
         within = omega (arith, a.within, y);
       }
 
-  -- a line that neither the store nor the flush reaches
+  -- A line that neither the store nor the flush reaches.
   other_one : (F : Flush → Type 0) (c : Bool) (l l' : Line StorePart) → Kept plan up F l l' → Kept plan up F l (fence_one c l')
   other_one F true l l' a = more_fence_one F l l' a
   other_one F false l l' a = a

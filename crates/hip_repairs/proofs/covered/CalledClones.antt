@@ -33,7 +33,7 @@ use Rattle.hip_repairs.proofs.simulation.Facts.{Lines}
 use Rattle.hip_repairs.proofs.simulation.Pairs.{nothing, fence, Ready, quiet, flush, Tied, tied, Related, related}
 use Rattle.hip_repairs.proofs.simulation.Sim.{defined_callee, called_twin, same_extern}
 
--- a call of a function that is numbered from N up
+-- A call of a function that is numbered from N up.
 record IsClonesCall (Q : Program) (N : ℕ) (o : Option Instr) : Type 0 where
   dest : Option (List ℕ)
   ret : Option Scalar
@@ -65,7 +65,7 @@ drop_from [] k i e = absurd (let z : ⊥ = cc in z)
 drop_from (x ∷ xs) zero i e = (xs, ap (λ y. y ∷ xs) (same_Some x i e))
 drop_from (x ∷ xs) (suc k) i e = drop_from xs k i e
 
--- what a call was before its callee was renamed
+-- What a call was before its callee was renamed.
 record IsRenamedCall (clones : List Clone) (i : Instr) (b : Bool) (dest : Option (List ℕ)) (ret : Option Scalar) (callee' : List ℕ) (args : List Arg) : Type 0 where
   callee : List ℕ
   is : i ≡ Call dest ret callee args
@@ -80,7 +80,7 @@ renamed_call clones (Call d r c a) b dest ret callee' args e =
     record { callee = c; is = λ x. Call (dests x) (rets x) c (given x); name = sym names }
 renamed_call clones i b dest ret callee' args e = cc
 
--- a call of a function is a turn
+-- A call of a function is a turn.
 call_is_turn : (dest : Option (List ℕ)) (ret : Option Scalar) (callee : List ℕ) (args : List Arg) → call_of callee ≡ None → is_turn (Call dest ret callee args) ≡ true
 call_is_turn dest ret callee args e = ap (λ o. not (is_flush_or_fence o)) e
 
@@ -94,7 +94,7 @@ module _ (P : Program) (plan : Plan) (skip : Site → Bool) (good : IsCallable P
   abbrev N : ℕ
   N = length P.functions
 
-  -- nothing that is inserted stands next where a function is called
+  -- Nothing that is inserted stands next where a function is called.
   none_inserted : (callee' : List ℕ) (h : ℕ) → function_number Q callee' ≡ Some h → (dest : Option (List ℕ)) (ret : Option Scalar) (args : List Arg) (i : Instr) → is_turn i ≡ false → i ≡ Call dest ret callee' args → ⊥
   none_inserted callee' h found dest ret args i still same =
       let turn = call_is_turn dest ret callee' args (still_free P plan skip good callee' h found) in
@@ -105,7 +105,7 @@ module _ (P : Program) (plan : Plan) (skip : Site → Bool) (good : IsCallable P
     abbrev to_clone : Bool
     to_clone = clone || has_site plan.hoist (record { function = f; block = b; index = k })
 
-    -- the call of the program that has become this call
+    -- The call of the program that has become this call.
     record IsCalled : Type 0 where
       callee : List ℕ
       here : slice_get (body_at P f b) k ≡ Some (Call dest ret callee args)
@@ -138,7 +138,7 @@ module _ (P : Program) (plan : Plan) (skip : Site → Bool) (good : IsCallable P
             let there : call_of callee' ≡ Some x = ap call_of same ∙ e in
             absurd (let z : ⊥ = cc in z)
 
-    -- the code of the repaired program begins with the call, so that of the program with the call that it was
+    -- The code of the repaired program begins with the call, so that of the program with the call that it was.
     first_call : (rest : List Instr) → drop k (body_at P f b) ≡ rest → (after : List Instr) → instrs_of (repaired_body (clones_of P plan) (wanted_by plan skip) clone f b k rest) ≡ Call dest ret callee' args ∷ after → IsCalled
     first_call [] at after e = absurd (let z : ⊥ = cc in z)
     first_call (i ∷ is) at after e =
@@ -151,7 +151,7 @@ module _ (P : Program) (plan : Plan) (skip : Site → Bool) (good : IsCallable P
     called_there I w regs pend range fenced (quiet fence) rest at after e = absurd (none_inserted callee' h found dest ret args the_fence refl (head_same _ _ _ _ e))
     called_there I w regs pend range fenced (flush i a n still acts q) rest at after e = absurd (none_inserted callee' h found dest ret args i still (head_same _ _ _ _ e))
 
-  -- the states whose top frames are these
+  -- The states whose top frames are these.
   by_frames : (I : Input) (w : World) (g g' : Frame) (fs fs' : List Frame) (ls ls' : Lines) (c c' : Counts) (clone : Bool) (pend : List Marked) (range : Option (ℕ × ℕ)) (fenced : Bool) → w.ending ≡ None →
       Tied P plan skip clone pend g g' → Ready P plan skip I w g.registers pend range fenced → IsCallFrom Q N (instr_here Q g') →
       CallsClone P Q (record { world = w; frames = g ∷ fs; lines = ls; counts = c }) (record { world = w; frames = g' ∷ fs'; lines = ls'; counts = c' })
@@ -170,7 +170,7 @@ module _ (P : Program) (plan : Plan) (skip : Site → Bool) (good : IsCallable P
         is_clone = is.is_clone;
       }
 
-  -- where the repaired program calls a clone
+  -- Where the repaired program calls a clone.
   pub calls_clone_there : (I : Input) (Holds : List Level → Lines → Lines → Type 0) (n : ℕ) (s s' : State) → Related P plan skip I Holds n s s' → s'.world.ending ≡ None → (c : Frame) (rest : List Frame) → s'.frames ≡ c ∷ rest →
       IsCallFrom Q N (instr_here Q c) → CallsClone P Q s s'
   calls_clone_there I Holds n s s' (related {w = w} {f = g} {f' = g'} {fs = fs} {fs' = fs'} {ls = ls} {ls' = ls'} {c = counts} {c' = counts'} {pend = pend} {range = range} {fenced = fenced} {clone = clone} t r b a holds le) going c rest e call =

@@ -99,7 +99,7 @@ module _ (P : Program) (plan : Plan) (skip : Site → Bool) (I : Input) where
   abbrev pub CloneFlushed : List Level → Lines → Lines → Type 0
   CloneFlushed up ls ls' = IsQuiet P skip → AllFlushed (length P.functions) ls'
 
-  -- a store after which no flush is inserted is none of a clone's
+  -- A store after which no flush is inserted is none of a clone's.
   no_clone : (planned clone skipped : Bool) → skipped ≡ false → planned || (clone && not skipped) ≡ false → clone ≡ false
   no_clone true clone skipped e h = absurd (let z : ⊥ = cc in z)
   no_clone false true true e h = absurd (let z : ⊥ = cc in z)

@@ -38,7 +38,7 @@ use Rattle.hip_repairs.proofs.covered.SinceCall.{SinceClones, going, last_before
 
 -- ---- a fence
 
--- what a call of a fence does
+-- What a call of a fence does.
 record ActsFence (Q : Program) (i : Instr) : Type 0 where
   no_turn : is_turn i ≡ false
   fences : (I : Input) (w : World) (below : ℕ) (regs : Registers) → instr_action Q I w below regs i ≡ Fences
@@ -67,7 +67,7 @@ module _ (Q : Program) where
   acts_fence (Store ty value addr align) h = absurd h
   acts_fence (Gep dest inbounds ty base indices) h = absurd h
 
-  -- the lines after a fence
+  -- The lines after a fence.
   carry_fence : (I : Input) (w : World) (f : Frame) (fs : List Frame) (ls : Lines) (c d : Counts) (i : Instr) → ActsFence Q i → (carry_out I w f fs ls c d (record { turn = is_turn i; action = instr_action Q I w (length fs) f.registers i })).lines ≡ fenced_lines ls
   unfolding carry_out perform
   carry_fence I w f fs ls c d i a = rw (a.no_turn, a.fences I w (length fs) f.registers) refl
@@ -82,7 +82,7 @@ module _ (Q : Program) where
 
 -- ---- places in lists
 
--- an item and what stands after it
+-- An item and what stands after it.
 record IsAt {A : Type 0} (xs : List A) (k : ℕ) (o : Option A) : Type 0 where
   item : A
   after : List A
@@ -99,7 +99,7 @@ flushed_at N p j k [] x a e h = absurd (let z : ⊥ = cc in z)
 flushed_at N p j zero (y ∷ xs) x a e h = let z : y ≡ x = cc in let r = a.0 (subst (λ (u : StorePart). N ≤ u.site.function) (sym z) h) in omega arith
 flushed_at N p j (suc k) (y ∷ xs) x a e h = let r = flushed_at N p (suc j) k xs x a.1 e h in omega arith
 
--- a line after a fence
+-- A line after a fence.
 record IsFenced (N : ℕ) (ls : Lines) (l : Line StorePart) : Type 0 where
   flushed : IsFlushed N l
   durable : l.durable ≡ l.flushed
@@ -145,7 +145,7 @@ module _ (P : Program) (plan : Plan) (skip : Site → Bool) (good : IsCallable P
     frames_there : (n : ℕ) (s s' : State) → Related P plan skip I Holds n s s' → (f : Frame) × (fs : List Frame) × (s'.frames ≡ f ∷ fs)
     frames_there n s s' (related {f' = f'} {fs' = fs'} t r b a h le) = (f', fs', refl)
 
-  -- the code from a frame's place on: the inserted instructions that stand next, and then more
+  -- The code from a frame's place on: the inserted instructions that stand next, and then more.
   code_there : {clone : Bool} {pend : List Marked} (f f' : Frame) → Tied P plan skip clone pend f f' → (more : List Marked) × (code_at Q f' ≡ instrs_of (pend ++ more))
   code_there f f' (tied {clone = clone} {f = g} {f' = g'} {b = b} {k = k} {k' = k'} rest tw e e' same) = (
     repaired_body (clones_of P plan) (wanted_by plan skip) clone g b k rest,
@@ -153,7 +153,7 @@ module _ (P : Program) (plan : Plan) (skip : Site → Bool) (good : IsCallable P
   )
 
   module _ (I : Input) (still : IsQuiet P skip) where
-    -- at a fence, the lines after it
+    -- At a fence, the lines after it.
     flushed_pending : (w : World) (regs : Registers) (pend more : List Marked) (range : Option (ℕ × ℕ)) (fenced : Bool) (site : Flush) (ls : Lines) (i : Instr) (is : List Instr) → Ready P plan skip I w regs pend range fenced → AllFlushed N (pending_lines I site range fenced ls) →
         instrs_of (pend ++ more) ≡ i ∷ is → ActsFence Q i → AllFlushed N (fenced_lines ls)
     flushed_pending w regs pend more range fenced site ls i is (quiet nothing) h e a = all_fenced N ls h

@@ -33,7 +33,7 @@ drop_over [] xs ys = refl
 drop_over (x ∷ front) xs ys = drop_over front xs ys
 
 module _ (clones : List Clone) (w : Wanted) (clone : Bool) (f b : ℕ) where
-  -- what stands in the repaired body for the instruction at a place, and after it
+  -- What stands in the repaired body for the instruction at a place, and after it.
   abbrev repaired_from : ℕ → Instr → List Instr → List Marked
   repaired_from k i is = repaired_body clones w clone f b k (i ∷ is)
 
@@ -59,7 +59,7 @@ module _ (P : Program) (plan : Plan) (skip : Site → Bool) (good : IsCallable P
   abbrev the_call : Instr
   the_call = Call dest ret (clone_name (clones_of P plan) callee) args
 
-  -- the function that the call names
+  -- The function that the call names.
   clone_of_callee : instr_of P s ≡ Some (Call dest ret callee args) → (h : ℕ) × IsClone P Q g h × IsCallOf Q h (Some the_call)
   clone_of_callee i =
       let there = number_there P callee g number in
@@ -67,7 +67,7 @@ module _ (P : Program) (plan : Plan) (skip : Site → Bool) (good : IsCallable P
       let high = twin.twin.high refl in
       (twin.number, twin_is_clone P plan skip true (clone_name (clones_of P plan) callee) g there.0 there.1 twin (omega (arith, high.1)), twin.found)
 
-  -- the body from the call's place on
+  -- The body from the call's place on.
   call_then : (clone : Bool) (rest : List Instr) → instrs_of (repaired_body (clones_of P plan) w clone s.function s.block s.index (Call dest ret callee args ∷ rest))
       ≡ the_call ∷ the_fence ∷ instrs_of (repaired_body (clones_of P plan) w clone s.function s.block (suc s.index) rest)
   call_then clone rest = rw (or_right clone (has_site plan.hoist s) hoisted, or_right (has_site plan.fence_after s) (has_site plan.hoist s) hoisted) refl

@@ -29,7 +29,7 @@ use Rattle.hip_repairs.specs.Covered.{IsCallOf}
 use Rattle.hip_repairs.proofs.simulation.Facts.{Lines}
 use Rattle.hip_repairs.proofs.simulation.Sim.{IsPlain, plain_calculated, plain_allocated, plain_extern, plain_load, is_end, end_is}
 
--- the instruction at a frame's place
+-- The instruction at a frame's place.
 abbrev pub instr_here : Program → Frame → Option Instr
 instr_here Q f = slice_get (body_at Q f.function f.block) f.place
 
@@ -120,7 +120,7 @@ module _ (Q : Program) (f : Frame) where
 
 -- ---- the frames and the parts after a step
 
--- the frames and the ending after a step
+-- The frames and the ending after a step.
 pub data Moves (Q : Program) (f : Frame) (fs : List Frame) : List Frame → Option Ending → Type 0 where
   ends : {e : Ending} → Moves Q f fs (f ∷ fs) (Some e)
   goes_on : {o : Option Ending} (g : Frame) → g.function ≡ f.function → g.block ≡ f.block → g.place ≡ suc f.place → Moves Q f fs (g ∷ fs) o
@@ -128,14 +128,14 @@ pub data Moves (Q : Program) (f : Frame) (fs : List Frame) : List Frame → Opti
   enters : {o : Option Ending} (h : Frame) → IsCallOf Q h.function (instr_here Q f) → h.place ≡ 0 → Moves Q f fs (h ∷ next f ∷ fs) o
   returns : {o : Option Ending} (g : Frame) (gs : List Frame) (dest : Option (List ℕ)) (v : ℕ) → fs ≡ g ∷ gs → Moves Q f fs (with_register dest v g ∷ gs) o
 
--- the lines had this part before, though a flush or a fence may have met it since
+-- The lines had this part before, though a flush or a fence may have met it since.
 pub record IsOld (ls : Lines) (x : StorePart) : Type 0 where
   pub part : StorePart
   pub there : PartOf ls part
   pub step : x.step ≡ part.step
   pub site : x.site ≡ part.site
 
--- the part is of the store of this step
+-- The part is of the store of this step.
 pub record IsNew (f : Frame) (n : ℕ) (x : StorePart) : Type 0 where
   pub step : x.step ≡ n
   pub site : x.site ≡ site_of f
@@ -180,7 +180,7 @@ module _ (Q : Program) (I : Input) (f : Frame) (fs : List Frame) (ls : Lines) (c
       go true j = by (part-stored (part_of_store c (site_of f) (levels_of (f ∷ fs)) (a - I.base) bytes) (a - I.base) (length bytes) ls x j)
       go false j = inl (old_same ls x j)
 
-  -- a step that adds no part
+  -- A step that adds no part.
   out : (s : State) → Moves Q f fs s.frames s.world.ending → s.counts.steps ≡ suc c.steps → ((x : StorePart) → PartOf s.lines x → IsOld ls x) → Out Q f fs ls c.steps s
   out s moves steps old = record { moves = moves; steps = steps; parts = λ x i. inl (old x i); called = λ _. old }
 
@@ -221,7 +221,7 @@ module _ (Q : Program) (I : Input) (f : Frame) (fs : List Frame) (ls : Lines) (c
   unfolding on_frames
   frames_out w = carry_out_out w (event_at I w fs (deed_at Q I w f fs)) (deed_at Q I w f fs) (deed_fits w (code_at Q f) refl)
 
--- a step of a run that has not ended
+-- A step of a run that has not ended.
 pub step_out : (Q : Program) (I : Input) (s : State) (f : Frame) (fs : List Frame) → s.world.ending ≡ None → s.frames ≡ f ∷ fs → Out Q f fs s.lines s.counts.steps (step Q I s)
 unfolding step on_ending
 step_out Q I s f fs e h =

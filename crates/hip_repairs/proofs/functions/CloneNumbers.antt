@@ -9,7 +9,7 @@ use Rattle.hip_repairs.specs.CloneNumbers.{numbered_from, clone_numbers, IsClone
 use Rattle.hip_repairs.specs.Repaired.{cloned, repaired}
 use Rattle.hip_repairs.proofs.functions.Clones.{fresh, fresh_there, cloned_is_there, clone_code}
 
--- where a clone stands among those that are numbered from a number on
+-- Where a clone stands among those that are numbered from a number on.
 record IsNumbered (n : ℕ) (fs : List ℕ) (c : CloneOf) : Type 0 where
   place : ℕ
   original : slice_get fs place ≡ Some c.original
@@ -36,7 +36,7 @@ clone_there P plan skip c i =
       copy = ap (slice_get (repaired P plan skip).functions) r.copy ∙ clone_code P plan skip r.place c.original name.0 fn.0 r.original name.1 fn.1;
     }
 
--- each function that is cloned has a clone
+-- Each function that is cloned has a clone.
 pub cloned_there : (P : Program) (plan : Plan) (f : ℕ) → In f (cloned P plan) → (c : CloneOf) × In c (clone_numbers P plan) × (c.original ≡ f)
 cloned_there P plan f i = go (length P.functions) (cloned P plan) i
   where

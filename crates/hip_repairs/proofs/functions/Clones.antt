@@ -85,7 +85,7 @@ closed_there P sites f b k dest ret callee args g i c e =
 
 -- ---- the name that a call in a clone has
 
--- a name that no cloned function has, stays
+-- A name that no cloned function has, stays.
 kept_name : (P : Program) (fs : List ℕ) (names : List (List ℕ)) (callee : List ℕ) → ((f : ℕ) → Has fs f → ¬ (name_of P f ≡ callee)) → clone_name (clones_from P fs names) callee ≡ callee
 kept_name P [] names callee none = refl
 kept_name P (f ∷ fs) [] callee none = refl
@@ -100,7 +100,7 @@ extern_kept P plan good callee there =
     kept_name P (cloned P plan) (fresh_names P (cloned P plan)) callee
     (λ f h e. there (ap call_of (sym e) ∙ good.free (name_of P f) f (callees-named P plan.hoist f h)))
 
--- where the clone of a function is, and its name
+-- Where the clone of a function is, and its name.
 pub find_clone : (P : Program) (callee : List ℕ) (g : ℕ) → function_number P callee ≡ Some g → name_of P g ≡ callee → (fs : List ℕ) (names : List (List ℕ)) → length names ≡ length fs → ((f : ℕ) → Has fs f → IsNamed P f) → Has fs g →
     (k : ℕ) × (slice_get fs k ≡ Some g) × (slice_get names k ≡ Some (clone_name (clones_from P fs names) callee))
 find_clone P callee g e n [] names long all h = cc
@@ -131,7 +131,7 @@ rest_there : (P : Program) (f : ℕ) (fs : List ℕ) → AreThere P (f ∷ fs) �
 unfolding AreThere
 rest_there P f fs there = λ g h. there g (or_second (nat_eq g f) _ h)
 
--- one clone for each number, under its name
+-- One clone for each number, under its name.
 names_of_clones : (P : Program) (clones : List Clone) (w : Wanted) (fs : List ℕ) (names : List (List ℕ)) → length names ≡ length fs → AreThere P fs → function_names (clone_functions P clones w fs names) ≡ names
 names_of_clones P clones w [] [] long there = refl
 names_of_clones P clones w [] (name ∷ names) long there = absurd (omega (arith, long))
@@ -154,7 +154,7 @@ get_clone P clones w (f ∷ fs) (m ∷ names) (suc k) g name fn there e n c =
     let at = first_there P f fs there in
     ap (λ o. slice_get (clone_in clones w f m o ++ clone_functions P clones w fs names) (suc k)) at.1 ∙ get_clone P clones w fs names k g name fn (rest_there P f fs there) e n c
 
--- what stands among the clones is the clone of a cloned function
+-- What stands among the clones is the clone of a cloned function.
 pub at_clone : (P : Program) (clones : List Clone) (w : Wanted) (fs : List ℕ) (names : List (List ℕ)) (k : ℕ) (x : Function) → AreThere P fs → slice_get (clone_functions P clones w fs names) k ≡ Some x →
     (g : ℕ) × (name : List ℕ) × (slice_get fs k ≡ Some g) × (slice_get names k ≡ Some name)
 at_clone P clones w [] names k x there e = cc
@@ -164,7 +164,7 @@ at_clone P clones w (f ∷ fs) (m ∷ names) (suc k) x there e =
     let at = first_there P f fs there in
     at_clone P clones w fs names k x (rest_there P f fs there) (sym (ap (λ o. slice_get (clone_in clones w f m o ++ clone_functions P clones w fs names) (suc k)) at.1) ∙ e)
 
--- an item of a list without repeats stands at one place
+-- An item of a list without repeats stands at one place.
 one_place : {A : Type 0} {same : A → A → Bool} → IsEquivalence same → (xs : List A) (i j : ℕ) (x : A) → IsDistinct same xs → slice_get xs i ≡ Some x → slice_get xs j ≡ Some x → ¬ (i < j)
 one_place {same = same} laws xs i j x d e f below =
     let apart = apart_from_distinct same xs i j x d below (slice_get_within xs j x f) in
@@ -195,7 +195,7 @@ module _ (P : Program) (plan : Plan) (skip : Site → Bool) where
   unfolding AreThere
   cloned_is_there f k e = cloned_there f (has_at f k (cloned P plan) e)
 
-  -- the names of all functions of the repaired program
+  -- The names of all functions of the repaired program.
   pub names_then : function_names (repaired P plan skip).functions ≡ function_names P.functions ++ fresh
   names_then =
       map-append (λ (f : Function). f.name) (repaired_functions (clones_of P plan) (wanted_by plan skip) 0 P.functions) (clone_functions P (clones_of P plan) (wanted_by plan skip) (cloned P plan) fresh)
@@ -211,7 +211,7 @@ module _ (P : Program) (plan : Plan) (skip : Site → Bool) where
       let there = any_back (bytes_eq name) (map (λ g. g.name) P.globals) _ (any_back (bytes_eq name) (map (λ e. e.name) P.externs) _ here) in
       cc
 
-  -- the clone of a function has the number of its place after all functions
+  -- The clone of a function has the number of its place after all functions.
   pub clone_number : (k : ℕ) (name : List ℕ) → slice_get fresh k ≡ Some name → function_number (repaired P plan skip) name ≡ Some (length P.functions + k)
   clone_number k name e =
       ap (λ names. number_of names name) names_then
@@ -221,7 +221,7 @@ module _ (P : Program) (plan : Plan) (skip : Site → Bool) where
   pub fresh_extern : (k : ℕ) (name : List ℕ) → slice_get fresh k ≡ Some name → call_of name ≡ None
   fresh_extern k name e = fresh_for-extern (top_names P) (map (name_of P) (cloned P plan)) k name e
 
-  -- each cloned function has a name for its clone
+  -- Each cloned function has a name for its clone.
   pub fresh_there : (k g : ℕ) → slice_get (cloned P plan) k ≡ Some g → (name : List ℕ) × (slice_get fresh k ≡ Some name)
   fresh_there k g e = let below = slice_get_within (cloned P plan) k g e in at_place fresh k (omega (arith, length-fresh))
 
@@ -309,7 +309,7 @@ module _ (dest : Option (List ℕ)) (ret : Option Scalar) (callee : List ℕ) (a
       (c, λ x. Call (dests x) (rets x) c (given x), sym names)
   renamed_call clones b i e = cc
 
-  -- a call in a clone's body is one of the original's, renamed, or it is inserted
+  -- A call in a clone's body is one of the original's, renamed, or it is inserted.
   pub call_in_clone : (clones : List Clone) (w : Wanted) (f b place : ℕ) (is : List Instr) (k : ℕ) → slice_get (instrs_of (repaired_body clones w true f b place is)) k ≡ Some (Call dest ret callee args) → IsRenamed clones is ⊎ IsExtern callee
   call_in_clone clones w f b place [] k e = cc
   call_in_clone clones w f b place (i ∷ is) zero e =
@@ -324,7 +324,7 @@ module _ (dest : Option (List ℕ)) (ret : Option Scalar) (callee : List ℕ) (a
       (in_append (instrs_of (inserted_after w true s i)) (instrs_of (repaired_body clones w true f b (suc place) is)) k (Call dest ret callee args) parts)
 
 module _ (P : Program) (plan : Plan) (skip : Site → Bool) (good : IsCallable P) where
-  -- no function of the repaired program has the name of an external one
+  -- No function of the repaired program has the name of an external one.
   pub still_free : (name : List ℕ) (g : ℕ) → function_number (repaired P plan skip) name ≡ Some g → call_of name ≡ None
   still_free name g e =
       ⊎_elim (λ first. let known = number_of-known (function_names P.functions) name g first in good.free name known.0 known.1)

@@ -51,7 +51,7 @@ blocks_in_code clones w clone f name None = refl
 blocks_in_code clones w clone f name (Some x) = refl
 
 module _ (P : Program) (plan : Plan) (skip : Site → Bool) where
-  -- a function of the program stands in the repaired one under its number
+  -- A function of the program stands in the repaired one under its number.
   pub plain_code : (f : ℕ) → f < length P.functions →
       slice_get (repaired P plan skip).functions f ≡ option_map (λ x. repaired_function (clones_of P plan) (wanted_by plan skip) false f x.name x) (slice_get P.functions f)
   plain_code f h =
@@ -68,7 +68,7 @@ module _ (P : Program) (plan : Plan) (skip : Site → Bool) where
     marked = λ b. cond_true (nat_lt f (length P.functions)) _ _ (lt-ltb f (length P.functions) h);
   }
 
-  -- a name of the program has the same number
+  -- A name of the program has the same number.
   pub plain_number : (name : List ℕ) (g : ℕ) → function_number P name ≡ Some g → function_number (repaired P plan skip) name ≡ Some g
   plain_number name g e = ap (λ names. number_of names name) names_then ∙ number_of-front (function_names P.functions) (function_names clones) name g e
     where

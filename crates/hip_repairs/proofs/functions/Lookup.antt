@@ -24,11 +24,11 @@ use Rattle.hip_runs.specs.StoredParts.Parts.{In}
 use Rattle.hip_repairs.proofs.functions.Functions.{twin_of_plain, plain_code, plain_number, main_of, repaired_main_of}
 use Rattle.hip_repairs.proofs.functions.Twins.{Twin, CallsTwin}
 
--- a sound program is callable
+-- A sound program is callable.
 pub sound_callable : (P : Program) → Passes P → IsCallable P
 sound_callable P sound = callable_of P sound
 
--- a function that has a number is there
+-- A function that has a number is there.
 pub number_there : (P : Program) (name : List ℕ) (g : ℕ) → function_number P name ≡ Some g → (fn : Function) × (slice_get P.functions g ≡ Some fn)
 number_there P name g e = let there = function_number-there P name g e in (there.0, there.1)
 
@@ -36,14 +36,14 @@ module _ (P : Program) (plan : Plan) (skip : Site → Bool) (good : IsCallable P
   pub plain_twin : (f : ℕ) → f < length P.functions → Twin P plan skip false f f
   plain_twin f h = twin_of_plain P plan skip f h
 
-  -- `main` has the same number
+  -- `main` has the same number.
   pub same_main : main_number (repaired P plan skip) ≡ main_number P
   same_main = repaired_main_of P plan skip good.main_at good.main ∙ sym (main_of P plan skip good.main_at good.main)
 
   pub main_there : main_number P < length P.functions
   main_there = subst (λ f. f < length P.functions) (sym (main_of P plan skip good.main_at good.main)) (function_number-within P (codes "main") good.main_at good.main)
 
-  -- a call of a function by its own name, and one of a clone
+  -- A call of a function by its own name, and one of a clone.
   pub calls_plain : (callee : List ℕ) (g : ℕ) (fn : Function) → function_number P callee ≡ Some g → slice_get P.functions g ≡ Some fn → CallsTwin P plan skip false callee g fn
   calls_plain callee g fn e f = record {
     number = g;
@@ -57,17 +57,17 @@ module _ (P : Program) (plan : Plan) (skip : Site → Bool) (good : IsCallable P
   pub calls_clone : (callee : List ℕ) (g : ℕ) (fn : Function) → function_number P callee ≡ Some g → slice_get P.functions g ≡ Some fn → In g (cloned P plan) → CallsTwin P plan skip true (clone_name (clones_of P plan) callee) g fn
   calls_clone callee g fn e f i = calls_of_clone P plan skip good callee g fn e f i
 
-  -- a call of an external function names it in a clone too
+  -- A call of an external function names it in a clone too.
   pub extern_name : (callee : List ℕ) (e : ExternCall) → call_of callee ≡ Some e → clone_name (clones_of P plan) callee ≡ callee
   extern_name callee e h = extern_kept P plan good callee (λ none. cc)
 
-  -- the callee of a hoisted call is cloned, and so is each function that a cloned one calls
+  -- The callee of a hoisted call is cloned, and so is each function that a cloned one calls.
   pub hoisted_cloned : (s : Site) (dest : Option (List ℕ)) (ret : Option Scalar) (callee : List ℕ) (args : List Arg) (g : ℕ) → has_site plan.hoist s ≡ true → instr_of P s ≡ Some (Call dest ret callee args) → function_number P callee ≡ Some g → In g (cloned P plan)
   hoisted_cloned s dest ret callee args g h i e = called_there P plan.hoist s dest ret callee args g h i e
 
   pub cloned_closed : (f b k : ℕ) (dest : Option (List ℕ)) (ret : Option Scalar) (callee : List ℕ) (args : List Arg) (g : ℕ) → In f (cloned P plan) → slice_get (body_at P f b) k ≡ Some (Call dest ret callee args) → function_number P callee ≡ Some g → In g (cloned P plan)
   cloned_closed f b k dest ret callee args g i c e = closed_there P plan.hoist f b k dest ret callee args g i c e
 
-  -- a call in a clone of a function that is defined names a clone
+  -- A call in a clone of a function that is defined names a clone.
   pub clone_calls : (f' b k : ℕ) (dest : Option (List ℕ)) (ret : Option Scalar) (callee' : List ℕ) (args : List Arg) (g' : ℕ) → length P.functions ≤ f' → slice_get (body_at (repaired P plan skip) f' b) k ≡ Some (Call dest ret callee' args) → function_number (repaired P plan skip) callee' ≡ Some g' → length P.functions ≤ g'
   clone_calls f' b k dest ret callee' args g' high c e = calls_in_clone P plan skip good f' b k dest ret callee' args g' high c e

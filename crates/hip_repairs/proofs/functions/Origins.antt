@@ -14,7 +14,7 @@ lt_or_le a zero = inr (omega arith)
 lt_or_le zero (suc b) = inl (omega arith)
 lt_or_le (suc a) (suc b) = ⊎_elim (λ l. inl (omega arith)) (λ g. inr (omega arith)) (lt_or_le a b)
 
--- the function f' of the repaired program
+-- The function f' of the repaired program.
 pub record Origin (P : Program) (plan : Plan) (skip : Site → Bool) (f' : ℕ) (fn' : Function) : Type 0 where
   pub clone : Bool
   pub f : ℕ

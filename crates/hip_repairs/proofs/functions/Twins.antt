@@ -10,14 +10,14 @@ use Rattle.hip_repairs.specs.declared.plan.Plan.{Plan}
 use Rattle.hip_repairs.specs.Harmless.{marked_at, marked_body}
 use Rattle.hip_repairs.specs.Repaired.{wanted_by, clones_of, cloned, repaired, repaired_blocks, repaired_function}
 
--- function f' of the repaired program is function f, or its clone
+-- Function f' of the repaired program is function f, or its clone.
 pub record Twin (P : Program) (plan : Plan) (skip : Site → Bool) (clone : Bool) (f f' : ℕ) : Type 0 where
   pub plain : clone ≡ false → (f' ≡ f) × (f' < length P.functions)
   pub high : clone ≡ true → (k : ℕ) × (f' ≡ length P.functions + k) × (slice_get (cloned P plan) k ≡ Some f)
   pub blocks : blocks_of (repaired P plan skip) f' ≡ repaired_blocks (clones_of P plan) (wanted_by plan skip) clone f 0 (blocks_of P f)
   pub marked : (b : ℕ) → marked_at P plan skip f' b ≡ marked_body P (clones_of P plan) (wanted_by plan skip) clone f b
 
--- a call of a defined function, or of its clone
+-- A call of a defined function, or of its clone.
 pub record CallsTwin (P : Program) (plan : Plan) (skip : Site → Bool) (to_clone : Bool) (callee' : List ℕ) (g : ℕ) (fn : Function) : Type 0 where
   pub number : ℕ
   pub found : function_number (repaired P plan skip) callee' ≡ Some number

@@ -29,13 +29,13 @@ use Rattle.hip_names.specs.Laws.DifferLaws.{differ_first, differ_second, differ_
 
 -- ---- lists of items that have names
 
--- a name of an item is among the names of all
+-- A name of an item is among the names of all.
 among_all : {A : Type 0} (names : A → List (List ℕ)) (xs : List A) (k : ℕ) (x : A) (q : List ℕ) → slice_get xs k ≡ Some x → is_among (names x) q ≡ true → is_among (flat_map names xs) q ≡ true
 among_all names [] k x q e h = cc
 among_all names (y ∷ xs) zero x q e h = any_front (bytes_eq q) (names y) (flat_map names xs) (subst (λ z. is_among (names z) q ≡ true) (sym (same_Some y x e)) h)
 among_all names (y ∷ xs) (suc k) x q e h = any_back (bytes_eq q) (names y) (flat_map names xs) (among_all names xs k x q e h)
 
--- where all names differ, those of one item do
+-- Where all names differ, those of one item do.
 differ_at : {A : Type 0} (names : A → List (List ℕ)) (xs : List A) (k : ℕ) (x : A) → AllDiffer (flat_map names xs) → slice_get xs k ≡ Some x → AllDiffer (names x)
 differ_at names [] k x d e = cc
 differ_at names (y ∷ xs) zero x d e = subst (λ z. AllDiffer (names z)) (same_Some y x e) (differ_first (names y) (flat_map names xs) d)
@@ -45,7 +45,7 @@ apart_later : {A : Type 0} (names : A → List (List ℕ)) (z : A) (xs : List A)
 apart_later names z xs j x y q d same f h i =
     differ_apart (names z) (flat_map names xs) d q (among-sound _ q (subst (λ v. is_among (names v) q ≡ true) (sym same) h)) (among-sound _ q (among_all names xs j y q f i))
 
--- two items that have the same name are the same one
+-- Two items that have the same name are the same one.
 one_item : {A : Type 0} (names : A → List (List ℕ)) (xs : List A) (k j : ℕ) (x y : A) (q : List ℕ) → AllDiffer (flat_map names xs) → slice_get xs k ≡ Some x → slice_get xs j ≡ Some y → is_among (names x) q ≡ true → is_among (names y) q ≡ true → x ≡ y
 one_item names [] k j x y q d e f h i = cc
 one_item names (z ∷ xs) zero zero x y q d e f h i = sym (same_Some z x e) ∙ same_Some z y f
@@ -88,7 +88,7 @@ in_body body k i q e h = subst (λ xs. is_among xs q ≡ true) (flat_registers b
 in_block : (b : Block) (q : List ℕ) → is_among (names_of (body_registers b.body)) q ≡ true → is_among (names_in_block b) q ≡ true
 in_block b q h = or_second (bytes_eq q b.label) _ (subst (λ ns. is_among ns q ≡ true) (sym (phis_and_body b)) (any_back (bytes_eq q) (names_of (phi_registers b.phis)) (names_of (body_registers b.body)) h))
 
--- the `alloca` that assigns a register: its block, and the instruction
+-- The `alloca` that assigns a register: its block, and the instruction.
 record Made (blocks : List Block) (q : List ℕ) : Type 0 where
   j : ℕ
   block : Block
@@ -113,15 +113,15 @@ made_in_block blocks q m = in_block m.block q (made_in_body blocks q m)
 made_among : (blocks : List Block) (q : List ℕ) → allocates_in blocks q ≡ true → is_among (flat_map names_in_block blocks) q ≡ true
 made_among blocks q h = let m = made blocks q h in among_all names_in_block blocks m.j m.block q m.at (made_in_block blocks q m)
 
--- the names of these blocks differ
+-- The names of these blocks differ.
 abbrev pub Once : List Block → Type 0
 Once blocks = AllDiffer (flat_map names_in_block blocks)
 
--- where the block that has the `alloca` of a register has something of the register's name, it is that block
+-- Where the block that has the `alloca` of a register has something of the register's name, it is that block.
 same_block : (blocks : List Block) (b : ℕ) (block : Block) (q : List ℕ) → Once blocks → slice_get blocks b ≡ Some block → is_among (names_in_block block) q ≡ true → (m : Made blocks q) → block ≡ m.block
 same_block blocks b block q once e h m = one_item names_in_block blocks b m.j block m.block q once e m.at h (made_in_block blocks q m)
 
--- an instruction that assigns such a register is that `alloca`
+-- An instruction that assigns such a register is that `alloca`.
 pub only_alloca : (blocks : List Block) (b k : ℕ) (block : Block) (i : Instr) (q : List ℕ) → Once blocks → slice_get blocks b ≡ Some block → slice_get block.body k ≡ Some i → is_among (names_of_instr i) q ≡ true → allocates_in blocks q ≡ true → allocates q i ≡ true
 only_alloca blocks b k block i q once e f h all = subst (λ x. allocates q x ≡ true) (sym same) m.is
   where
@@ -140,7 +140,7 @@ only_alloca blocks b k block i q once e f h all = subst (λ x. allocates q x ≡
     same : i ≡ m.instr
     same = one_item names_of_instr m.block.body k m.k i m.instr q body (subst (λ (x : Block). slice_get x.body k ≡ Some i) here f) m.there h (allocates_name q m.instr m.is)
 
--- no phi assigns such a register
+-- No phi assigns such a register.
 pub no_phi : (blocks : List Block) (b : ℕ) (block : Block) (q : List ℕ) → Once blocks → slice_get blocks b ≡ Some block → is_among (map (λ p. p.dest) block.phis) q ≡ true → allocates_in blocks q ≡ false
 no_phi blocks b block q once e h = false_from_ne_true _ (λ all. meet (made blocks q all))
   where
@@ -155,7 +155,7 @@ no_phi blocks b block q once e h = false_from_ne_true _ (λ all. meet (made bloc
         differ_apart (names_of (phi_registers block.phis)) (names_of (body_registers block.body)) (subst AllDiffer (phis_and_body block) names.1) q (among-sound _ q there)
         (among-sound _ q (subst (λ (x : Block). is_among (names_of (body_registers x.body)) q ≡ true) (sym here) (made_in_body blocks q m)))
 
--- no parameter is such a register
+-- No parameter is such a register.
 pub no_parameter : (fn : Function) (q : List ℕ) → AllDiffer (names_in_function fn) → is_among (map (λ p. p.name) fn.params) q ≡ true → allocates_in fn.blocks q ≡ false
 no_parameter fn q d h = false_from_ne_true _ (λ all. differ_apart (names_of (parameter_registers fn)) (flat_map names_in_block fn.blocks) d q (among-sound _ q (subst (λ ns. is_among ns q ≡ true) (sym (params_named fn)) h)) (among-sound _ q (made_among fn.blocks q all)))
 

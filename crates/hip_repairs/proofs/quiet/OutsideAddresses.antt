@@ -35,7 +35,7 @@ volatile_among (g ∷ gs) name e =
     ⊎_elim (λ h. or_first (bytes_eq name g.name) _ (bytes_eq-sym name g.name ∙ (and_parts (bytes_eq g.name name) _ h).0)) (λ h. or_second (bytes_eq name g.name) _ (volatile_among gs name h))
     (either (bytes_eq g.name name && not g.persistent) (is_volatile_global gs name) e)
 
--- where the names of globals differ, the number of a volatile one's name is its own
+-- Where the names of globals differ, the number of a volatile one's name is its own.
 pub volatile_number : (gs : List GlobalVar) (name : List ℕ) (k : ℕ) → AllDiffer (names_of_globals gs) → is_volatile_global gs name ≡ true → number_of (names_of_globals gs) name ≡ Some k → is_persistent gs k ≡ false
 volatile_number [] name k d e f = refl
 volatile_number (g ∷ gs) name k d e f = ⊎_elim (λ h. first h.0 h.2) (λ h. later h.0 (volatile_number gs name h.0 d.1) h.1 h.2 h.3) (number_cases g.name (names_of_globals gs) name k f)
@@ -64,7 +64,7 @@ module _ (P : Program) (sound : Passes P) where
   volatile_low : volatile_end P ≤ volatile_start + 16777216
   volatile_low = leb-true (volatile_end P) (volatile_start + 16777216) (and_parts (nat_le (region_size P) 67108864) _ sound.sizes).1
 
-  -- the address of a volatile global
+  -- The address of a volatile global.
   named_low : (base : ℕ) (name : List ℕ) → is_volatile_global P.globals name ≡ true → global_address P.globals base name ≤ volatile_start + 16777216
   named_low base name e = go (number_of (names_of_globals P.globals) name) refl
     where

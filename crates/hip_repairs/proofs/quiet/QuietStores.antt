@@ -32,7 +32,7 @@ module _ (P : Program) (sound : Passes P) (I : Input) where
   -- ---- a store
 
   module _ (valid : IsValid P I) where
-    -- such an address lies below the base
+    -- Such an address lies below the base.
     outside_low : (f : Frame) (addr : Operand) → AreLow (blocks_of P f.function) f.registers → is_outside P (blocks_of P f.function) addr ≡ true → value_of P.globals I.base f.registers addr < I.base
     outside_low f (Reg name) low e = omega (arith, low name e, valid.base.low)
     outside_low f (Fixed c) low e = omega (arith, constant_low P sound I.base c e, valid.base.low)

@@ -1,5 +1,5 @@
--- The lines of the repaired program's run have the same parts, and at least as many of them flushed and durable. So each of its
--- crash images was possible before.
+-- The lines of the repaired program's run have the same parts, and at least as many of them flushed and durable. So
+-- each of its crash images was possible before.
 use Rattle.std.proofs.Common.{◌≡◌, ℕ, zero, suc, ◌+◌, ◌-◌, Bool, true, false, cond, ◌&&◌, nat_le, nat_lt, List, [], ◌∷◌, map, length, take, Option, Some, None, slice_get, slice_index, option_map, refl, sym, ap, ◌∙◌, subst, arith}
 use Rattle.std.proofs.lemmas.List.{length-map}
 use Rattle.hip_tree.specs.declared.site.Site.{Site}

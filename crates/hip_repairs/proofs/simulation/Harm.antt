@@ -16,7 +16,7 @@ use Rattle.hip_repairs.proofs.simulation.Pairs.{Tied, tied, Below, bottom, on, R
 use Rattle.hip_repairs.proofs.simulation.Sim.{follows}
 use Rattle.hip_repairs.proofs.functions.Twins.{Twin}
 
--- no fact about the lines
+-- No fact about the lines.
 abbrev pub nothing_held : List Level → Lines → Lines → Type 0
 nothing_held up ls ls' = Unit {0}
 

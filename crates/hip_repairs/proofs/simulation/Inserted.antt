@@ -22,7 +22,7 @@ use Rattle.hip_runs.specs.StoredParts.Persistence.{flushes_lines}
 use Rattle.hip_runs.specs.State.{Registers, World}
 use Rattle.hip_repairs.specs.Repaired.{flush_of, line_flush, range_flush, the_fence, is_wide}
 
--- how many bytes the inserted flush of a store is given
+-- How many bytes the inserted flush of a store is given.
 abbrev pub flush_size : Scalar → Option ℕ → ℕ
 flush_size ty align = cond (is_wide ty align) (scalar_size ty) 1
 
@@ -111,7 +111,7 @@ flushes_there I a m n h k e = let r : in_region I a m ≡ true = within_less I.b
 pub region_base : (I : Input) (a n : ℕ) → in_region I a n ≡ true → I.base ≤ a
 region_base I a n e = grind (arith, nat_tests)
 
--- a store that is not wide lies in one cache line
+-- A store that is not wide lies in one cache line.
 one_line_2 : (o j : ℕ) → o % 2 ≡ 0 → has_bytes j o 1 ≡ has_bytes j o 2
 one_line_2 o j h = grind (arith, nat_tests)
 
@@ -134,7 +134,7 @@ module _ (a base j : ℕ) (is_base : IsBase base) (le : base ≤ a) where
   align_small ty None = omega arith
   align_small ty (Some n) = omega arith
 
-  -- the inserted flush reaches the lines of its store
+  -- The inserted flush reaches the lines of its store.
   pub reaches : (ty : Scalar) (align : Option ℕ) → a % access_align ty align ≡ 0 → has_bytes j (a - base) (flush_size ty align) ≡ has_bytes j (a - base) (scalar_size ty)
   reaches ty align h = go (is_wide ty align) refl
     where

@@ -70,7 +70,7 @@ pub or_right : (x y : Bool) → y ≡ true → x || y ≡ true
 or_right true y e = refl
 or_right false y e = e
 
--- actions that any instruction but a store and a call of a defined function may have
+-- Actions that any instruction but a store and a call of a defined function may have.
 abbrev pub is_plain : Action → Type 0
 is_plain (Stores a bytes) = ⊥
 is_plain (Calls g rs dest) = ⊥
@@ -135,13 +135,13 @@ pub plain_load : (P : Program) (I : Input) (w : World) (below : ℕ) (regs : Reg
 unfolding instr_action
 plain_load P I w below regs dest ty addr align = plain_accessed P I w _ _ _ _ (plain_assigns (Some dest) _)
 
--- what an external function does depends on the globals alone
+-- What an external function does depends on the globals alone.
 pub extern_same : (P : Program) (plan : Plan) (skip : Site → Bool) (I : Input) (w : World) (call : ExternCall) (values : List ℕ) (dest : Option (List ℕ)) → extern_action (repaired P plan skip) I w call values dest ≡ extern_action P I w call values dest
 unfolding flushing
 extern_same P plan skip I w calls.ReadI64 values dest = refl
 extern_same P plan skip I w _ values dest = refl
 
--- the event of a store into the region
+-- The event of a store into the region.
 store_event : (P : Program) (I : Input) (w : World) (f : Frame) (fs : List Frame) (ls : Lines) (c : Counts) (ty : Scalar) (value addr : Operand) (align : Option ℕ) (rest : List Instr) → w.ending ≡ None → code_at P f ≡ Store ty value addr align ∷ rest →
     nat_lt w.turns I.limit ≡ true → nat_eq (value_of P.globals I.base f.registers addr % access_align ty align) 0 ≡ true → are_valid P I w (value_of P.globals I.base f.registers addr) (scalar_size ty) ≡ true →
     in_region I (value_of P.globals I.base f.registers addr) (length (bytes_of (scalar_size ty) (value_of P.globals I.base f.registers value))) ≡ true →
@@ -173,12 +173,12 @@ end_is P I f (Some (ends.Switch width value other cases)) = end_jump P I f _
 end_is P I f (Some (ends.Ret arg)) = tt
 end_is P I f (Some ends.Unreachable) = tt
 
--- the function that a call enters, or its clone: in a clone, and where the call is hoisted
+-- The function that a call enters, or its clone: in a clone, and where the call is hoisted.
 module _ (P : Program) (plan : Plan) (skip : Site → Bool) (good : IsCallable P) (clone : Bool) (f f' b k : ℕ) (tw : Twin P plan skip clone f f') (to : Option (List ℕ)) (ret : Option Scalar) (callee : List ℕ) (args : List Arg) (at_place : slice_get (body_at P f b) k ≡ Some (Call to ret callee args)) where
   abbrev call_site : Site
   call_site = record { function = f; block = b; index = k }
 
-  -- the function that is defined under the callee's name
+  -- The function that is defined under the callee's name.
   pub defined_callee : call_of callee ≡ None → (g : ℕ) × (function_number P callee ≡ Some g)
   defined_callee q = go (good.calls f b k to ret callee args at_place)
     where
@@ -198,7 +198,7 @@ module _ (P : Program) (plan : Plan) (skip : Site → Bool) (good : IsCallable P
       go true i = calls_clone P plan skip good callee g fn e there (i refl)
       go false i = calls_plain P plan skip good callee g fn e there
 
--- a call of an external function names it in a clone too
+-- A call of an external function names it in a clone too.
 pub same_extern : (P : Program) (plan : Plan) (skip : Site → Bool) (good : IsCallable P) (callee : List ℕ) (x : ExternCall) → call_of callee ≡ Some x → (b : Bool) → cond b (clone_name (clones_of P plan) callee) callee ≡ callee
 same_extern P plan skip good callee x q true = extern_name P plan skip good callee x q
 same_extern P plan skip good callee x q false = refl
@@ -207,11 +207,11 @@ module _ (P : Program) (plan : Plan) (skip : Site → Bool) (I : Input) (good : 
   abbrev Q : Program
   Q = repaired P plan skip
 
-  -- what a step leads to
+  -- What a step leads to.
   abbrev After : State → State → Type 0
   After s s' = Related P plan skip I Holds 2 s s'
 
-  -- the fact after a fence that may be pending
+  -- The fact after a fence that may be pending.
   fenced_too : (up : List Level) (ls ls' : Lines) (b : Bool) → Holds up ls ls' → Holds up ls (fence_if b ls')
   fenced_too up ls ls' true h = keeps.more_fence up ls ls' h
   fenced_too up ls ls' false h = h
@@ -220,12 +220,12 @@ module _ (P : Program) (plan : Plan) (skip : Site → Bool) (I : Input) (good : 
   flushed_too up ls ls' true x a n h = keeps.more_flush up ls ls' x a n h
   flushed_too up ls ls' false x a n h = h
 
-  -- a pair of frames with nothing inserted next
+  -- A pair of frames with nothing inserted next.
   module _ (clone : Bool) (f f' : Frame) (fs fs' : List Frame) (ls ls' : Lines) (t : Tied P plan skip clone [] f f') (below : Below P plan skip clone f.level f'.level fs fs') (ahead : Ahead ls ls') (holds : Holds (levels_of (f ∷ fs)) ls ls') where
     after_stop : (e : Ending) (w : World) (d d' : Counts) → After (stop e w (f ∷ fs) ls d) (stop e w (f' ∷ fs') ls' d')
     after_stop e w d d' = related t (quiet nothing) below ahead holds (omega arith)
 
-    -- one turn or none, and then what is done
+    -- One turn or none, and then what is done.
     after_carry : (turn : Bool) (x x' : Action) (w : World) (c d c' d' : Counts) →
         ((turn && not (nat_lt w.turns I.limit)) ≡ false → After (perform I (cond turn (with_turn w) w) f fs ls c d x) (perform I (cond turn (with_turn w) w) f' fs' ls' c' d' x')) →
         After (carry_out I w f fs ls c d (record { turn = turn; action = x })) (carry_out I w f' fs' ls' c' d' (record { turn = turn; action = x' }))
@@ -237,7 +237,7 @@ module _ (P : Program) (plan : Plan) (skip : Site → Bool) (I : Input) (good : 
         go true e = after_stop Cut w d d'
         go false e = h e
 
-  -- a pair of frames at the same instruction
+  -- A pair of frames at the same instruction.
   module _ (f b k f' k' m : ℕ) (dest : Option (List ℕ)) (lvl lvl' : Option Level) (regs : Registers) (slots slots' : List Slot) (same : extents slots' ≡ extents slots) (clone : Bool) (tw : Twin P plan skip clone f f') (fs fs' : List Frame) (below : Below P plan skip clone lvl lvl' fs fs') (ls ls' : Lines) (ahead : Ahead ls ls') (holds : Holds (level_list lvl (levels_of fs)) ls ls') (is : List Instr) where
     abbrev at_frame : ℕ → Registers → List Slot → Frame
     at_frame j rs sl = record { function = f; block = b; place = j; registers = rs; mark = m; slots = sl; dest = dest; level = lvl }
@@ -273,7 +273,7 @@ module _ (P : Program) (plan : Plan) (skip : Site → Bool) (I : Input) (good : 
     unfolding perform
     trapped i h w c d c' d' kind = after_stop clone (at_frame k regs slots) (at_frame' k' regs slots') fs fs' ls ls' (here_tied i h) below ahead holds (Trap kind) w d d'
 
-    -- an instruction after which at most a fence is inserted
+    -- An instruction after which at most a fence is inserted.
     module _ (i : Instr) (h : Here i) (after : inserted i ≡ cond fenced_here ((the_fence, true) ∷ []) []) (c d c' d' : Counts) (timed : (g : Flush) → Known ls g → g.step < c.steps) where
       next_plain : (w : World) (rs : Registers) (sl sl' : List Slot) (ms ms' : Lines) → extents sl' ≡ extents sl → Ahead ms ms' → Holds up ms (fence_if fenced_here ms') →
           After (state w (at_frame (suc k) rs sl ∷ fs) ms d) (state w (at_frame' (suc k') rs sl' ∷ fs') ms' d')
@@ -316,7 +316,7 @@ module _ (P : Program) (plan : Plan) (skip : Site → Bool) (I : Input) (good : 
       abbrev later_flush : Flush
       later_flush = record { step = d'.steps; site = record { function = f'; block = b; index = suc k' } }
 
-      -- the lines after the store, where it lies in the region and where it does not
+      -- The lines after the store, where it lies in the region and where it does not.
       store_holds : length store_bytes ≡ scalar_size ty → store_address % access_align ty align ≡ 0 → (in_region I store_address (length store_bytes) ≡ true → IsQuiet P skip → skip here_site ≡ false) →
           Holds up (stored_lines I c here_site up store_address store_bytes ls)
           (fence_if fenced_here (flush_if flush_wanted I later_flush store_address (flush_size ty align) (stored_lines I c' (record { function = f'; block = b; index = k' }) (level_list lvl' (levels_of fs')) store_address store_bytes ls')))
@@ -371,7 +371,7 @@ module _ (P : Program) (plan : Plan) (skip : Site → Bool) (I : Input) (good : 
       abbrev call_instr : Instr
       call_instr = Call to ret callee args
 
-      -- the two frames that the call makes
+      -- The two frames that the call makes.
       after_enter : (into : Bool) → (clone ≡ true → into ≡ true) → (has_site plan.hoist here_site ≡ true → into ≡ true) → (g g' : ℕ) (rs : Registers) → Twin P plan skip into g g' →
           After (perform I (with_turn w) (at_frame k regs slots) fs ls c d (Calls g rs to)) (perform I (with_turn w) (at_frame' k' regs slots') fs' ls' c' d' (Calls g' rs to))
       unfolding perform
@@ -394,7 +394,7 @@ module _ (P : Program) (plan : Plan) (skip : Site → Bool) (I : Input) (good : 
           go true = after_enter into into_clone into_hoist g twin.number (bound fn.params call_values) twin.twin
           go false = trapped call_instr h (with_turn w) c d c' d' traps.Depth
 
-      -- a call of an external function
+      -- A call of an external function.
       after_extern : (e : ExternCall) → call_of callee ≡ Some e →
           After (carry_out I w (at_frame k regs slots) fs ls c d (record { turn = is_turn call_instr; action = instr_action P I w (length fs) regs call_instr }))
           (carry_out I w (at_frame' k' regs slots') fs' ls' c' d' (record { turn = is_turn (renamed (clones_of P plan) call_instr to_clone); action = instr_action Q I w (length fs') regs (renamed (clones_of P plan) call_instr to_clone) }))
@@ -496,7 +496,7 @@ module _ (P : Program) (plan : Plan) (skip : Site → Bool) (I : Input) (good : 
       (subst (λ (m : ℕ). After (state (record w { mark = f.mark }) (with_register f.dest v g ∷ gs) ls d) (state (record w { mark = m }) (with_register f.dest v g' ∷ gs') ls' d')) (sym (same_mark t))
       (related (assigned_tied f.dest v u) (quiet q) below ahead (popped (levels_of (g ∷ gs)) lv above fenced ls ls' hoisted holds) (omega (arith, quiet_size q))))
 
-  -- a pair of frames that stand at the end of the same block
+  -- A pair of frames that stand at the end of the same block.
   module _ (f b k f' k' m : ℕ) (dest : Option (List ℕ)) (lvl lvl' : Option Level) (regs : Registers) (slots slots' : List Slot) (same : extents slots' ≡ extents slots) (clone : Bool) (tw : Twin P plan skip clone f f') (fs fs' : List Frame) (below : Below P plan skip clone lvl lvl' fs fs') (ls ls' : Lines) (ahead : Ahead ls ls') (holds : Holds (level_list lvl (levels_of fs)) ls ls') (w : World) (c d c' d' : Counts) where
     abbrev end_frame : ℕ → Registers → Frame
     end_frame j rs = record { function = f; block = j; place = k; registers = rs; mark = m; slots = slots; dest = dest; level = lvl }
@@ -528,7 +528,7 @@ module _ (P : Program) (plan : Plan) (skip : Site → Bool) (I : Input) (good : 
 
   -- ---- steps
 
-  -- a step that is not at an inserted instruction is one of both, and else of the repaired program alone
+  -- A step that is not at an inserted instruction is one of both, and else of the repaired program alone.
   record Goes (n : ℕ) (inserted : Bool) (old new new' : State) : Type 0 where
     size : ℕ
     left : cond inserted (suc size) size ≤ cond inserted n 2
@@ -547,7 +547,7 @@ module _ (P : Program) (plan : Plan) (skip : Site → Bool) (I : Input) (good : 
     abbrev more : List Marked
     more = repaired_body (clones_of P plan) (wanted_by plan skip) clone f b k rest
 
-    -- one step of each, where these are the end and the code
+    -- One step of each, where these are the end and the code.
     abbrev step_of : Option End → List Instr → State
     step_of o is = carry_out I w frame fs ls c (counted (event_at I w fs (deed_of P I w (length fs) frame o is)) c) (deed_of P I w (length fs) frame o is)
 
@@ -561,7 +561,7 @@ module _ (P : Program) (plan : Plan) (skip : Site → Bool) (I : Input) (good : 
     on_rest o (i ∷ is) here here' holds going reach =
         record { size = 2; left = omega arith; pair = after_instr f b k f' k' m dest lvl lvl' regs slots slots' same clone tw fs fs' below ls ls' ahead holds is i (here, here') w c _ c' _ going reach }
 
-    -- an inserted fence, and an inserted flush
+    -- An inserted fence, and an inserted flush.
     on_quiet : (o : Option End) (pend : List Marked) (fenced : Bool) → Quiet pend fenced → Holds (level_list lvl (levels_of fs)) ls (fence_if fenced ls') → length pend ≤ n → drop k' body' ≡ pend ++ more → w.ending ≡ None → (reach : (j : ℕ) × (run P I j ≡ state w (frame ∷ fs) ls c)) →
         Goes n (is_inserted (pend ++ more)) (state w (frame ∷ fs) ls c) (step_of o rest) (step_of' o (instrs_of (pend ++ more)))
     unfolding carry_out perform instr_action
@@ -584,7 +584,7 @@ module _ (P : Program) (plan : Plan) (skip : Site → Bool) (I : Input) (good : 
           (related (tied rest tw e (drop_next body' k' (i, true) (pend ++ more) e') same) (quiet q) below (ahead_more_flushed I (record { step = c'.steps; site = site_of (frame' k') }) a size ls ls' ahead) holds (omega arith));
     }
 
-    -- the code as it stands in the two programs
+    -- The code as it stands in the two programs.
     on_both : (pend : List Marked) (range : Option (ℕ × ℕ)) (fenced : Bool) → Ready P plan skip I w regs pend range fenced → Holds (level_list lvl (levels_of fs)) ls (pending_lines I (record { step = c'.steps; site = site_of (frame' k') }) range fenced ls') → length pend ≤ n → drop k' body' ≡ pend ++ more → w.ending ≡ None → (reach : (j : ℕ) × (run P I j ≡ state w (frame ∷ fs) ls c)) →
         Goes n (is_inserted (drop k' (marked_at P plan skip f' b))) (state w (frame ∷ fs) ls c) (on_frames P I w ls c (frame ∷ fs)) (on_frames Q I w ls' c' (frame' k' ∷ fs'))
     unfolding on_frames
@@ -613,7 +613,7 @@ module _ (P : Program) (plan : Plan) (skip : Site → Bool) (I : Input) (good : 
   goes n j s s' z (related {w = w} {f = f} {f' = f'} {fs = fs} {fs' = fs'} {ls = ls} {ls' = ls'} {c = c} {c' = c'} {pend = pend} {range = range} {fenced = fenced} {clone = clone} t r below a holds le) =
       goes_on n w.ending w f f' fs fs' ls ls' c c' pend range fenced clone t r below a holds le refl j z
 
-  -- after n steps of the repaired program
+  -- After n steps of the repaired program.
   pub record Follows (n : ℕ) : Type 0 where
     pub size : ℕ
     pub enough : n + size ≤ 3 * matched P plan skip I n
@@ -628,7 +628,7 @@ module _ (P : Program) (plan : Plan) (skip : Site → Bool) (I : Input) (good : 
   enough_next true n j size next h g = omega arith
   enough_next false n j size next h g = omega arith
 
-  -- the first states
+  -- The first states.
   start_pair : (main : ℕ) → main < length P.functions → Related P plan skip I Holds 0
       (state (start_world I) (start_frame main ∷ []) (fresh_lines (length I.image / 64)) (record { steps = 0; entries = header_entries I }))
       (state (start_world I) (start_frame main ∷ []) (fresh_lines (length I.image / 64)) (record { steps = 0; entries = header_entries I }))

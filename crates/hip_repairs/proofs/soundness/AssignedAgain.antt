@@ -48,7 +48,7 @@ flush_uses ty addr align = by_width (is_wide ty align)
     by_width true = refl
     by_width false = refl
 
--- what is assigned up to an instruction and by it
+-- What is assigned up to an instruction and by it.
 one_more : (is : List Instr) (j : ℕ) (i : Instr) → slice_get is j ≡ Some i → body_registers (take (suc j) is) ≡ body_registers (take j is) ++ assigned_by i
 one_more [] j i e = cc
 one_more (x ∷ is) zero i e = append-nil (assigned_by x) ∙ ap assigned_by (same_Some x i e)
@@ -106,7 +106,7 @@ module _ (clones : List Clone) (w : Wanted) (clone : Bool) (f : ℕ) (name : Lis
   same_earlier [] = refl
   same_earlier (b ∷ bs) = ap₂ (λ xs ys. xs ++ ys) (same_names b) (same_earlier bs)
 
-  -- what is assigned on every path before, is so on every path then
+  -- What is assigned on every path before, is so on every path then.
   assigned_again : (last : ℕ) (point point' : Point) (register : List ℕ) → names_before R point' last ≡ names_before fn point last → IsAssigned fn last point register → IsAssigned R last point' register
   assigned_again last point point' register same h path u =
       h path (record {

@@ -1,4 +1,5 @@
--- The instructions of a repaired body: each is one of the original's, or it is inserted, and the same registers are assigned before it.
+-- The instructions of a repaired body: each is one of the original's, or it is inserted, and the same registers are
+-- assigned before it.
 use Rattle.std.proofs.Common.{◌≡◌, ◌⊎◌, inl, inr, ⊎_elim, ℕ, zero, suc, ◌+◌, Bool, true, false, cond, ◌||◌, List, [], ◌∷◌, ◌++◌, map, length, take, Option, Some, slice_get, refl, sym, ap, ◌∙◌, subst, arith, take_all}
 use Rattle.std.specs.List.{flat_map}
 use Rattle.std.proofs.lemmas.List.{map-append}
@@ -41,7 +42,7 @@ store_registers ty addr align true c zero = refl
 store_registers ty addr align true c (suc k) = ap (λ rs. rs ++ body_registers (take k (instrs_of (cond c ((the_fence, true) ∷ []) [])))) (flush_assigns ty addr align) ∙ fence_registers c k
 store_registers ty addr align false c k = fence_registers c k
 
--- inserted instructions assign nothing
+-- Inserted instructions assign nothing.
 inserted_registers : (w : Wanted) (clone : Bool) (s : Site) (i : Instr) (k : ℕ) → body_registers (take k (instrs_of (inserted_after w clone s i))) ≡ []
 inserted_registers w clone s (Store ty value addr align) k = store_registers ty addr align _ _ k
 inserted_registers w clone s i k = fence_registers _ k
@@ -57,12 +58,12 @@ module _ (clones : List Clone) (w : Wanted) (clone : Bool) (f b : ℕ) where
   abbrev pub repaired_instrs : ℕ → List Instr → List Instr
   repaired_instrs place is = instrs_of (repaired_body clones w clone f b place is)
 
-  -- an instruction of the repaired body that is one of the original's
+  -- An instruction of the repaired body that is one of the original's.
   abbrev pub IsOriginal : ℕ → List Instr → ℕ → Instr → Type 0
   IsOriginal place is k' i' =
       (j : ℕ) × (i : Instr) × (slice_get is j ≡ Some i) × (i' ≡ renamed clones i (clone || w.hoist (site_at (place + j)))) × (body_registers (take k' (repaired_instrs place is)) ≡ body_registers (take j is))
 
-  -- one that is inserted after one of the original's
+  -- One that is inserted after one of the original's.
   abbrev pub IsInserted : ℕ → List Instr → ℕ → Instr → Type 0
   IsInserted place is k' i' =
       (j : ℕ) × (i : Instr) × (m : ℕ) × (slice_get is j ≡ Some i) × (slice_get (instrs_of (inserted_after w clone (site_at (place + j)) i)) m ≡ Some i') × (body_registers (take k' (repaired_instrs place is)) ≡ body_registers (take (suc j) is))
@@ -71,7 +72,7 @@ module _ (clones : List Clone) (w : Wanted) (clone : Bool) (f b : ℕ) where
       instrs_of (inserted_after w clone (site_at place) i) ++ repaired_instrs (suc place) is
   parts place i is = map-append (λ (m : Marked). m.0) (inserted_after w clone (site_at place) i) (repaired_body clones w clone f b (suc place) is)
 
-  -- what is assigned in the first instructions of a body and its inserted ones
+  -- What is assigned in the first instructions of a body and its inserted ones.
   first_registers : (place k : ℕ) (i : Instr) (is xs : List Instr) → take k (instrs_of (inserted_after w clone (site_at place) i) ++ repaired_instrs (suc place) is) ≡ xs →
       body_registers (take (suc k) (repaired_instrs place (i ∷ is))) ≡ assigned_by i ++ body_registers xs
   first_registers place k i is xs e =
@@ -126,7 +127,7 @@ module _ (clones : List Clone) (w : Wanted) (clone : Bool) (f b : ℕ) where
       (in_body (suc place) is back.0 i' back.1))
       (place_in (instrs_of (inserted_after w clone (site_at place) i)) (repaired_instrs (suc place) is) k' i' (ap (λ ys. slice_get ys k') (sym (parts place i is)) ∙ e))
 
-  -- a repaired body assigns what the original does
+  -- A repaired body assigns what the original does.
   pub same_registers : (place : ℕ) (is : List Instr) → body_registers (repaired_instrs place is) ≡ body_registers is
   same_registers place [] = refl
   same_registers place (i ∷ is) =
@@ -147,7 +148,7 @@ same_blocks_registers clones w clone f b (x ∷ xs) =
 
 -- ---- what is inserted
 
--- the flush of a store, or a fence
+-- The flush of a store, or a fence.
 abbrev pub IsFlushOf : Instr → Instr → Type 0
 IsFlushOf i i' = (ty : Scalar) × (value : Operand) × (addr : Operand) × (align : Option ℕ) × (i ≡ Store ty value addr align) × (i' ≡ flush_of ty addr align)
 

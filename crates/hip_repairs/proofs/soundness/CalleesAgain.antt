@@ -49,7 +49,7 @@ signature_at (e ∷ es) name s h = by_first (bytes_eq e.name name) refl h (signa
     by_first true t g rest = (0, e, refl, (bytes_eq-Decides e.name name).0 t, sym (same_Some _ _ g))
     by_first false t g rest = let later = rest g in (suc later.0, later.1, later.2, later.3, later.4)
 
--- a declared function has the signature of the table
+-- A declared function has the signature of the table.
 pub extern_signature : (es : List Extern) (name : List ℕ) (s : Signature) → (each declared es).Holds → extern_of es name ≡ Some s → known_signature name ≡ Some s
 extern_signature es name s h e =
     let at = signature_at es name s e in
@@ -124,7 +124,7 @@ module _ (P : Program) (plan : Plan) (skip : Site → Bool) (sound : Passes P) w
           ∙ sym (ap (λ o. first_of o (function_of P.functions callee)) g)
       by_extern None g = absurd (no_function (function_of P.functions callee) refl (ap (λ o. is_some (first_of o (function_of P.functions callee))) (sym g) ∙ h))
 
-  -- a call finds the same signature, under the callee's own name or its clone's
+  -- A call finds the same signature, under the callee's own name or its clone's.
   pub callee_again : (callee : List ℕ) (to_clone : Bool) → (to_clone ≡ true → (g : ℕ) → function_number P callee ≡ Some g → In g (cloned P plan)) → is_some (callee_of P callee) ≡ true →
       callee_of Q (cond to_clone (clone_name (clones_of P plan) callee) callee) ≡ callee_of P callee
   callee_again callee to_clone there h = ⊎_elim (λ x. external x.0 x.1 to_clone) (λ d. defined d.0 d.1 to_clone there) (callee_there P callee sound.externs h)

@@ -22,13 +22,13 @@ pmem_flush_extern = record { ret = None; name = pmem_flush_name; params = Ptr �
 abbrev pub extern_names : Program → List (List ℕ)
 extern_names P = map (λ e. e.name) P.externs
 
--- an added declaration
+-- An added declaration.
 pub data IsAdded : Extern → Type 0 where
   adds_clwb : IsAdded clwb_extern
   adds_sfence : IsAdded sfence_extern
   adds_pmem_flush : IsAdded pmem_flush_extern
 
--- a test that passes at the three passes at what is added
+-- A test that passes at the three passes at what is added.
 pub added_passes : (test : Extern → Bool) → test clwb_extern ≡ true → test sfence_extern ≡ true → test pmem_flush_extern ≡ true → (e : Extern) → IsAdded e → test e ≡ true
 added_passes test a b c e adds_clwb = a
 added_passes test a b c e adds_sfence = b
@@ -43,7 +43,7 @@ missing_at P x a true false g (suc k) e h = cc
 missing_at P x a true true g k e h = cc
 missing_at P x a false c g k e h = cc
 
--- each is one of the three, and the program does not declare it
+-- Each is one of the three, and the program does not declare it.
 pub added_at : (P : Program) (plan : Plan) (w : Wanted) (k : ℕ) (e : Extern) → slice_get (added_externs P plan w) k ≡ Some e → IsMissing P e
 added_at P plan w k e h =
     ⊎_elim (λ first. missing_at P clwb_extern adds_clwb (needs P plan w clwb_name) (is_among (extern_names P) clwb_name) refl k e first)

@@ -107,7 +107,7 @@ module _ (s : Scope) (place place' : Place) where
     ),
   )
 
-  -- the flush of a store
+  -- The flush of a store.
   pub flush_check : (value addr : Operand) (ty : Scalar) (align : Option ℕ) →
       ((name : List ℕ) → is_call_of name (flush_of ty addr align) ≡ true → (name ≡ clwb_name) ⊎ (name ≡ pmem_flush_name) → callee_of s.program name ≡ known_signature name) →
       (instr_check s (Store ty value addr align) place').Holds → (instr_check s (flush_of ty addr align) place).Holds

@@ -96,7 +96,7 @@ module _ (P : Program) (plan : Plan) (skip : Site → Bool) where
       (any_at (λ f. inserts_cloned name (clones_of P plan) w f (slice_get P.functions f)) (cloned P plan) high.0 o.f high.2
       (ap (inserts_cloned name (clones_of P plan) w o.f) o.at ∙ h))
 
-  -- an inserted call is one that the repair needs
+  -- An inserted call is one that the repair needs.
   pub inserted_needed : (name : List ℕ) (f' : ℕ) (fn' : Function) (o : Origin P plan skip f' fn') (b : ℕ) (block : Block) (j k : ℕ) (i i' : Instr) → slice_get o.fn.blocks b ≡ Some block → slice_get block.body j ≡ Some i →
       slice_get (instrs_of (inserted_after w o.clone (record { function = o.f; block = b; index = 0 + j }) i)) k ≡ Some i' → is_call_of name i' ≡ true → needs P plan w name ≡ true
   inserted_needed name f' fn' o b block j k i i' e g n c =

@@ -125,7 +125,7 @@ module _ (P : Program) (plan : Plan) (skip : Site → Bool) (sound : Passes P) w
 
     -- ---- instructions
 
-    -- the same instruction
+    -- The same instruction.
     instr_kept : (i : Instr) (place place' : Place) → callee_known s' i ≡ callee_known s i → instr_agrees s' i ≡ instr_agrees s i → (instr_check s i place).Holds → (instr_check s' i place').Holds
     instr_kept i place place' k a h = (ap₂ (λ x y. x && y) (known_again (instr_uses i)) k ∙ h.0, (h.1.0, ap₂ (λ x y. x && y) (agree_again (instr_uses i)) a ∙ h.1.1))
 
@@ -136,7 +136,7 @@ module _ (P : Program) (plan : Plan) (skip : Site → Bool) (sound : Passes P) w
       (h.1.0, ap₂ (λ x y. x && y) (agree_again (arg_uses args)) (ap (λ c. signature_agrees ret args c && register_agrees dest ret) e) ∙ h.1.1),
     )
 
-    -- the callee of a call that is to name a clone has one, if it is defined
+    -- The callee of a call that is to name a clone has one, if it is defined.
     call_cloned : (b j : ℕ) (block : Block) (dest : Option (List ℕ)) (ret : Option Scalar) (callee : List ℕ) (args : List Arg) → slice_get o.fn.blocks b ≡ Some block → slice_get block.body j ≡ Some (Call dest ret callee args) →
         (o.clone || has_site plan.hoist (record { function = o.f; block = b; index = j })) ≡ true → (g : ℕ) → function_number P callee ≡ Some g → In g (cloned P plan)
     call_cloned b j block dest ret callee args e c t g n =
@@ -157,7 +157,7 @@ module _ (P : Program) (plan : Plan) (skip : Site → Bool) (sound : Passes P) w
         (callee_again P plan skip sound callee (o.clone || has_site plan.hoist (record { function = o.f; block = b; index = j })) (call_cloned b j block dest ret callee args e c) (and_parts (uses_known s (arg_uses args)) _ h.0).1) h
     renamed_again b j block i place place' e c h = instr_kept i place place' refl refl h
 
-    -- an inserted instruction
+    -- An inserted instruction.
     module _ (b : ℕ) (block : Block) (there : slice_get o.fn.blocks b ≡ Some block) (place : ℕ → Place) (place' : Place) (checked : (j : ℕ) (i : Instr) → slice_get block.body j ≡ Some i → (instr_check s i (place j)).Holds) where
       original_again : (k : ℕ) (i' : Instr) → IsOriginal clones w o.clone o.f b 0 block.body k i' → (instr_check s' i' place').Holds
       original_again k i' x =

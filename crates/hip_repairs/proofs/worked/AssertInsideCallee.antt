@@ -22,7 +22,7 @@ use Rattle.hip_repairs.specs.examples.AssertInsideCallee.{assert_inside_callee, 
 use Rattle.hip_repairs.proofs.worked.Runs.{Follows, done_opened, int_value, address_value, run_is, reports_are}
 use Rattle.hip_repairs.proofs.worked.Marked.{Seen, Sees, written_int, pointed_is, hit_is}
 
--- what is done, step by step
+-- What is done, step by step.
 abbrev deeds : List Deed
 deeds =
     record { turn = true; action = Calls 0 ((codes "dst", 4294967296) ∷ (codes "src", 65536) ∷ []) None }
@@ -33,7 +33,7 @@ deeds =
     ∷ record { turn = true; action = Returns 0 }
     ∷ []
 
--- where the volatile globals end, and their bytes
+-- Where the volatile globals end, and their bytes.
 end_is : volatile_end assert_inside_callee ≡ 65544
 end_is = ap (λ (x : Shape). next_multiple_of 65536 x.align + x.size) (shape-Int W64)
 
@@ -62,7 +62,7 @@ found : reports assert_inside_callee (zeroed 1) 6 ≡ assert_inside_callee_repor
 unfolding done_opened
 found = reports_are assert_inside_callee (zeroed 1) deeds follows
 
--- what the pointers of the stores and the calls pointed into
+-- What the pointers of the stores and the calls pointed into.
 abbrev nothing_seen : Seen
 nothing_seen = record { marks = []; hits = [] }
 

@@ -13,7 +13,7 @@ use Rattle.hip_repairs.specs.examples.CopyHoisted.{copy_hoisted, copy_hoisted_re
 use Rattle.hip_repairs.proofs.worked.Runs.{Follows, done_opened, int_value, address_value, run_is, reports_are}
 use Rattle.hip_repairs.proofs.worked.Marked.{Seen, Sees, pointed_is, hit_is}
 
--- what is done, step by step
+-- What is done, step by step.
 abbrev deeds : List Deed
 deeds =
     record { turn = true; action = Allocates (codes "a") 268435456 8 }
@@ -42,7 +42,7 @@ found : reports copy_hoisted (zeroed 1) 12 ≡ copy_hoisted_report ∷ []
 unfolding done_opened
 found = reports_are copy_hoisted (zeroed 1) deeds follows
 
--- what the pointers of the stores and the calls pointed into
+-- What the pointers of the stores and the calls pointed into.
 abbrev nothing_seen : Seen
 nothing_seen = record { marks = []; hits = [] }
 

@@ -24,7 +24,7 @@ written_int address_of b = ap (λ c. (written address_of c).bytes) (sym (consts.
 
 -- ---- what the marks of a step are, where its event is known
 
--- what a step marks, and which global it stores into
+-- What a step marks, and which global it stores into.
 pub record Seen : Type 0 where
   pub marks : List Mark
   pub hits : List ℕ
@@ -85,7 +85,7 @@ hit_all P I n s (d ∷ ds) (x ∷ xs) old r o h k =
     hit_all P I (suc n) (done I s d) ds xs (met nat_eq old x.hits) (run_next P I n s d r h.0 h.1)
     (hit_next P I n s d x r h.0 h.1 k.0 ∙ ap (λ (y : List ℕ). met nat_eq y x.hits) o) h.2 k.1
 
--- a whole run from the start on
+-- A whole run from the start on.
 pub pointed_is : (P : Program) (I : Input) (ds : List Deed) (xs : List Seen) → Follows P I (start P I) ds → Sees P I (start P I) ds xs → pointed P I (steps 0 ds) ≡ all_marks [] xs
 unfolding run pointed
 pointed_is P I ds xs h k = pointed_all P I 0 (start P I) ds xs [] refl refl h k

@@ -18,7 +18,7 @@ use Rattle.hip_repairs.specs.examples.MutualRecursion.{mutual_recursion, mutual_
 use Rattle.hip_repairs.proofs.worked.Runs.{Follows, done_opened, int_value, address_value, run_is, reports_are}
 use Rattle.hip_repairs.proofs.worked.Marked.{Seen, Sees, pointed_is, hit_is}
 
--- what is done, step by step
+-- What is done, step by step.
 abbrev deeds : List Deed
 deeds =
     record { turn = true; action = Allocates (codes "t") 268435456 8 }
@@ -201,7 +201,7 @@ found : reports mutual_recursion (zeroed 1) 38 ≡ mutual_recursion_report ∷ [
 unfolding done_opened
 found = reports_are mutual_recursion (zeroed 1) deeds follows
 
--- what the pointers of the stores and the calls pointed into
+-- What the pointers of the stores and the calls pointed into.
 abbrev nothing_seen : Seen
 nothing_seen = record { marks = []; hits = [] }
 
@@ -373,7 +373,7 @@ all_found = record { reports = mutual_recursion_report ∷ []; marks = record { 
 findings_are : findings mutual_recursion (zeroed 1) 38 ≡ all_found
 findings_are = λ i. record { reports = found i; marks = record { pointed = points i; hit = hits i } }
 
--- the plan, and what it makes of the program
+-- The plan, and what it makes of the program.
 abbrev hoist_second : Plan
 hoist_second = record { flush_after = []; fence_after = []; hoist = site 2 0 2 ∷ [] }
 

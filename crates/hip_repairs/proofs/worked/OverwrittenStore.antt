@@ -9,7 +9,7 @@ use Rattle.hip_repairs.specs.examples.Words.{zeroed, IsWorked}
 use Rattle.hip_repairs.specs.examples.OverwrittenStore.{overwritten_store, overwritten_store_report, overwritten_store_repaired}
 use Rattle.hip_repairs.proofs.worked.Runs.{Follows, done_opened, int_value, address_value, run_is, reports_are}
 
--- what is done, step by step
+-- What is done, step by step.
 abbrev deeds : List Deed
 deeds = record { turn = true; action = Stores 4294967296 (5 ∷ 0 ∷ 0 ∷ 0 ∷ 0 ∷ 0 ∷ 0 ∷ 0 ∷ []) } ∷ record { turn = true; action = Stores 4294967296 (6 ∷ 0 ∷ 0 ∷ 0 ∷ 0 ∷ 0 ∷ 0 ∷ 0 ∷ []) } ∷ record { turn = true; action = Returns 0 } ∷ []
 

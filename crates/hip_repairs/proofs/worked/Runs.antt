@@ -21,7 +21,7 @@ use Rattle.hip_runs.specs.Found.Reports.{reports, check_reports, checked_by, nex
 use Rattle.hip_runs.specs.State.{Frame, StorePart, World, Counts, State}
 use Rattle.hip_runs.specs.Step.{state, leave, perform, step, on_ending, on_frames, carry_out, counted, event, event_at, event_on_frames, event_on_ending, deed_at, run, start}
 
--- what the states of a closed run compute by, where it is known what is done
+-- What the states of a closed run compute by, where it is known what is done.
 unfoldable pub done_opened : Unit {0}
 unfolding zeros fresh_lines leave perform carry_out
 done_opened = tt
@@ -40,7 +40,7 @@ element_value globals base gep = ap (const_value globals base) (sym (consts.roll
 
 -- ---- a step by what is done
 
--- what the top frame does next
+-- What the top frame does next.
 abbrev pub deed_on : Program → Input → World → List Frame → Deed
 deed_on P I w [] = record { turn = false; action = Fences }
 deed_on P I w (f ∷ fs) = deed_at P I w f fs
@@ -48,7 +48,7 @@ deed_on P I w (f ∷ fs) = deed_at P I w f fs
 abbrev pub next_deed : Program → Input → State → Deed
 next_deed P I s = deed_on P I s.world s.frames
 
--- the state after something was done, and its event
+-- The state after something was done, and its event.
 abbrev pub done_on : Input → World → List (Line StorePart) → Counts → Deed → List Frame → State
 done_on I w ls c d [] = state w [] ls c
 done_on I w ls c d (f ∷ fs) = carry_out I w f fs ls c (counted (event_at I w fs d) c) d
@@ -81,7 +81,7 @@ event_shown P I s d e n = ap (event_on_ending P I s) e ∙ framed s.frames n
 
 -- ---- runs
 
--- from a state on these things are done, one after another
+-- From a state on these things are done, one after another.
 abbrev pub Follows : Program → Input → State → List Deed → Type 0
 Follows P I s [] = Unit {0}
 Follows P I s (d ∷ ds) = (s.world.ending ≡ None) × (next_deed P I s ≡ d) × Follows P I (done I s d) ds
@@ -90,7 +90,7 @@ abbrev pub after_all : Input → State → List Deed → State
 after_all I s [] = s
 after_all I s (d ∷ ds) = after_all I (done I s d) ds
 
--- the number of steps after n earlier ones
+-- The number of steps after n earlier ones.
 abbrev pub steps : ℕ → List Deed → ℕ
 steps n [] = n
 steps n (d ∷ ds) = steps (suc n) ds
@@ -123,7 +123,7 @@ reports_all P I n s (d ∷ ds) r h =
     ∙ ap (λ x. x ++ stated I (done I s d) ds) (reports_next P I n s d r h.0 h.1)
     ∙ append_assoc (reports P I n) (check_reports s (checked_by I (shown I s d))) (stated I (done I s d) ds)
 
--- a whole run from the start on
+-- A whole run from the start on.
 pub run_is : (P : Program) (I : Input) (ds : List Deed) → Follows P I (start P I) ds → run P I (steps 0 ds) ≡ after_all I (start P I) ds
 unfolding run
 run_is P I ds h = run_all P I 0 (start P I) ds refl h

@@ -16,7 +16,7 @@ use Rattle.hip_repairs.specs.examples.Words.{zeroed, IsWorked}
 use Rattle.hip_repairs.specs.examples.StoreInTwoLines.{sixteen_words, byte_sixty, store_in_two_lines, store_in_two_lines_report, store_in_two_lines_repaired}
 use Rattle.hip_repairs.proofs.worked.Runs.{Follows, done_opened, element_value, int_value, address_value, run_is, reports_are}
 
--- the store's offset, and its address
+-- The store's offset, and its address.
 enters : enter (types.Array 128 (types.Int W8)) 60 ≡ Some (record { offset = 60; ty = types.Int W8 })
 enters = ap (enter_level 60) (out-Ty-Array 128 (types.Int W8)) ∙ ap (λ (x : Shape). Some (record { offset = 60 * x.size; ty = types.Int W8 })) (shape-Int W8)
 
@@ -32,7 +32,7 @@ a_at = rw (address_value, shape-Array 16 (types.Int W64), shape-Int W64) refl
 store_at : value_of (sixteen_words ∷ []) 4294967296 [] byte_sixty ≡ 4294967356
 store_at = rw (element_value, a_at, offset) refl
 
--- what is done, step by step
+-- What is done, step by step.
 abbrev deeds : List Deed
 deeds = record { turn = true; action = Stores 4294967356 (5 ∷ 0 ∷ 0 ∷ 0 ∷ 0 ∷ 0 ∷ 0 ∷ 0 ∷ []) } ∷ record { turn = true; action = Returns 0 } ∷ []
 

@@ -25,7 +25,7 @@ use Rattle.hip_runs.specs.Places.{blocks_in, body_of, body_at}
 use Rattle.hip_types.specs.declared.number.Scalar.{Scalar}
 use Rattle.hip_tree.specs.declared.instr.Arg.{Arg}
 
--- the name is that of an external function of the table, or of a function of the program
+-- The name is that of an external function of the table, or of a function of the program.
 abbrev pub IsCalled : Program → List ℕ → Type 0
 IsCalled P callee = ((e : ExternCall) × (call_of callee ≡ Some e))
     ⊎ ((g : ℕ) × (function_number P callee ≡ Some g))
@@ -36,12 +36,12 @@ pub record IsCallable (P : Program) : Type 0 where
   pub main : function_number P (codes "main") ≡ Some main_at
   pub calls : (f b k : ℕ) (dest : Option (List ℕ)) (ret : Option Scalar) (callee : List ℕ) (args : List Arg) →
       slice_get (body_at P f b) k ≡ Some (Call dest ret callee args) → IsCalled P callee
-  -- no function has the name of an external one
+  -- No function has the name of an external one.
   pub free : (callee : List ℕ) (g : ℕ) → function_number P callee ≡ Some g → call_of callee ≡ None
 
 -- ---- `main`
 
--- one of the functions has the name; the number is the place of the first that has it
+-- One of the functions has the name; the number is the place of the first that has it.
 abbrev pub HasNumber : List Function → List ℕ → Type 0
 HasNumber fs name = (j : ℕ) × (number_of (function_names fs) name ≡ Some j)
 
@@ -101,7 +101,7 @@ function_at (f ∷ fs) name s h = by_first (bytes_eq f.name name) refl h (functi
     by_first true t g rest = number_first f fs name t
     by_first false t g rest = number_past f fs name (rest g)
 
--- a declared external function is of the table
+-- A declared external function is of the table.
 pub of_table : (e : Extern) (name : List ℕ) → e.name ≡ name → is_of e (known_signature e.name) ≡ true
     → (c : ExternCall) × (call_of name ≡ Some c)
 of_table e name same h = by_call (call_of e.name) (ap call_of (sym same)) h
@@ -111,7 +111,7 @@ of_table e name same h = by_call (call_of e.name) (ap call_of (sym same)) h
     by_call None f g = cc
     by_call (Some c) f g = (c, f)
 
--- function f, its block b and the instruction at place k of the block's body are there, and it is this instruction
+-- Function f, its block b and the instruction at place k of the block's body are there, and it is this instruction.
 abbrev pub IsInstrAt : Program → (f b k : ℕ) → Instr → Type 0
 IsInstrAt P f b k i =
     (fn : Function) × (block : Block) × (slice_get P.functions f ≡ Some fn)
@@ -150,7 +150,7 @@ callee_there P callee externs h = in_externs (extern_of P.externs callee) refl h
         let there = extern_at P.externs callee s e in
         inl (of_table there.1 callee there.3 (holds-at declared P.externs there.0 there.1 externs.1.0 there.2))
 
--- each instruction meets the rules of places
+-- Each instruction meets the rules of places.
 pub instr_checked : (P : Program) → (places_check P).Holds
     → (f b k : ℕ) (i : Instr) (fn : Function) (block : Block)
     → slice_get P.functions f ≡ Some fn → slice_get fn.blocks b ≡ Some block

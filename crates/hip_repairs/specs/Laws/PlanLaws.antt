@@ -108,7 +108,7 @@ is_there P s test none e = go (instr_of P s) refl e
     go None q h = absurd (let z : false ≡ true = sym none ∙ h in let w : ⊥ = cc in w)
     go (Some i) q h = in_has (sites_of P) s (site_in P s i q)
 
--- a plan that suits the program names only sites of the program
+-- A plan that suits the program names only sites of the program.
 pub suiting_within : (P : Program) (plan : Plan) → IsSuiting P plan → IsWithin P plan
 suiting_within P plan suits = record {
   flush_after = flush;

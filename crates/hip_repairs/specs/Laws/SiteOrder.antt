@@ -51,7 +51,7 @@ filter-append test (x ∷ xs) ys = by_test (test x) (filter-append test xs ys)
     by_test true e = ap (λ zs. x ∷ zs) e
     by_test false e = e
 
--- one more site at the front, if it passes
+-- One more site at the front, if it passes.
 pub front_chosen : (b : Bool) (s : Site) (rest : List Site)
     → cond b (s ∷ rest) rest ≡ cond b (s ∷ []) [] ++ rest
 front_chosen true s rest = refl
@@ -99,7 +99,7 @@ functions_have f0 (z ∷ xs) (suc f) b j x y i e h g =
     (subst (λ n. In (record { function = n; block = b; index = j }) (function_sites (suc f0) xs))
     (let q : suc f0 + f ≡ f0 + suc f = omega arith in q) (functions_have (suc f0) xs f b j x y i e h g))
 
--- the site of an instruction is one of the program's
+-- The site of an instruction is one of the program's.
 pub site_in : (P : Program) (s : Site) (i : Instr) → instr_of P s ≡ Some i → In s (sites_of P)
 site_in P s i e = go (slice_get P.functions s.function) refl e
   where
@@ -165,7 +165,7 @@ plan_asked P found = record {
 
 -- ---- the order
 
--- the order that `site_before` tests: by function, then by block, then by index
+-- The order that `site_before` tests: by function, then by block, then by index.
 abbrev Before : Site → Site → Type 0
 Before a b =
     (a.function < b.function) ⊎ ((a.function ≡ b.function)
@@ -257,11 +257,11 @@ strict_order = record {
 
 -- ---- lists that ascend
 
--- each site of the list comes after this one in that order, and is not equal to it
+-- Each site of the list comes after this one in that order, and is not equal to it.
 abbrev AllAfter : Site → List Site → Type 0
 AllAfter a xs = (s : Site) → In s xs → Before a s
 
--- each site comes before all later ones in the list, where `is_ascending` compares it with the next alone
+-- Each site comes before all later ones in the list, where `is_ascending` compares it with the next alone.
 abbrev Sorted : List Site → Type 0
 Sorted [] = Unit {0}
 Sorted (x ∷ xs) = AllAfter x xs × Sorted xs
@@ -303,7 +303,7 @@ sorted_append (x ∷ xs) ys h g b =
     after s (inl i) = h.0 s i
     after s (inr i) = b x s (inl refl) i
 
--- the site is in block b of function f, at index k or later
+-- The site is in block b of function f, at index k or later.
 record InBody (f b k : ℕ) (s : Site) : Type 0 where
   function : s.function ≡ f
   block : s.block ≡ b
@@ -331,7 +331,7 @@ sorted_body f b k (x ∷ is) = (
   sorted_body f b (suc k) is,
 )
 
--- the site is in function f, in block b or in a later one
+-- The site is in function f, in block b or in a later one.
 record InBlocks (f b : ℕ) (s : Site) : Type 0 where
   function : s.function ≡ f
   block : b ≤ s.block

@@ -48,7 +48,7 @@ none_reached P (suc n) (suc k) = none_reached P n (suc (suc k))
 none_cloned : (P : Program) → cloned P no_repairs ≡ []
 none_cloned P = none_reached P (length P.functions) 0
 
--- the body of a block into which nothing is inserted
+-- The body of a block into which nothing is inserted.
 abbrev plain : List Instr → List Marked
 plain is = map (λ i. (i, false)) is
 
@@ -60,20 +60,20 @@ plain_inserts : (name : List ℕ) (is : List Instr) → inserts name (plain is) 
 plain_inserts name [] = refl
 plain_inserts name (i ∷ is) = plain_inserts name is
 
--- the block with this body in place of its own
+-- The block with this body in place of its own.
 abbrev block_with : Block → List Instr → Block
 block_with x is = record { label = x.label; phis = x.phis; body = is; end = x.end }
 
--- the function with these blocks in place of its own
+-- The function with these blocks in place of its own.
 abbrev function_with : Function → List Block → Function
 function_with x xs = record { ret = x.ret; name = x.name; params = x.params; blocks = xs }
 
--- the program with these declarations and functions in place of its own; the globals stay
+-- The program with these declarations and functions in place of its own; the globals stay.
 abbrev program_with : Program → List Extern → List Function → Program
 program_with P es fs = record { globals = P.globals; externs = es; functions = fs }
 
 module _ (skip : Site → Bool) where
-  -- where the plan without repairs inserts, with these stores to skip
+  -- Where the plan without repairs inserts, with these stores to skip.
   abbrev w : Wanted
   w = wanted_by no_repairs skip
 

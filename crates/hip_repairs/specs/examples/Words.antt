@@ -26,23 +26,23 @@ use Rattle.hip_runs.specs.Step.{run, has_ended}
 use Rattle.hip_repairs.specs.Choice.{plan_for}
 use Rattle.hip_repairs.specs.Repaired.{repaired}
 
--- `@NAME`
+-- `@NAME`.
 abbrev pub at : List ℕ → Operand
 at name = Fixed (consts.Address name)
 
--- `%NAME`
+-- `%NAME`.
 abbrev pub reg : List ℕ → Operand
 reg name = Reg name
 
--- a constant of 64 bits, which is the number modulo 2^64
+-- A constant of 64 bits, which is the number modulo 2^64.
 abbrev pub number : ℕ → Operand
 number n = Fixed (consts.Int (bits W64 n))
 
--- `ptr VALUE` as an argument
+-- `ptr VALUE` as an argument.
 abbrev pub ptr_arg : Operand → Arg
 ptr_arg value = record { ty = Ptr; value = value }
 
--- `i64 VALUE` as an argument
+-- `i64 VALUE` as an argument.
 abbrev pub i64_arg : Operand → Arg
 i64_arg value = record { ty = Int W64; value = value }
 
@@ -58,39 +58,39 @@ persistent_i64 name =
       align = None;
     }
 
--- `store i64 VALUE, ptr ADDR`
+-- `store i64 VALUE, ptr ADDR`.
 abbrev pub store_i64 : Operand → Operand → Instr
 store_i64 value addr = instrs.Store (Int W64) value addr None
 
--- `%NAME = alloca i64`
+-- `%NAME = alloca i64`.
 abbrev pub alloca_i64 : List ℕ → Instr
 alloca_i64 name = instrs.Alloca name (types.Int W64) None
 
--- `%NAME = load i64, ptr ADDR`
+-- `%NAME = load i64, ptr ADDR`.
 abbrev pub load_i64 : List ℕ → Operand → Instr
 load_i64 name addr = instrs.Load name (Int W64) addr None
 
--- `call void @NAME(ARGS)`
+-- `call void @NAME(ARGS)`.
 abbrev pub call_void : List ℕ → List Arg → Instr
 call_void name args = instrs.Call None None name args
 
--- `call void @llvm.x86.clwb(ptr ADDR)`
+-- `call void @llvm.x86.clwb(ptr ADDR)`.
 abbrev pub clwb : Operand → Instr
 clwb addr = call_void (codes "llvm.x86.clwb") (ptr_arg addr ∷ [])
 
--- `declare void @llvm.x86.clwb(ptr)`
+-- `declare void @llvm.x86.clwb(ptr)`.
 abbrev pub declare_clwb : Extern
 declare_clwb = record { ret = None; name = codes "llvm.x86.clwb"; params = Ptr ∷ [] }
 
--- `call void @llvm.x86.sse.sfence()`
+-- `call void @llvm.x86.sse.sfence()`.
 abbrev pub sfence : Instr
 sfence = call_void (codes "llvm.x86.sse.sfence") []
 
--- `declare void @llvm.x86.sse.sfence()`
+-- `declare void @llvm.x86.sse.sfence()`.
 abbrev pub declare_sfence : Extern
 declare_sfence = record { ret = None; name = codes "llvm.x86.sse.sfence"; params = [] }
 
--- `define i32 @main() { entry: BODY ret i32 0 }`
+-- `define i32 @main() { entry: BODY ret i32 0 }`.
 abbrev pub main_of : List Instr → Function
 main_of body =
     record {
@@ -107,23 +107,23 @@ main_of body =
           ∷ [];
     }
 
--- `ptr %NAME` as a parameter
+-- `ptr %NAME` as a parameter.
 abbrev pub ptr_param : List ℕ → Param
 ptr_param name = record { ty = Ptr; name = name }
 
--- `i64 %NAME` as a parameter
+-- `i64 %NAME` as a parameter.
 abbrev pub i64_param : List ℕ → Param
 i64_param name = record { ty = Int W64; name = name }
 
--- `LABEL: BODY` with `ret void`
+-- `LABEL: BODY` with `ret void`.
 abbrev pub ret_void : List ℕ → List Instr → Block
 ret_void label body = record { label = label; phis = []; body = body; end = ends.Ret None }
 
--- `define void @NAME(PARAMS) { BLOCKS }`
+-- `define void @NAME(PARAMS) { BLOCKS }`.
 abbrev pub define_void : List ℕ → List Param → List Block → Function
 define_void name params blocks = record { ret = None; name = name; params = params; blocks = blocks }
 
--- the site of an instruction in the first block of a function
+-- The site of an instruction in the first block of a function.
 abbrev pub site : ℕ → ℕ → Site
 site function index = record { function = function; block = 0; index = index }
 

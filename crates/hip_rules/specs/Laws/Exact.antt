@@ -23,7 +23,7 @@ pub record Rejects {F A : Type 0} (l : Rule F A) (c : Tok → Bool) (ts : List A
   pub refused : (w : F) (m : List At) → l.Refuses w ts m → (m ≡ rest) × (why ≡ Some w)
   pub reason : (w : F) → why ≡ Some w → l.Refuses w ts rest
 
--- the outcome is right for the rule: the value that was read is accepted, or the place that was refused is rejected
+-- The outcome is right for the rule: the value that was read is accepted, or the place that was refused is rejected.
 abbrev pub Exactly : {F A : Type 0} → Rule F A → (Tok → Bool) → List At → Outcome F A → Type 0
 Exactly l c ts (Ok x) = Accepts l c ts x.0 x.1
 Exactly l c ts (Err e) = Rejects l c ts e.0 e.1
@@ -44,7 +44,7 @@ later_back a b (t ∷ w) e le = absurd (let k = ap length e in omega (arith, k, 
 pub later_antisym : (a b : List At) → Later a b → Later b a → b ≡ a
 later_antisym a b p q = sym (later_back a b p.0 p.1 (later_length b a q))
 
--- two places in one list, in one order or the other
+-- Two places in one list, in one order or the other.
 later_compare : (a b u v : List At) → u ++ a ≡ v ++ b → Later a b ⊎ Later b a
 later_compare a b [] v e = inl (v, e)
 later_compare a b (t ∷ u) [] e = inr (t ∷ u, sym e)
@@ -53,7 +53,7 @@ later_compare a b (t ∷ u) (s ∷ v) e = later_compare a b u v (cc)
 pub later_order : (ts a b : List At) → Later ts a → Later ts b → Later a b ⊎ Later b a
 later_order ts a b p q = later_compare a b p.0 q.0 (sym p.1 ∙ q.1)
 
--- each place before the end of a front is the end of a front too
+-- Each place before the end of a front is the end of a front too.
 abbrev pub ClosedFronts : {F A : Type 0} → Rule F A → Type 0
 ClosedFronts l = (ts m at : List At) → l.Front ts m → Later ts at → Later at m → l.Front ts at
 
@@ -67,17 +67,17 @@ pub record IsExact {F A : Type 0} (l : Rule F A) (r : Reader F A) (c : Tok → B
   pub closed : ClosedFronts l
   pub reads : (ts : List At) → Exactly l c ts (r ts)
 
--- the rule derives nothing here, and no token begins it
+-- The rule derives nothing here, and no token begins it.
 pub record IsAbsent {F A : Type 0} (l : Rule F A) (ts : List At) : Type 0 where
   pub derives : (a : A) (m : List At) → l.Derives ts a m → ⊥
   pub front : (m : List At) → l.Front ts m → m ≡ ts
   pub refused : (why : F) (m : List At) → l.Refuses why ts m → ⊥
 
--- the test that no token passes, for a rule whose values never go on
+-- The test that no token passes, for a rule whose values never go on.
 abbrev pub never : Tok → Bool
 never t = false
 
--- a token passes one test or the other
+-- A token passes one test or the other.
 abbrev pub joined : (Tok → Bool) → (Tok → Bool) → Tok → Bool
 joined c d t = c t || d t
 
@@ -153,7 +153,7 @@ because_is v w e = cc
 tails : (t u : At) (ts m : List At) → t ∷ ts ≡ u ∷ m → m ≡ ts
 tails t u ts m e = cc
 
--- one token has one verdict
+-- One token has one verdict.
 pub verdicts : {F A : Type 0} (p : Tok → Verdict F A) (t u : At) (ts m : List At) (v w : Verdict F A)
     → p t.tok ≡ v
     → t ∷ ts ≡ u ∷ m → p u.tok ≡ w → w ≡ v
@@ -258,7 +258,7 @@ done_exact a = record {
 
 -- ---- a part and the part after it
 
--- what holds of a value and a place holds of equal ones
+-- What holds of a value and a place holds of equal ones.
 moved : {A : Type 0} (P : A → List At → Type 0) (a b : A) (m n : List At) → (a ≡ b) × (m ≡ n) → P a m
     → P b n
 moved P a b m n e h = subst (λ v. P b v) e.1 (subst (λ u. P u m) e.0 h)
@@ -333,7 +333,7 @@ module _ (F A B : Type 0) (l : Rule F A) (f : A → Rule F B) (c d : Tok → Boo
     reason = λ w k. inl (p.reason w k);
   }
 
-  -- the second part is only read if the first derives
+  -- The second part is only read if the first derives.
   pub both_where : (s : A → Reader F B) (ts : List At) (o : Outcome F A)
       → ((a : A) (m : List At) → l.Derives ts a m → Exactly (f a) d m (s a m)) → Exactly l c ts o
       → Exactly (both l f) d ts (on_ok o s)
@@ -396,7 +396,7 @@ both_closed l f w p c d ts m at t a b = elim t [
   ]
 ]
 
--- where the first part may go on, the second is absent
+-- Where the first part may go on, the second is absent.
 pub both_exact : {F A B : Type 0} (l : Rule F A) (f : A → Rule F B) (r : Reader F A) (s : A → Reader F B)
     (c d : Tok → Bool) → IsExact l r c → ((a : A) → IsExact (f a) (s a) d)
     → ((a : A) (m : List At) → next c m ≡ true → IsAbsent (f a) m) → IsExact (both l f) (both_at r s) d
@@ -411,7 +411,7 @@ both_exact {F} {A} {B} l f r s c d p q absent = record {
       (p.reads ts);
 }
 
--- a first part that never goes on
+-- A first part that never goes on.
 pub then_exact : {F A B : Type 0} (l : Rule F A) (f : A → Rule F B) (r : Reader F A) (s : A → Reader F B)
     (d : Tok → Bool) → IsExact l r never → ((a : A) → IsExact (f a) (s a) d)
     → IsExact (both l f) (both_at r s) d
@@ -426,7 +426,7 @@ both_absent l f ts q = record {
   refused = λ why m t. elim t [ inl t ↦ q.refused why m t | inr t ↦ absurd (q.derives t.0 t.1 t.2) ];
 }
 
--- a part whose value alone is changed goes on as the part does
+-- A part whose value alone is changed goes on as the part does.
 pub mapped : {F A B : Type 0} (l : Rule F A) (g : A → B) (c : Tok → Bool)
     → ((ts : List At) (a : A) (rest : List At) → l.Derives ts a rest → l.Front ts rest)
     → (ts : List At) (o : Outcome F A) → Exactly l c ts o
@@ -523,7 +523,7 @@ or_closed : {F A : Type 0} (l m : Rule F A) → ClosedFronts l → ClosedFronts 
 unfolding ◌or◌
 or_closed l m p q ts w at t a b = elim t [ inl t ↦ inl (p ts w at t a b) | inr t ↦ inr (q ts w at t a b) ]
 
--- the next token says which case it is
+-- The next token says which case it is.
 pub or_exact : {F A : Type 0} (l m : Rule F A) (r s : Reader F A) (c k : Tok → Bool) → IsExact l r c
     → IsExact m s c
     → ((ts : List At) → next k ts ≡ true → IsAbsent m ts)
@@ -600,7 +600,7 @@ other_absent p t ts e = record {
   refused = λ why m h. let k = verdicts p t h.1 ts h.2 No (Because why) e h.3 h.4 in cc;
 }
 
--- a token for which the test is false is not this one
+-- A token for which the test is false is not this one.
 pub token_absent : {F A : Type 0} (p : Tok → Verdict F A) (k : Tok → Bool) (b : Bool)
     → ((t : Tok) → k t ≡ b → p t ≡ No)
     → (ts : List At) → next k ts ≡ b → IsAbsent (one p) ts

@@ -10,18 +10,18 @@ use Rattle.hip_rules.specs.Laws.Same.{IsSame}
 use Rattle.hip_rules.specs.Laws.Phases.{phases_exact}
 use Rattle.hip_rules.specs.Laws.Loops.{TakesSome}
 
--- the reading is exact for the rule, if no token that `follow` passes comes after a whole part, unless the rule itself
--- could go on with it
+-- The reading is exact for the rule, if no token that `follow` passes comes after a whole part, unless the rule itself
+-- could go on with it.
 abbrev pub Exact : {F A : Type 0} → Part F A → (Tok → Bool) → Type 0
 Exact p follow = IsExact p.rule p.read follow
 
--- the same for a part that takes at least one token, and begins with a token that `first` passes
+-- The same for a part that takes at least one token, and begins with a token that `first` passes.
 pub record IsRead {F A : Type 0} (p : Part F A) (first follow : Tok → Bool) : Type 0 where
   pub exact : Exact p follow
   pub absent : (ts : List At) → next first ts ≡ false → IsAbsent p.rule ts
   pub some : (ts : List At) (a : A) (rest : List At) → p.rule.Derives ts a rest → length rest < length ts
 
--- no token passes both tests
+-- No token passes both tests.
 abbrev pub Apart : (Tok → Bool) → (Tok → Bool) → Type 0
 Apart c d = (t : Tok) → c t ≡ true → d t ≡ false
 
@@ -97,7 +97,7 @@ then_read l f first d p q = record {
   some = both_takes_some l.rule (λ a. (f a).rule) p.some (λ a. derives_within (f a) d (q a));
 }
 
--- a part that may go on, and then a part that takes at least one token
+-- A part that may go on, and then a part that takes at least one token.
 pub next_exact : {F A B : Type 0} (l : Part F A) (f : A → Part F B) (c second d : Tok → Bool) → Exact l c
     → ((a : A) → IsRead (f a) second d) → Apart c second → Exact (l >>= f) d
 next_exact l f c second d p q apart =
@@ -113,7 +113,7 @@ next_read l f first c second d p q apart = record {
   some = both_takes_some l.rule (λ a. (f a).rule) p.some (λ a. derives_within (f a) d (q a).exact);
 }
 
--- the same part with another value
+-- The same part with another value.
 pub maps_exact : {F A B : Type 0} (l : Part F A) (g : A → B) (c : Tok → Bool) → Exact l c
     → Exact (l >>= λ a. gives (g a)) c
 maps_exact {F} {A} {B} l g c p = record {
@@ -163,7 +163,7 @@ pub optional_exact : {F A : Type 0} (l : Part F A) (k c : Tok → Bool) → IsRe
     → Exact (optional k l) (joined k c)
 optional_exact {F} {A} l k c p = perhaps_exact F A l.rule l.read k c p.exact p.absent
 
--- an optional part, and then a part that takes at least one token
+-- An optional part, and then a part that takes at least one token.
 module _ (F A B : Type 0) (l : Part F A) (f : Option A → Part F B) (k second d : Tok → Bool) (p : IsRead l k never)
     (q : (o : Option A) → IsRead (f o) second d) (apart : Apart k second) where
   optional_absent : (ts : List At) → next (joined k second) ts ≡ false
@@ -226,7 +226,7 @@ by_never k t e = left_is (k t) e
     left_is true h = refl
     left_is false h = h
 
--- one more part, after a separator
+-- One more part, after a separator.
 one_more_by_read : {F A : Type 0} (l : Part F A) (k c : Tok → Bool) → Exact l c → IsRead (one_more_by k l) k c
 unfolding one_more_by
 one_more_by_read {F} l k c p = then_read (passing {F = F} k) (λ _. l) k c (passing_read k never) (λ _. p)
@@ -238,7 +238,7 @@ pub one_more_read : {F A : Type 0} (l : Part F A) (k first c : Tok → Bool) →
     → IsRead (one_more_by k l) k c
 one_more_read l k first c p = one_more_by_read l k c p.exact
 
--- any number of parts more, each after a separator
+-- Any number of parts more, each after a separator.
 pub more_exact : {F A : Type 0} (l : Part F A) (k first : Tok → Bool) → IsRead l first never
     → Exact (repeated k (one_more_by k l)) k
 more_exact l k first p =
@@ -282,7 +282,7 @@ pub read_derives : {F A : Type 0} (p : Part F A) (c : Tok → Bool) → Exact p 
     → p.read ts ≡ Ok x → p.rule.Derives ts x.0 x.1
 read_derives p c q ts x e = accepted p c ts (p.read ts) x (q.reads ts) e
 
--- a part takes at least one token, which a loop over it needs
+-- A part takes at least one token, which a loop over it needs.
 pub read_takes_some : {F A : Type 0} (p : Part F A) (first c : Tok → Bool) → IsRead p first c → TakesSome p.read
 read_takes_some p first c q ts x e = q.some ts x.0 x.1 (read_derives p c q.exact ts x e)
 
@@ -336,11 +336,11 @@ part_link l f d p q = then_exact l.rule (λ a. (f a).rule) l.read (λ a. (f a).r
 pub token_exact : {F A : Type 0} (p : Tok → Verdict F A) (d : Tok → Bool) → Exact (token p) d
 token_exact p d = exact_widens (one p) _ never d (next_widens never d (never_passes d)) (one_exact p)
 
--- a part that nothing may continue: the test is never used
+-- A part that nothing may continue: the test is never used.
 pub closed_exact : {F A : Type 0} (p : Part F A) (d : Tok → Bool) → Exact p never → Exact p d
 closed_exact p d q = exact_widens p.rule p.read never d (next_widens never d (never_passes d)) q
 
--- an optional part whose own follow set is within its first tokens
+-- An optional part whose own follow set is within its first tokens.
 pub optional_same : {F A : Type 0} (l : Part F A) (k : Tok → Bool) → IsRead l k never → Exact (optional k l) k
 optional_same l k p =
     exact_widens _ _ (joined k never) k (next_widens (joined k never) k (by_never k)) (optional_exact l k never p)
@@ -360,7 +360,7 @@ apart_sym c d p t e = by_right (c t) refl
 pub apart_joined : (d a b : Tok → Bool) → Apart d a → Apart d b → Apart d (joined a b)
 apart_joined d a b p q t e = rw (p t e) (q t e)
 
--- a test that more tokens pass than begin the part
+-- A test that more tokens pass than begin the part.
 next_not_wide : (first wide : Tok → Bool) → ((t : Tok) → wide t ≡ false → first t ≡ false)
     → (ts : List At)
     → next wide ts ≡ false → next first ts ≡ false
@@ -372,7 +372,7 @@ pub begins_by : {F A : Type 0} (p : Part F A) (first wide c : Tok → Bool)
 begins_by p first wide c h r =
     record { exact = r.exact; absent = λ ts e. r.absent ts (next_not_wide first wide h ts e); some = r.some }
 
--- any number of parts, and then a part that takes at least one token
+-- Any number of parts, and then a part that takes at least one token.
 module _ (F A B : Type 0) (l : Part F A) (f : List A → Part F B) (k c second d : Tok → Bool) (p : IsRead l k c)
     (own : Apart c k) (q : (xs : List A) → IsRead (f xs) second d) (apart : Apart (joined k c) second) where
   nothing_repeated : (ts : List At) → IsAbsent l.rule ts → (xs : List A) (m : List At) → AllDerive l.rule ts xs m

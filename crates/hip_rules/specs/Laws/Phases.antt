@@ -25,11 +25,11 @@ module _ (F X P B : Type 0) (h : Rule F X) (rh : Reader F X) (f : X → Rule F P
     (c_head : (ts : List At) → next c ts ≡ true → next kh ts ≡ false)
     (c_absent : (ps : List P) (ts : List At) → next c ts ≡ true → IsAbsent (O ps) ts)
     (T_is : (ps : List P) → IsSame (both h (R ps) or O ps) (T ps)) where
-  -- the rule as it is defined
+  -- The rule as it is defined.
   abbrev pub phases : List P → Rule F B
   phases ps = both (many (both h f)) (λ more. T (ps ++ more))
 
-  -- the same, by the next tokens
+  -- The same, by the next tokens.
   abbrev pub factored_phases : List P → Rule F B
   factored_phases ps = both h (λ x. both (f x) (λ p. phases (ps ++ (p ∷ []))) or R ps x) or O ps
 
@@ -38,7 +38,7 @@ module _ (F X P B : Type 0) (h : Rule F X) (rh : Reader F X) (f : X → Rule F P
       subst (λ (qs : List P). IsSame (T (ps ++ (p ∷ more))) (T qs)) (sym (append_assoc ps (p ∷ []) more))
       (same_refl (T (ps ++ (p ∷ more))))
 
-  -- one step of the phases
+  -- One step of the phases.
   first_part : (ps : List P)
       → IsSame (both (both h f) (λ p. phases (ps ++ (p ∷ []))))
       (both (both h f) (λ p. both (many (both h f)) (λ more. T (ps ++ (p ∷ more)))))
@@ -213,7 +213,7 @@ module _ (F X P B : Type 0) (h : Rule F X) (rh : Reader F X) (f : X → Rule F P
         (λ ts g. both_absent h f ts (h_absent ts (c_head ts g))) part_takes_some,
   )
 
-  -- the reading of phases is exact
+  -- The reading of phases is exact.
   pub phases_exact : IsExact (both (many (both h f)) T) phased_read d
   phases_exact = record {
     empty = both_empty (many (both h f)) T (parts_exact.1).empty;

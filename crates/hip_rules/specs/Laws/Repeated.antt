@@ -15,7 +15,7 @@ module _ (F A : Type 0) (l : Rule F A) (r : Reader F A) (k c : Tok → Bool) (p 
     (stay : (ts : List At) → next k ts ≡ false → IsAbsent l ts)
     (ends : (ts : List At) → next c ts ≡ true → IsAbsent l ts)
     (takes_some : (ts : List At) (a : A) (rest : List At) → l.Derives ts a rest → length rest < length ts) where
-  -- what may follow a part: one part more, or what may follow the last
+  -- What may follow a part: one part more, or what may follow the last.
   abbrev kc : Tok → Bool
   kc = joined k c
 
@@ -78,7 +78,7 @@ module _ (F A : Type 0) (l : Rule F A) (r : Reader F A) (k c : Tok → Bool) (p 
         q.refused why m (subst (λ u. l.Refuses why u m) here t.3);
   }
 
-  -- after the first part nothing more is read, unless the next token passes the test
+  -- After the first part nothing more is read, unless the next token passes the test.
   ended : (m : List At) → next c m ≡ true → (ys : List A) (w : List At) → AllDerive l m ys w → w ≡ m
   ended m g ys w t = (none_is m (ends m g) ys w t).1
 

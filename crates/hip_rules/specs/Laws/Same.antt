@@ -5,7 +5,7 @@ use Rattle.hip_rules.specs.Rule.{Rule, both, many, AllDerive, ◌or◌}
 use Rattle.hip_rules.specs.Reader.{Reader, Outcome}
 use Rattle.hip_rules.specs.Laws.Exact.{IsExact, Exactly, IsAbsent}
 
--- both rules derive the same values, have the same fronts, and refuse the same tokens for the same reasons
+-- Both rules derive the same values, have the same fronts, and refuse the same tokens for the same reasons.
 pub record IsSame {F A : Type 0} (l m : Rule F A) : Type 0 where
   pub derives : (ts : List At) (a : A) (rest : List At) → l.Derives ts a rest → m.Derives ts a rest
   pub derives_back : (ts : List At) (a : A) (rest : List At) → m.Derives ts a rest → l.Derives ts a rest
@@ -41,7 +41,7 @@ same_exact l m r c s p = record {
   reads = λ ts. same_exactly l m c ts (r ts) s (p.reads ts);
 }
 
--- a front that two cases share may be read once
+-- A front that two cases share may be read once.
 pub factored : {F A B : Type 0} (l : Rule F A) (f g : A → Rule F B)
     → IsSame (both l (λ x. f x or g x)) ((both l f) or (both l g))
 unfolding both ◌or◌

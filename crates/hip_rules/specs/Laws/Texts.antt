@@ -9,16 +9,16 @@ use Rattle.hip_tokens.specs.Cuts.{cut_blank}
 use Rattle.hip_tokens.specs.Written.{ends_word, at_line, word_cut, label_cut, local_cut, global_cut, digits_cut, mark_cut}
 use Rattle.hip_rules.specs.Rule.{Rule, Verdict, Yes, done, one, both, ◌or◌, many, perhaps, AllDerive}
 
--- any bytes may follow
+-- Any bytes may follow.
 abbrev pub anything : List ℕ → Bool
 anything rest = true
 
--- the rule derives the value from the text, if bytes that `ends` passes follow it
+-- The rule derives the value from the text, if bytes that `ends` passes follow it.
 pub record IsTextOf {F A : Type 0} (ends : List ℕ → Bool) (l : Rule F A) (text : List ℕ) (x : A) : Type 0 where
   pub derives : (line : ℕ) (rest : List ℕ) → ends rest ≡ true
       → (after : ℕ) × l.Derives (cut line 0 (text ++ rest)) x (cut after 0 rest)
 
--- `c` holds of the bytes after `text`, if `d` holds of what follows it
+-- `c` holds of the bytes after `text`, if `d` holds of what follows it.
 abbrev pub Leaves : (List ℕ → Bool) → List ℕ → (List ℕ → Bool) → Type 0
 Leaves c text d = (rest : List ℕ) → d rest ≡ true → c (text ++ rest) ≡ true
 
@@ -40,7 +40,7 @@ blank_text {l = l} {t = t} {x = x} b blank p =
           (q.0, rw (cut_blank line b (t ++ rest) blank) q.1);
     }
 
--- a part with a separator after it
+-- A part with a separator after it.
 pub blank_past : {F A : Type 0} {l : Rule F A} {c : List ℕ → Bool} {s : List ℕ} {x : A} (b : ℕ)
     → is_blank b ≡ true
     → Leaves c (b ∷ []) anything → IsTextOf c l s x → IsTextOf anything l (s ++ b ∷ []) x
@@ -63,7 +63,7 @@ then_text f {s = s} {t = t} {x = x} p q leaves = record {
       (second.0, rw (append_assoc s t rest) (x, cut first.0 0 (t ++ rest), first.1, second.1));
 }
 
--- a part and then nothing
+-- A part and then nothing.
 pub last_text : {F A B : Type 0} {l : Rule F A} (f : A → Rule F B) {c : List ℕ → Bool} {s : List ℕ} {x : A}
     {y : B}
     → IsTextOf c l s x → IsTextOf anything (f x) [] y → IsTextOf c (both l f) s y
@@ -108,21 +108,21 @@ pub mark_text : {F A : Type 0} (p : Tok → Verdict F A) {x : A} (b : ℕ) → i
     → IsTextOf anything (one p) (b ∷ []) x
 mark_text p b n e = token_text p (Mark b) (λ line rest h. mark_cut line b rest n) e
 
--- a word and a space, and then a part
+-- A word and a space, and then a part.
 pub word_then : {F A B : Type 0} (p : Tok → Verdict F A) (f : A → Rule F B) {d : List ℕ → Bool} {t : List ℕ}
     {x : A}
     {y : B} (w : List ℕ) → is_name w ≡ true → p (Word w) ≡ Yes x → IsTextOf d (f x) t y
     → IsTextOf d (both (one p) f) (w ++ (32 ∷ t)) y
 word_then p f w n e q = then_text f (word_text p w n e) (blank_text 32 refl q) (λ rest h. refl)
 
--- a mark, and then a part
+-- A mark, and then a part.
 pub mark_then : {F A B : Type 0} (p : Tok → Verdict F A) (f : A → Rule F B) {d : List ℕ → Bool} {t : List ℕ}
     {x : A}
     {y : B} (b : ℕ) → is_mark b ≡ true → p (Mark b) ≡ Yes x → IsTextOf d (f x) t y
     → IsTextOf d (both (one p) f) (b ∷ t) y
 mark_then p f b n e q = then_text f (mark_text p b n e) q (λ rest h. refl)
 
--- a name before `:`, and then a part
+-- A name before `:`, and then a part.
 pub label_then : {F A B : Type 0} (p : Tok → Verdict F A) (f : A → Rule F B) {d : List ℕ → Bool} {t : List ℕ}
     {x : A}
     {y : B} (w : List ℕ) → is_name w ≡ true → p (Label w) ≡ Yes x → IsTextOf d (f x) t y
@@ -175,7 +175,7 @@ more_text {s = s} {t = t} p q leaves = record {
       (second.0, rw (append_assoc s t rest) (cut first.0 0 (t ++ rest), first.1, second.1));
 }
 
--- one part and then another
+-- One part and then another.
 module _ {F X A : Type 0} (l : Rule F A) (text : X → List ℕ) (value : X → A) (c : List ℕ → Bool)
     (test : X → Bool)
     (each : (x : X) → test x ≡ true → IsTextOf c l (text x) (value x))

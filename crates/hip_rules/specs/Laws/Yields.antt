@@ -7,12 +7,12 @@ use Rattle.hip_tokens.specs.Formed.{is_formed, AreFormed}
 use Rattle.hip_rules.specs.Rule.{Rule, Verdict, Yes, done, one, both, ◌or◌, many, perhaps, AllDerive}
 use Rattle.hip_rules.specs.Part.{Part, gives, token, ◌>>=◌, either, repeated, optional, one_more_by, separated, none_up_to, some_up_to, listed, skipped, phased}
 
--- the derived value has the property, and the tokens that are left are formed too
+-- The derived value has the property, and the tokens that are left are formed too.
 abbrev pub RuleYields : {F A : Type 0} → Rule F A → (A → Type 0) → Type 0
 RuleYields {F} {A} l Q =
     (ts : List At) (a : A) (rest : List At) → AreFormed ts → l.Derives ts a rest → Q a × AreFormed rest
 
--- the same for a part, by its rule
+-- The same for a part, by its rule.
 pub record Yields {F A : Type 0} (p : Part F A) (Q : A → Type 0) : Type 0 where
   pub yields : RuleYields p.rule Q
 
@@ -62,7 +62,7 @@ perhaps_yields l P Q p q h ts o rest f d = elim d [
 
 -- ---- the parts
 
--- the property that every value has
+-- The property that every value has.
 abbrev pub Any : {A : Type 0} → A → Type 0
 Any a = Unit {0}
 
@@ -81,7 +81,7 @@ then_yields l f P Q p q = record {
       both_yields l.rule (λ a. (f a).rule) P Q p.yields (λ a h. (q a h).yields);
 }
 
--- a part after a token with no condition
+-- A part after a token with no condition.
 pub after_token : {F A B : Type 0} (p : Tok → Verdict F A) (f : A → Part F B) (Q : B → Type 0)
     → ((a : A) → Yields (f a) Q) → Yields (token p >>= f) Q
 after_token p f Q q = then_yields (token p) f Any Q (token_yields p Any (λ t a g e. tt)) (λ a h. q a)
@@ -104,7 +104,7 @@ pub one_more_yields : {F A : Type 0} (k : Tok → Bool) (l : Part F A) (Q : A �
 unfolding one_more_by
 one_more_yields k l Q p = after_token _ _ Q (λ _. p)
 
--- all values pass, and there is at least one
+-- All values pass, and there is at least one.
 pub separated_yields : {F A : Type 0} (k : Tok → Bool) (l : Part F A) (test : A → Bool) (Q : List A → Type 0)
     → Yields l (λ a. test a ≡ true) →
     ((x : A) (xs : List A) → list_all test (x ∷ xs) ≡ true → Q (x ∷ xs))
@@ -141,7 +141,7 @@ skipped_yields k l p =
     then_yields (repeated k l) _ _ Any (repeated_yields k l (λ a. true)
     (record { yields = λ ts a rest f d. (refl, (p.yields ts a rest f d).1) })) (λ _ h. gives_yields tt Any tt)
 
--- a part after parts of one kind, each with a head
+-- A part after parts of one kind, each with a head.
 pub phased_yields : {F X P B : Type 0} (kh : Tok → Bool) (head : Part F X) (kf : Tok → Bool) (part : X → Part F P)
     (after_head : List P → X → Part F B) (no_head following : List P → Part F B) (R : X → Type 0)
     (test : P → Bool)

@@ -21,7 +21,7 @@ use Rattle.hip_trace.specs.declared.entry.TrapWord.{TrapWord}
 
 -- ---- whether two entries are equal
 
--- two values are equal or they are not
+-- Two values are equal or they are not.
 abbrev Same : {A : Type 0} → A → A → Type 0
 Same a b = (a ≡ b) ⊎ (a ≡ b → ⊥)
 
@@ -119,7 +119,7 @@ record Agree (whole : Bool) (ps : List (Option Entry)) (es : List Entry) : Type 
   spell : ps ≡ stated (take (length ps) es)
   all : whole ≡ true → ps ≡ stated es
 
--- either pieces and entries first differ at some number, in some way, or they agree
+-- Either pieces and entries first differ at some number, in some way, or they agree.
 abbrev Compared : Bool → List (Option Entry) → List Entry → Type 0
 Compared whole ps es = ((c : ℕ) × (k : MisfitKind) × FirstDiffers whole ps es c k) ⊎ Agree whole ps es
 
@@ -150,11 +150,11 @@ compare whole (p ∷ ps) (e ∷ es) = go (piece_same p e) (compare whole ps es)
 
 -- ---- files
 
--- some entry of the bytes is a misfit, in some way
+-- Some entry of the bytes is a misfit, in some way.
 abbrev SomeMisfit : Program → List ℕ → Bool → Type 0
 SomeMisfit P bytes whole = (e : ℕ) × (k : MisfitKind) × IsMisfit P bytes whole e k
 
--- no entry of the bytes is a misfit, in whatever way
+-- No entry of the bytes is a misfit, in whatever way.
 abbrev NoMisfit : Program → List ℕ → Bool → Type 0
 NoMisfit P bytes whole = (e : ℕ) (k : MisfitKind) → IsMisfit P bytes whole e k → ⊥
 

@@ -29,12 +29,12 @@ use Rattle.hip_trace.specs.declared.entry.Entry.TheVariants.{Start, Register, In
 
 -- ---- what is spelled fits
 
--- the values of the entry that a piece spells fit the fields of its text; no condition if it spells none
+-- The values of the entry that a piece spells fit the fields of its text; no condition if it spells none.
 abbrev pub FitsIfThere : Option Entry → Type 0
 FitsIfThere None = Unit {0}
 FitsIfThere (Some e) = ValuesFit e
 
--- the values of each entry that the pieces spell fit the fields of its text
+-- The values of each entry that the pieces spell fit the fields of its text.
 abbrev pub FitAll : List (Option Entry) → Type 0
 FitAll [] = Unit {0}
 FitAll (e ∷ es) = FitsIfThere e × FitAll es
@@ -52,7 +52,7 @@ fit_pieces whole bytes = fit_texts (pieces whole bytes)
 
 -- ---- what a header has given so far
 
--- the entries after START and REGISTER that give this
+-- The entries after START and REGISTER that give this.
 abbrev so_far : Input → List Entry
 so_far J = map (λ z. Number z) J.numbers ++ image_entries (length J.image / 64) J.base J.image
 
@@ -67,7 +67,7 @@ record IsGood (P : Program) (J : Input) : Type 0 where
   within : length J.image ≤ region_size P
   bytes : All (λ b. b < 256) J.image
 
--- one more entry was taken
+-- One more entry was taken.
 record Takes (P : Program) (J K : Input) (e : Entry) : Type 0 where
   good : IsGood P K
   base : K.base ≡ J.base
@@ -126,7 +126,7 @@ takes_number P J K z good fits q =
               ∙ ap (λ (es : List Entry). map (λ y. Number y) J.numbers ++ es) (sym nothing));
         }
 
--- the entries of some lines, of a gap of zeros, and of one line more
+-- The entries of some lines, of a gap of zeros, and of one line more.
 line_more : (addr k m : ℕ) (A line : List ℕ) → length A ≡ 64 * k → length line ≡ 64
     → some_byte line ≡ true
     → image_entries (k + (m + 1)) addr (A ++ (zeros (64 * m) ++ line)) ≡ image_entries k addr A

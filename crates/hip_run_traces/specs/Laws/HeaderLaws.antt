@@ -25,12 +25,12 @@ use Rattle.hip_trace.specs.declared.entry.Entry.TheVariants.{Start, Register, In
 
 -- ---- the entries of steps belong to no header
 
--- no header goes on with the first of these entries; true if there is none
+-- No header goes on with the first of these entries; true if there is none.
 abbrev StopsIt : Program → List Entry → Type 0
 StopsIt P [] = Unit {0}
 StopsIt P (e ∷ es) = (J : Input) → with_entry P J (Some e) ≡ None
 
--- no header goes on with these entries
+-- No header goes on with these entries.
 record EndsHeader (P : Program) (es : List Entry) : Type 0 where
   is : StopsIt P es
 
@@ -58,7 +58,7 @@ ends_there : (P : Program) (J : Input) (c : ℕ) (es : List Entry) → EndsHeade
 ends_there P J c [] h = refl
 ends_there P J c (e ∷ es) h = ap (go_on P J c (λ more. header_from P more (suc c) (stated es))) (h.is J)
 
--- the entries of a run's steps, after its header
+-- The entries of a run's steps, after its header.
 record StepsOf (P : Program) (I : Input) (n : ℕ) : Type 0 where
   steps : List Entry
   ends : EndsHeader P steps

@@ -39,7 +39,7 @@ zeros-add (suc a) b =
 
 -- ---- entries of lines
 
--- the IMAGE entry of one cache line at an address, as a list; empty if the line has no byte other than 0
+-- The IMAGE entry of one cache line at an address, as a list; empty if the line has no byte other than 0.
 abbrev pub line_entries : ℕ → List ℕ → List Entry
 line_entries addr line = if some_byte line then Image addr line ∷ [] else []
 

@@ -45,7 +45,7 @@ get_stated [] k = refl
 get_stated (e ∷ es) zero = refl
 get_stated (e ∷ es) (suc k) = get_stated es k
 
--- if the pieces spell the first entries, they spell each of them
+-- If the pieces spell the first entries, they spell each of them.
 spelled_at : (ps : List (Option Entry)) (es : List Entry) (n k : ℕ) → k < n → take n ps ≡ stated (take n es)
     → slice_get ps k ≡ option_map (λ e. Some e) (slice_get es k)
 spelled_at ps es zero k lt h = absurd (omega (arith, lt))
@@ -70,7 +70,7 @@ one_kind whole None (Some e) k k' h g = h.1 ∙ sym g.1
 one_kind whole (Some p) None k k' h g = h ∙ sym g
 one_kind whole (Some p) (Some e) k k' h g = h.1 ∙ sym g.1
 
--- no difference comes before the end of the spelled entries
+-- No difference comes before the end of the spelled entries.
 not_before : (whole : Bool) (ps : List (Option Entry)) (es : List Entry) (c n : ℕ) (kind : MisfitKind)
     → FirstDiffers whole ps es c kind → take n ps ≡ stated (take n es) → c < n → ⊥
 not_before whole ps es c n kind d h lt =
@@ -162,7 +162,7 @@ not_in P whole ps I h e kind d count rest split more begins = go (order d.count 
     go (inl lt) = absurd (not_before whole ps d.trace d.count h kind d.differs first lt)
     go (inr le) = le
 
--- the header's entries come before the misfit
+-- The header's entries come before the misfit.
 after_header : (P : Program) (whole : Bool) (bytes : List ℕ) (I : Input) (h e : ℕ) (kind : MisfitKind)
     → header P (spelled whole bytes) ≡ Gives h I → (d : DiffersFromRun P I whole (spelled whole bytes) e kind)
     → h ≤ d.count
@@ -317,7 +317,7 @@ module _ (P : Program) (front rest : List ℕ) (whole : Bool) (e : ℕ) (kind : 
 
 -- ---- step by step
 
--- a difference before the end of the trace of some steps is one of the whole trace
+-- A difference before the end of the trace of some steps is one of the whole trace.
 pub step-differs : (P : Program) (I : Input) (n : ℕ) (whole : Bool) (ps : List (Option Entry)) (es : List Entry)
     (c : ℕ)
     (kind : MisfitKind) → IsTrace P I es → c < length (trace P I n) → FirstDiffers whole ps (trace P I n) c kind
@@ -331,7 +331,7 @@ step-differs P I n whole ps es c kind t lt d =
           (sym (ap (λ (xs : List Entry). slice_get xs c) f.1 ∙ get_appended (trace P I n) f.0 c lt)) d.here;
     }
 
--- after entries that the pieces spell, the first difference is that of the rest
+-- After entries that the pieces spell, the first difference is that of the rest.
 pub differs-past : (whole : Bool) (front : List Entry) (ps : List (Option Entry)) (more : List Entry)
     (kind : MisfitKind) → DiffersAt whole (slice_get ps 0) (slice_get more 0) kind
     → FirstDiffers whole (stated front ++ ps) (front ++ more) (length front) kind
@@ -351,7 +351,7 @@ take_whole : (ps : List (Option Entry)) → take (length ps) ps ≡ ps
 take_whole [] = refl
 take_whole (p ∷ ps) = ap (λ (xs : List (Option Entry)). p ∷ xs) (take_whole ps)
 
--- pieces that all spell the first entries do not differ from them
+-- Pieces that all spell the first entries do not differ from them.
 pub agree-never : (ps : List (Option Entry)) (es : List Entry) (c : ℕ) (k : MisfitKind)
     → ps ≡ stated (take (length ps) es) → FirstDiffers false ps es c k → ⊥
 agree-never ps es c k spell d = go (order c (length ps))
@@ -395,7 +395,7 @@ stated_append : (es fs : List Entry) → stated (es ++ fs) ≡ stated es ++ stat
 stated_append [] fs = refl
 stated_append (e ∷ es) fs = ap (λ (ps : List (Option Entry)). Some e ∷ ps) (stated_append es fs)
 
--- if some pieces are the first of those that spell the entries, they spell the first entries
+-- If some pieces are the first of those that spell the entries, they spell the first entries.
 first_stated : (xs more : List (Option Entry)) (front es : List Entry) → stated front ≡ xs ++ more
     → (rest : List Entry)
     → es ≡ front ++ rest → xs ≡ stated (take (length xs) es)
@@ -421,7 +421,7 @@ module _ (P : Program) (I : Input) (n : ℕ) (bytes : List ℕ) (more : List (Op
       sym (stops_front P (spelled false bytes) more c p q at) ∙ whole_header in
       let z : ⊥ = cc in z
 
-  -- the header ends before the pieces do
+  -- The header ends before the pieces do.
   ends_before : (h : ℕ) (F : Input) → header P (spelled false bytes) ≡ Gives h F
       → h < length (spelled false bytes) → ⊥
   ends_before h F q lt =
@@ -433,7 +433,7 @@ module _ (P : Program) (I : Input) (n : ℕ) (bytes : List ℕ) (more : List (Op
       front-agrees P bytes F h whole.0 e k q (subst (λ (J : Input). IsTrace P J whole.0) (sym input) whole.1)
       (first_stated (spelled false bytes) more (trace P I n) whole.0 split front.0 front.1) m
 
-  -- all pieces are of the header
+  -- All pieces are of the header.
   ends_later : (h : ℕ) (F : Input) → header P (spelled false bytes) ≡ Gives h F
       → length (spelled false bytes) ≤ h → ⊥
   ends_later h F q le =

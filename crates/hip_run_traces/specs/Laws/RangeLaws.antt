@@ -49,19 +49,19 @@ use Rattle.hip_trace.specs.declared.entry.Entry.TheVariants as entries
 
 -- ---- actions
 
--- the bytes of a value of 1, 2, 4 or 8 bytes
+-- The bytes of a value of 1, 2, 4 or 8 bytes.
 record AreStored (bytes : List ℕ) : Type 0 where
   sized : is_store_size (length bytes) ≡ true
   below : little_endian bytes < 2 ^ (8 * length bytes)
 
--- a store is of a value of 1, 2, 4 or 8 bytes, and the range of an assert lies in the region; no condition on any other
--- action
+-- A store is of a value of 1, 2, 4 or 8 bytes, and the range of an assert lies in the region; no condition on any other
+-- action.
 abbrev ranged : Input → Action → Type 0
 ranged I (Stores a bytes) = AreStored bytes
 ranged I (Asserts a n) = in_region I a n ≡ true
 ranged I _ = Unit {0}
 
--- a store is of the bytes of a scalar, and an assert is of a range of the region
+-- A store is of the bytes of a scalar, and an assert is of a range of the region.
 record IsRanged (I : Input) (x : Action) : Type 0 where
   is : ranged I x
 
@@ -218,7 +218,7 @@ signed_fits n h = go (split n (2 ^ 31))
     go (inl k) = subst (FitsSigned w32) (sym (signed-low W32 n k)) (low n k)
     go (inr k) = subst (FitsSigned w32) (sym (signed-high W32 n k h)) (high (2 ^ 32 - 1 - n) (omega (arith, k, h)))
 
--- the lines of a range
+-- The lines of a range.
 lines_fit : (base d n size : ℕ) → base % 4096 ≡ 0 → base ≤ 2 ^ 46 → size ≤ 2 ^ 26 → 0 < n
     → d + n ≤ size
     → AreLines (base + 64 * (d / 64)) (64 * ((d + n - 1) / 64 + 1) - 64 * (d / 64))

@@ -57,7 +57,7 @@ pub next-trace : (P : Program) (I : Input) (n : ℕ)
 unfolding trace
 next-trace P I n = refl
 
--- a run that has ended has no more entries
+-- A run that has ended has no more entries.
 pub rests-trace : (P : Program) (I : Input) (n : ℕ) → has_ended (run P I n) ≡ true
     → trace P I (suc n) ≡ trace P I n
 rests-trace P I n h =
@@ -100,7 +100,7 @@ module _ (P : Program) (I : Input) where
 
   -- ---- the whole
 
-  -- a run that has ended stays ended
+  -- A run that has ended stays ended.
   rests : (n d : ℕ) → has_ended (run P I n) ≡ true → (has_ended (run P I (n + d)) ≡ true)
       × (trace P I (n + d) ≡ trace P I n)
   rests n zero h =
@@ -119,7 +119,7 @@ module _ (P : Program) (I : Input) where
   pub whole-trace : (es : List Entry) × IsTrace P I es
   whole-trace = let end = runs_end P I in (trace P I end.0, record { steps = end.0; ended = end.1; are = refl })
 
-  -- the traces after two numbers of steps are equal if the run has ended after both
+  -- The traces after two numbers of steps are equal if the run has ended after both.
   ended_alike : (m n : ℕ) → has_ended (run P I m) ≡ true → has_ended (run P I n) ≡ true
       → trace P I m ≡ trace P I n
   ended_alike m n h k = go (order m n)
@@ -141,7 +141,7 @@ module _ (P : Program) (I : Input) where
   pub one-trace : (es fs : List Entry) → IsTrace P I es → IsTrace P I fs → es ≡ fs
   one-trace es fs h k = h.are ∙ ended_alike h.steps k.steps h.ended k.ended ∙ sym k.are
 
-  -- the whole trace begins with the trace of any number of steps
+  -- The whole trace begins with the trace of any number of steps.
   pub whole-front : (n : ℕ) (es : List Entry) → IsTrace P I es → (more : List Entry)
       × (es ≡ trace P I n ++ more)
   whole-front n es h = go (front-trace n h.steps) (ended_later h.steps n h.ended)

@@ -28,7 +28,7 @@ use Rattle.hip_runs.specs.declared.event.Object.TheVariants as objects
 
 -- ---- pointer operands
 
--- the operand of an argument of type `ptr`, as a list of one; empty for an integer argument
+-- The operand of an argument of type `ptr`, as a list of one; empty for an integer argument.
 abbrev pub pointer_arg : Arg → List Operand
 pointer_arg a = pointed_by a.ty a.value
   where
@@ -45,70 +45,70 @@ pointer_operands P _ = []
 
 -- ---- marks without repeats, in the order of first meeting
 
--- whether both are the global of the same number, or both are blocks of the same `alloca`, which all count as one
--- object
+-- Whether both are the global of the same number, or both are blocks of the same `alloca`, which all count as one
+-- object.
 abbrev pub same_object : Object → Object → Bool
 same_object (objects.Global a) (objects.Global b) = nat_eq a b
 same_object (objects.Slot a) (objects.Slot b) = same_site a b
 same_object _ _ = false
 
--- whether two marks are of one site, of one operand there and of one object
+-- Whether two marks are of one site, of one operand there and of one object.
 abbrev pub same_mark : Mark → Mark → Bool
 same_mark a b = same_site a.site b.site && (nat_eq a.operand b.operand && same_object a.object b.object)
 
 -- ---- the marks of a step
 
--- the mark of pointer operand k of a site, if it pointed into an object, as a list
+-- The mark of pointer operand k of a site, if it pointed into an object, as a list.
 abbrev pub mark_of : Site → ℕ → Option Object → List Mark
 mark_of site k None = []
 mark_of site k (Some object) = record { site = site; operand = k; object = object } ∷ []
 
--- the marks of these pointer operands of the instruction at a frame's place, the first of which has number k, while the
--- frames `fs` stand
+-- The marks of these pointer operands of the instruction at a frame's place, the first of which has number k, while the
+-- frames `fs` stand.
 abbrev pub operand_marks : Program → Input → List Frame → Frame → ℕ → List Operand → List Mark
 operand_marks P I fs f k [] = []
 operand_marks P I fs f k (o ∷ os) =
     mark_of (site_of f) k (object_at P I.base fs (value_of P.globals I.base f.registers o))
     ++ operand_marks P I fs f (suc k) os
 
--- the marks of the first of these instructions, which is the one at the frame's place; none at the end of a block
+-- The marks of the first of these instructions, which is the one at the frame's place; none at the end of a block.
 abbrev pub code_marks : Program → Input → List Frame → Frame → List Instr → List Mark
 code_marks P I fs f [] = []
 code_marks P I fs f (i ∷ rest) = operand_marks P I fs f 0 (pointer_operands P i)
 
--- the marks of the instruction at the top frame's place, whether it is taken or not; none if no frame stands
+-- The marks of the instruction at the top frame's place, whether it is taken or not; none if no frame stands.
 abbrev pub frame_marks : Program → Input → List Frame → List Mark
 frame_marks P I [] = []
 frame_marks P I (f ∷ fs) = code_marks P I (f ∷ fs) f (code_at P f)
 
--- the list, unless the event ends the run: then the step did not take its instruction
+-- The list, unless the event ends the run: then the step did not take its instruction.
 abbrev pub unless_ended : {A : Type 0} → Event → List A → List A
 unless_ended (events.End e) xs = []
 unless_ended _ xs = xs
 
--- the marks of a state's next step; none if the run has ended, or ends with that step
+-- The marks of a state's next step; none if the run has ended, or ends with that step.
 abbrev pub step_marks : Program → Input → State → List Mark
 step_marks P I s = cond (has_ended s) [] (unless_ended (event P I s) (frame_marks P I s.frames))
 
--- the persistent global that a store's address lies in, since the event of a store is of the region, where no other
--- global lies
+-- The persistent global that a store's address lies in, since the event of a store is of the region, where no other
+-- global lies.
 abbrev pub event_hits : Program → Input → Event → List ℕ
 event_hits P I (events.Store a value size) = option_to_list (global_at P I.base a)
 event_hits P I _ = []
 
 -- ---- the marks and the findings of a run
 
--- the marks of the first n steps, each once, in the order of first meeting
+-- The marks of the first n steps, each once, in the order of first meeting.
 unfoldable pub pointed : Program → Input → ℕ → List Mark
 pointed P I zero = []
 pointed P I (suc n) = met same_mark (pointed P I n) (step_marks P I (run P I n))
 
--- the numbers of the persistent globals that the first n steps stored into, each once, in the order of first meeting
+-- The numbers of the persistent globals that the first n steps stored into, each once, in the order of first meeting.
 unfoldable pub hit : Program → Input → ℕ → List ℕ
 hit P I zero = []
 hit P I (suc n) = met nat_eq (hit P I n) (event_hits P I (event P I (run P I n)))
 
--- what the first n steps found
+-- What the first n steps found.
 abbrev pub findings : Program → Input → ℕ → Findings
 findings P I n = record { reports = reports P I n; marks = record { pointed = pointed P I n; hit = hit P I n } }
 

@@ -18,17 +18,17 @@ use Rattle.hip_runs.specs.declared.event.Event.TheVariants as events
 
 -- ---- loose parts
 
--- whether a range of n bytes from o has one of the `count` bytes from b on that no later part covers
+-- Whether a range of n bytes from o has one of the `count` bytes from b on that no later part covers.
 abbrev pub shows : ℕ → ℕ → ℕ → ℕ → List StorePart → Bool
 shows o n zero b later = false
 shows o n (suc count) b later =
     (nat_le o b && (nat_lt b (o + n) && not (list_any (λ q. covers q b) later))) || shows o n count (suc b) later
 
--- whether a part is the last one over a byte of a range; these parts follow it in its line
+-- Whether a part is the last one over a byte of a range; these parts follow it in its line.
 abbrev pub is_last : ℕ → ℕ → StorePart → List StorePart → Bool
 is_last o n p later = shows o n (length p.bytes) p.offset later
 
--- a part that is not durable, and whether it is flushed
+-- A part that is not durable, and whether it is flushed.
 pub record LoosePart : Type 0 where
   pub part : StorePart
   pub flushed : Bool
@@ -42,23 +42,23 @@ loose_from o n made durable flushed k (p ∷ later) =
     (record { part = p; flushed = nat_lt k flushed } ∷ loose_from o n made durable flushed (suc k) later)
     (loose_from o n made durable flushed (suc k) later)
 
--- the loose parts of a step's store in a cache line, in a range of n bytes from o
+-- The loose parts of a step's store in a cache line, in a range of n bytes from o.
 abbrev pub loose_in : ℕ → ℕ → ℕ → Line StorePart → List LoosePart
 loose_in o n made l = loose_from o n made l.durable l.flushed 0 l.parts
 
--- the loose parts of a step's store in these cache lines, line by line, in a range of n bytes from o
+-- The loose parts of a step's store in these cache lines, line by line, in a range of n bytes from o.
 abbrev pub loose_parts : ℕ → ℕ → List (Line StorePart) → ℕ → List LoosePart
 loose_parts o n ls made = flat_map (loose_in o n made) ls
 
 -- ---- one report
 
--- the later of two flushes
+-- The later of two flushes.
 abbrev pub later_flush : Option Flush → Option Flush → Option Flush
 later_flush None b = b
 later_flush (Some a) None = Some a
 later_flush (Some a) (Some b) = cond (nat_lt a.step b.step) (Some b) (Some a)
 
--- the latest among the first flushes of the parts' lines
+-- The latest among the first flushes of the parts' lines.
 abbrev pub latest_flush : List LoosePart → Option Flush
 latest_flush [] = None
 latest_flush (p ∷ ps) = later_flush p.part.first_flush (latest_flush ps)
@@ -69,25 +69,25 @@ kind_of true fenced = MissingFence
 kind_of false true = MissingFlush
 kind_of false false = MissingBoth
 
--- whether each of these loose parts is flushed; true if there is none
+-- Whether each of these loose parts is flushed; true if there is none.
 abbrev pub all_flushed : List LoosePart → Bool
 all_flushed ps = list_all (λ p. p.flushed) ps
 
--- the site of the flush that lacks a fence
+-- The site of the flush that lacks a fence.
 abbrev pub flush_site_of : Bool → List LoosePart → Option Site
 flush_site_of true ps = option_map (λ f. f.site) (latest_flush ps)
 flush_site_of false ps = None
 
--- whether one of these frames was made by the call
+-- Whether one of these frames was made by the call.
 abbrev pub is_open : List Level → Level → Bool
 is_open standing l = list_any (λ s. nat_eq s.birth l.birth) standing
 
--- how many of the calls have returned
+-- How many of the calls have returned.
 abbrev pub closed_count : List Level → List Level → ℕ
 closed_count standing [] = 0
 closed_count standing (l ∷ ls) = cond (is_open standing l) (closed_count standing ls) (suc (closed_count standing ls))
 
--- the report of a store from its loose parts, of which p is one, at the check with this entry, while these calls stand
+-- The report of a store from its loose parts, of which p is one, at the check with this entry, while these calls stand.
 abbrev pub report_by : List Level → ℕ → StorePart → List LoosePart → Report
 report_by standing check p ps =
     record {
@@ -99,14 +99,14 @@ report_by standing check p ps =
       closed = closed_count standing p.levels;
     }
 
--- one report for a store that has loose parts
+-- One report for a store that has loose parts.
 abbrev pub report_of : List Level → ℕ → List LoosePart → List Report
 report_of standing check [] = []
 report_of standing check (p ∷ ps) = report_by standing check p.part (p ∷ ps) ∷ []
 
 -- ---- checks
 
--- a range of the region, by its offset and its size
+-- A range of the region, by its offset and its size.
 pub record Range : Type 0 where
   pub offset : ℕ
   pub size : ℕ
@@ -118,25 +118,25 @@ checked_range base region (events.Assert a n) = Some (record { offset = a - base
 checked_range base region (events.End (Stop code)) = Some (record { offset = 0; size = region })
 checked_range base region _ = None
 
--- what a step with this event checks in a run on an input
+-- What a step with this event checks in a run on an input.
 abbrev pub checked_by : Input → Event → Option Range
 checked_by I e = checked_range I.base (length I.image) e
 
--- the range that the next step checks, if the run has not ended
+-- The range that the next step checks, if the run has not ended.
 abbrev pub next_check : Program → Input → State → Option Range
 next_check P I s = cond (has_ended s) None (checked_by I (event P I s))
 
--- the reports of a step's store at a check of a range: one if it has loose parts in the range
+-- The reports of a step's store at a check of a range: one if it has loose parts in the range.
 abbrev pub reports_for : State → Range → ℕ → List Report
 reports_for s range made =
     report_of (levels_of s.frames) (suc s.counts.entries) (loose_parts range.offset range.size s.lines made)
 
--- the reports of a check, in the order of the stores' steps
+-- The reports of a check, in the order of the stores' steps.
 abbrev pub check_reports : State → Option Range → List Report
 check_reports s None = []
 check_reports s (Some range) = flat_map (reports_for s range) (range_with_len 0 s.counts.steps)
 
--- the reports of the first n steps, in the order of their checks
+-- The reports of the first n steps, in the order of their checks.
 unfoldable pub reports : Program → Input → ℕ → List Report
 reports P I zero = []
 reports P I (suc n) = reports P I n ++ check_reports (run P I n) (next_check P I (run P I n))

@@ -13,7 +13,7 @@ use Rattle.hip_runs.specs.StoredParts.Shown.{shown}
 use Rattle.hip_runs.specs.State.{StorePart, State}
 use Rattle.hip_lines.specs.Parts as bytes
 
--- the loose bytes of a range of a state's lines, as the code's lines give them
+-- The loose bytes of a range of a state's lines, as the code's lines give them.
 abbrev pub loose_bytes : State → ℕ → ℕ → List LooseByte
 loose_bytes s o n = bytes.loose_from (shown s.lines) o n
 
@@ -31,11 +31,11 @@ pub record IsLoosePart (o n made : ℕ) (ls : List (Line StorePart)) (p : LooseP
   pub step : p.part.step ≡ made
   pub flushed : p.flushed ≡ nat_lt place of.flushed
 
--- one of the loose bytes has the tag
+-- One of the loose bytes has the tag.
 abbrev pub has_tag : ℕ → List LooseByte → Bool
 has_tag made bs = list_any (λ b. nat_eq b.tag made) bs
 
--- all loose bytes that have the tag are flushed
+-- All loose bytes that have the tag are flushed.
 abbrev pub tag_flushed : ℕ → List LooseByte → Bool
 tag_flushed made bs = list_all (λ b. not (nat_eq b.tag made) || b.flushed) bs
 
@@ -54,16 +54,16 @@ pub record AreStatedBy (ps : List LoosePart) (bs : List LooseByte) (made : ℕ) 
   pub some : not_empty ps ≡ has_tag made bs
   pub flushed : all_flushed ps ≡ tag_flushed made bs
 
--- the numbers ascend, the first of them at least a, and the last below b
+-- The numbers ascend, the first of them at least a, and the last below b.
 abbrev pub AscendWithin : ℕ → ℕ → List ℕ → Type 0
 AscendWithin a b [] = Unit {0}
 AscendWithin a b (x ∷ xs) = (a ≤ x) × (x < b) × AscendWithin (x + 1) b xs
 
--- a function has nothing at the numbers from a up to b that are not in the list
+-- A function has nothing at the numbers from a up to b that are not in the list.
 abbrev pub IsNoneBeside : {A : Type 0} → (ℕ → List A) → ℕ → ℕ → List ℕ → Type 0
 IsNoneBeside f a b xs = (y : ℕ) → a ≤ y → y < b → ¬ In y xs → f y ≡ []
 
--- the ascending list holds the tags of all loose bytes of the range
+-- The ascending list holds the tags of all loose bytes of the range.
 pub record HoldsTags (s : State) (range : Range) (tags : List ℕ) : Type 0 where
   pub ascend : AscendWithin 0 s.counts.steps tags
   pub holds : (b : LooseByte) → In b (loose_bytes s range.offset range.size) → In b.tag tags

@@ -8,7 +8,7 @@ use Rattle.hip_runs.specs.declared.report.Kind.TheVariants.{MissingFlush, Missin
 use Rattle.hip_runs.specs.declared.report.Report.{Report}
 use Rattle.hip_runs.specs.Sites.{is_store, is_flush_call, is_defined_call}
 
--- whether a fence is missing and no flush
+-- Whether a fence is missing and no flush.
 abbrev pub lacks_fence_alone : Kind → Bool
 lacks_fence_alone MissingFence = true
 lacks_fence_alone MissingFlush = false

@@ -22,7 +22,7 @@ same_call : (f : Frame) → IsSameCall f f
 same_call f = record { function = refl; mark = refl; dest = refl; level = refl }
 
 module _ (P : Program) (s : State) where
-  -- a return moves the frames
+  -- A return moves the frames.
   leave_moves : (v : ℕ) (w : World) (f : Frame) (fs : List Frame) (ls : List (Line StorePart)) (after : Counts)
       → s.frames ≡ f ∷ fs → after.steps ≡ suc s.counts.steps → Moves P s (leave v w f fs ls after)
   unfolding leave
@@ -71,7 +71,7 @@ module _ (P : Program) (s : State) where
       go true = stays f f fs q refl (same_call f) c
       go false = perform_moves I _ f fs s.lines after q c d.action h
 
--- each step moves the frames or rests, since a frame stands in each state of a run
+-- Each step moves the frames or rests, since a frame stands in each state of a run.
 pub step_moves : (P : Program) (I : Input) (s : State) → Moves P s (step P I s)
 unfolding step on_ending on_frames
 step_moves P I s = go s.world.ending
@@ -113,7 +113,7 @@ later : (ls : List Level) (m n : ℕ) → m ≤ n → AreDescending ls m → Are
 later [] m n le h = tt
 later (l ∷ ls) m n le h = (omega (arith, h.0, le), h.1)
 
--- each of the calls is of a function of the program
+-- Each of the calls is of a function of the program.
 abbrev AreDefined : Program → List Level → Type 0
 AreDefined P [] = Unit {0}
 AreDefined P (l ∷ ls) = (is_defined_call P (instr_of P l.call) ≡ true) × AreDefined P ls
@@ -131,7 +131,7 @@ module _ (P : Program) where
       → AreDefined P (levels_of (f' ∷ fs))
   same_calls f f' fs k h = subst (λ (o : Option Level). AreDefined P (level_list o (levels_of fs))) (sym k.level) h
 
-  -- the calls of these frames are of defined functions
+  -- The calls of these frames are of defined functions.
   abbrev Defined : List Frame → Type 0
   Defined fs = AreDefined P (levels_of fs)
 
@@ -154,7 +154,7 @@ module _ (P : Program) where
   among (l ∷ ls) h v (inl e) = subst (λ (x : Level). is_defined_call P (instr_of P x.call) ≡ true) (sym e) h.0
   among (l ∷ ls) h v (inr i) = among ls h.1 v i
 
-  -- the standing calls are calls of functions of the program
+  -- The standing calls are calls of functions of the program.
   pub calls_defined : (I : Input) (n : ℕ) (v : Level) → In v (levels_of (run P I n).frames)
       → is_defined_call P (instr_of P v.call) ≡ true
   calls_defined I n v i = among (levels_of (run P I n).frames) (run_defined I n) v i

@@ -27,7 +27,7 @@ whole_lines P I v = go (end_of true 0 P.globals) v.image
     go : (x : ℕ) → length I.image ≡ x + (64 - x % 64) % 64 → length I.image ≡ 64 * (length I.image / 64)
     go x e = omega arith
 
--- the region's initial bytes fill its lines
+-- The region's initial bytes fill its lines.
 pub same_size : (P : Program) (I : Input) (n : ℕ) → IsValid P I → length I.image ≡ 64 * length (run P I n).lines
 same_size P I n v = whole_lines P I v ∙ ap (λ k. 64 * k) (sym (length-lines P I n))
 
@@ -71,11 +71,11 @@ front_same f h q xs b first =
     ap (λ ys. byte_after covers byte_of ys b first) (take_map f q xs) ∙ byte_same f h (take q xs) b first
 
 module _ (first content : List ℕ) (j : ℕ) where
-  -- in cache line j, a crash may leave the content of this line
+  -- In cache line j, a crash may leave the content of this line.
   abbrev At : Line StorePart → Type 0
   At l = IsLineImage covers byte_of first content j l
 
-  -- if the changed line has at least as many durable parts, an image of it is one of the line
+  -- If the changed line has at least as many durable parts, an image of it is one of the line.
   unmet : (f : StorePart → StorePart) → IsSame f → (l l' : Line StorePart) → l'.parts ≡ map f l.parts
       → l.durable ≤ l'.durable → At l' → At l
   unmet f s l l' e d h = (
@@ -119,12 +119,12 @@ some_before g None y e = absurd (let z : ⊥ = cc in z)
 some_before g (Some x) y e = (x, refl, cc)
 
 module _ (I : Input) (ls : List (Line StorePart)) where
-  -- each image of the other lines is an image of these
+  -- Each image of the other lines is an image of these.
   abbrev OnlyOf : List (Line StorePart) → Type 0
   OnlyOf ls' =
       (content : List ℕ) → IsImage covers byte_of I.image ls' content → IsImage covers byte_of I.image ls content
 
-  -- each image of these lines is an image of the other lines
+  -- Each image of these lines is an image of the other lines.
   abbrev AllOf : List (Line StorePart) → Type 0
   AllOf ls' =
       (content : List ℕ) → IsImage covers byte_of I.image ls content → IsImage covers byte_of I.image ls' content
@@ -197,7 +197,7 @@ fewer I s o = record {
   fence = λ q. fewer_fenced I s.lines o;
 }
 
--- only a step that stores into the region adds crash images
+-- Only a step that stores into the region adds crash images.
 pub only_stores_add : (P : Program) (I : Input) (n : ℕ) (content : List ℕ)
     → stores (event P I (run P I n)) ≡ false
     → IsCrashImage I (run P I (suc n)) content → IsCrashImage I (run P I n) content
@@ -213,7 +213,7 @@ kept I s = record {
   fence = λ q. absurd (let z : ⊥ = cc in z);
 }
 
--- only a fence removes crash images
+-- Only a fence removes crash images.
 pub only_fences_remove : (P : Program) (I : Input) (n : ℕ) (content : List ℕ)
     → fences (event P I (run P I n)) ≡ false
     → IsCrashImage I (run P I n) content → IsCrashImage I (run P I (suc n)) content

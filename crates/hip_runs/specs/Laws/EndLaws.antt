@@ -90,7 +90,7 @@ turn_goes P I turns left w f fs ls c d (Calls g rs to) e lt = turned _ _ refl e 
 turn_goes P I turns left w f fs ls c d (Jumps b rs) e lt = turned _ _ refl e lt
 turn_goes P I turns left w f fs ls c d (Returns v) e lt = leave_goes P I turns left v w f fs ls d e lt
 
--- an action that is no turn flushes, fences or traps
+-- An action that is no turn flushes, fences or traps.
 abbrev is_still : Action → Type 0
 is_still (Traps kind) = Unit {0}
 is_still (Flushes a n) = Unit {0}
@@ -98,7 +98,7 @@ is_still (Persists a n) = Unit {0}
 is_still Fences = Unit {0}
 is_still _ = ⊥
 
--- the action flushes, fences or traps, as that of each instruction does that is no turn
+-- The action flushes, fences or traps, as that of each instruction does that is no turn.
 record IsStill (x : Action) : Type 0 where
   is : is_still x
 
@@ -248,7 +248,7 @@ module _ (P : Program) (I : Input) where
           goes_on m (run P I n).world.turns (length (code_at P f)) (run P I (suc n)) (suc n) refl lt rest
           (next_goes n f fs e frames)
 
-  -- every run ends
+  -- Every run ends.
   pub runs_end : Ends P I
   unfolding run
   runs_end =

@@ -52,11 +52,11 @@ fits P (Persists a n) o = is_persist_call o ≡ true
 fits P (Calls g rs to) o = called_number P o ≡ Some g
 fits P _ o = Unit {0}
 
--- the action fits the instruction
+-- The action fits the instruction.
 pub record Fits (P : Program) (x : Action) (o : Option Instr) : Type 0 where
   pub is : fits P x o
 
--- writing the number of a value's bytes gives the same bytes
+-- Writing the number of a value's bytes gives the same bytes.
 written : (n v : ℕ) → bytes_of (length (bytes_of n v)) (little_endian (bytes_of n v)) ≡ bytes_of n v
 written n v = bytes_of-little_endian (bytes_of n v) (λ i. bytes_of-below n v i)
 
@@ -183,7 +183,7 @@ stated (events.Flush l n) o = is_flush_call o ≡ true
 stated (events.Persist l n) o = is_persist_call o ≡ true
 stated _ o = Unit {0}
 
--- the event fits the instruction
+-- The event fits the instruction.
 pub record Stated (e : Event) (o : Option Instr) : Type 0 where
   pub is : stated e o
 
@@ -222,7 +222,7 @@ at_stated P I w fs d o h =
     stated_cond (is_cut I w d) (events.End Cut) (event_of I fs d.action) o (record { is = tt {0} })
     (event_stated P I fs d.action o h)
 
--- what the top frame does next fits the instruction at its place
+-- What the top frame does next fits the instruction at its place.
 pub deed_fits : (P : Program) (I : Input) (w : World) (f : Frame) (fs : List Frame)
     → Fits P (deed_at P I w f fs).action (instr_of P (site_of f))
 deed_fits P I w f fs = by_code (code_at P f) refl
@@ -236,7 +236,7 @@ deed_fits P I w f fs = by_code (code_at P f) refl
         subst (Fits P (instr_action P I w (length fs) f.registers i)) (sym at)
         (fits_instr P I w (length fs) f.registers i)
 
--- and so does the event of that step
+-- And so does the event of that step.
 pub site_stated : (P : Program) (I : Input) (s : State) (t : Site) → top_site s.frames ≡ Some t
     → Stated (event P I s) (instr_of P t)
 unfolding event

@@ -16,7 +16,7 @@ index_drop (suc n) [] i = refl
 index_drop (suc n) (x ∷ xs) i =
     index_drop n xs i ∙ (let e : suc (n + i) ≡ suc n + i = omega arith in ap (slice_index (x ∷ xs)) e)
 
--- what the test that a byte lies in a range decides
+-- What the test that a byte lies in a range decides.
 covered : (first size b : ℕ) → nat_le first b && nat_lt b (first + size) ≡ true → (first ≤ b)
     × (b < first + size)
 covered first size b h = (grind (arith, nat_tests), grind (arith, nat_tests))
@@ -25,7 +25,7 @@ cover : (first size b : ℕ) → first ≤ b → b < first + size → nat_le fir
 cover first size b h k = grind (arith, nat_tests)
 
 module _ (o : ℕ) (bytes : List ℕ) (j : ℕ) where
-  -- the bytes of a store at offset o that lie in cache line j
+  -- The bytes of a store at offset o that lie in cache line j.
   abbrev pub Held : List ℕ
   Held = take (end_in j o (length bytes) - start_in j o) (drop (start_in j o - o) bytes)
 
@@ -43,14 +43,14 @@ module _ (o : ℕ) (bytes : List ℕ) (j : ℕ) where
   starts : (n b : ℕ) → start_in j o ≤ b → b < end_in j o n → b < start_in j o + (end_in j o n - start_in j o)
   starts n b h k = omega arith
 
-  -- a byte that the part covers lies in the part's line and in the store
+  -- A byte that the part covers lies in the part's line and in the store.
   pub held : (b : ℕ) → nat_le (start_in j o) b && nat_lt b (start_in j o + length Held) ≡ true
       → (start_in j o ≤ b) × (b < end_in j o (length bytes))
   held b h =
       let c = covered (start_in j o) (length Held) b h in
       (c.0, ends (length bytes) b c.0 (subst (λ k. b < start_in j o + k) length_held c.1))
 
-  -- and a byte of the line and of the store is covered
+  -- And a byte of the line and of the store is covered.
   pub holds_byte : (b : ℕ) → start_in j o ≤ b → b < end_in j o (length bytes)
       → nat_le (start_in j o) b && nat_lt b (start_in j o + length Held) ≡ true
   holds_byte b h k =
@@ -63,7 +63,7 @@ module _ (o : ℕ) (bytes : List ℕ) (j : ℕ) where
   sums : (b : ℕ) → start_in j o ≤ b → (start_in j o - o) + (b - start_in j o) ≡ b - o
   sums b h = omega arith
 
-  -- the part has the store's byte there
+  -- The part has the store's byte there.
   pub held_byte : (b : ℕ) → start_in j o ≤ b → b < end_in j o (length bytes)
       → slice_index Held (b - start_in j o) ≡ slice_index bytes (b - o)
   held_byte b h k =
@@ -72,7 +72,7 @@ module _ (o : ℕ) (bytes : List ℕ) (j : ℕ) where
       ∙ index_drop (start_in j o - o) bytes (b - start_in j o)
       ∙ ap (slice_index bytes) (sums b h)
 
-  -- a byte of the store that lies in the line is one that the part covers
+  -- A byte of the store that lies in the line is one that the part covers.
   pub line_byte : (b : ℕ) → o ≤ b → b < o + length bytes → b / 64 ≡ j → (start_in j o ≤ b)
       × (b < end_in j o (length bytes))
   line_byte b h k e = inside (length bytes) b h k e

@@ -27,7 +27,7 @@ use Rattle.hip_runs.specs.State.{Level, Flush, StorePart, Frame, World, Counts, 
 use Rattle.hip_runs.specs.Step.{stop, with_turn, start, is_cut, leave, perform, carry_out, deed_at, on_frames, on_ending, step, event_at, counted, run}
 use Rattle.hip_tree.specs.declared.block.End.TheVariants as ends
 
--- there is an instruction at the site
+-- There is an instruction at the site.
 abbrev Stands : Program → Site → Type 0
 Stands P s = (i : Instr) × (instr_of P s ≡ Some i)
 
@@ -55,13 +55,13 @@ descending_later : (up : List Level) (n : ℕ) → AreDescending up n → AreDes
 descending_later [] n h = tt
 descending_later (l ∷ ls) n h = (omega (arith, h.0), h.1)
 
--- the standing calls were made before step n
+-- The standing calls were made before step n.
 pub born_before : (up : List Level) (n : ℕ) → AreDescending up n → (v : Level) → In v up → v.birth < n
 born_before [] n h v i = absurd i
 born_before (l ∷ ls) n h v (inl e) = subst (λ (x : Level). x.birth < n) (sym e) h.0
 born_before (l ∷ ls) n h v (inr i) = omega (arith, h.0, born_before ls l.birth h.1 v i)
 
--- a call that was made at step b or later does not stand if all standing calls were made before step b
+-- A call that was made at step b or later does not stand if all standing calls were made before step b.
 closed_there : (up : List Level) (b : ℕ) → AreDescending up b → (v : Level) → b ≤ v.birth
     → is_open up v ≡ false
 closed_there [] b h v le = refl
@@ -138,7 +138,7 @@ module _ (P : Program) where
       go true e = absurd (let z : ⊥ = cc in z)
       go false e = e
 
-  -- if the frame of call l returns, l becomes one of the calls that have returned
+  -- If the frame of call l returns, l becomes one of the calls that have returned.
   split_return : (up levels : List Level) (l : Level) → AreDescending up l.birth → IsParted (l ∷ up) levels
       → IsParted up levels
   split_return up levels l down s = go s.above s.outermost
@@ -287,7 +287,7 @@ module _ (P : Program) where
       go false h = (x, refl, inl (let q : l ≡ x = cc in q))
   get_flushed flush o n j (x ∷ ls) (suc m) l e = get_flushed flush o n (suc j) ls m l e
 
-  -- a part that a flush may have changed is of the same store
+  -- A part that a flush may have changed is of the same store.
   record IsSameStore (y x : StorePart) : Type 0 where
     step : y.step ≡ x.step
     site : y.site ≡ x.site
@@ -438,7 +438,7 @@ module _ (P : Program) where
   get_front (z ∷ xs) y x zero e lt = e
   get_front (z ∷ xs) y x (suc k) e lt = get_front xs y x k e (omega arith)
 
-  -- a store keeps this; each part after it is an old part or a new one
+  -- A store keeps this; each part after it is an old part or a new one.
   store_here : (up : List Level) (ls : List (Line StorePart)) (counts : Counts) (s : Site) (o : ℕ) (bytes : List ℕ)
       → Stands P s → IsKept P up ls counts.steps →
       IsKept P up (stored (part_of_store counts s up o bytes) o (length bytes) ls) (suc counts.steps)
@@ -504,7 +504,7 @@ module _ (P : Program) where
       never x f j e h = let q : None ≡ Some f = sym (ap (λ (y : StorePart). y.first_flush) e) ∙ h in
           let z : ⊥ = cc in z
 
-      -- an old part and a new one are of different steps, and two new parts are of the same store
+      -- An old part and a new one are of different steps, and two new parts are of the same store.
       both : {A : Type 0} (x y : StorePart) → PartOf ls x
           ⊎ ((j : ℕ) × (x ≡ part_of_store counts s up o bytes j))
           → PartOf ls y ⊎ ((j : ℕ) × (y ≡ part_of_store counts s up o bytes j)) → x.step ≡ y.step
@@ -547,7 +547,7 @@ module _ (P : Program) where
 
   -- ---- a step
 
-  -- the state keeps what a run keeps, by its own calls, lines and count of steps
+  -- The state keeps what a run keeps, by its own calls, lines and count of steps.
   abbrev StateKept : State → Type 0
   StateKept s = IsKept P (levels_of s.frames) s.lines s.counts.steps
 
@@ -585,7 +585,7 @@ module _ (P : Program) where
   perform_kept I w f fs ls c e there k (Jumps b rs) = later (levels_of (f ∷ fs)) ls c.steps k
   perform_kept I w f fs ls c e there k (Returns v) = leave_kept v w f fs ls c e k
 
-  -- what the end of a block does
+  -- What the end of a block does.
   abbrev is_end : Action → Type 0
   is_end (Traps kind) = Unit {0}
   is_end (Jumps b rs) = Unit {0}
@@ -736,10 +736,10 @@ module _ (P : Program) where
         split = k.split;
       }
 
-  -- in each line at most as many parts are durable as are flushed, and at most as many are flushed as there are
+  -- In each line at most as many parts are durable as are flushed, and at most as many are flushed as there are.
   pub lines_ordered : (I : Input) (n : ℕ) → AreOrdered (run P I n).lines
   lines_ordered I n = (run_kept I n).ordered
 
-  -- the standing calls were made one after another
+  -- The standing calls were made one after another.
   pub calls_descend : (I : Input) (n : ℕ) → AreDescending (levels_of (run P I n).frames) (run P I n).counts.steps
   calls_descend I n = (run_kept I n).stack

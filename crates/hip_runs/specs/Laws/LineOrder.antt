@@ -25,16 +25,16 @@ use Rattle.std.specs.Cmp.{both_ways}
 
 -- Line m of a state after n steps.
 pub record IsWell (n m : ℕ) (l : Line StorePart) : Type 0 where
-  -- what its parts cover lies in it
+  -- What its parts cover lies in it.
   pub inside : (k : ℕ) (x : StorePart) → slice_get l.parts k ≡ Some x → (b : ℕ) → covers x b ≡ true
       → b / 64 ≡ m
   pub line : (k : ℕ) (x : StorePart) → slice_get l.parts k ≡ Some x → x.offset / 64 ≡ m
-  -- its parts are in the order of their stores' steps
+  -- Its parts are in the order of their stores' steps.
   pub made : (k : ℕ) (x : StorePart) → slice_get l.parts k ≡ Some x → x.step < n
   pub ascend : (j k : ℕ) (x y : StorePart) → slice_get l.parts j ≡ Some x → slice_get l.parts k ≡ Some y
       → j < k
       → x.step < y.step
-  -- a part that is not flushed has no first flush
+  -- A part that is not flushed has no first flush.
   pub unflushed : (k : ℕ) (x : StorePart) → slice_get l.parts k ≡ Some x → l.flushed ≤ k
       → x.first_flush ≡ None
 
@@ -93,7 +93,7 @@ well_fence n m l h = record {
       ∙ h.unflushed k r.0 r.1 le;
 }
 
--- the place is one of the list, or that of one more item at its end
+-- The place is one of the list, or that of one more item at its end.
 data Place {A : Type 0} (xs : List A) (y : A) (k : ℕ) (x : A) : Type 0 where
   before : k < length xs → slice_get xs k ≡ Some x → Place xs y k x
   last : k ≡ length xs → x ≡ y → Place xs y k x
@@ -113,7 +113,7 @@ place xs y k x e = go (split k (length xs)
         ∙ e in
         let z : x ≡ y = cc in z)
 
--- the new part of a store lies in its line
+-- The new part of a store lies in its line.
 part_inside : (counts : Counts) (site : Site) (levels : List Level) (o : ℕ) (bytes : List ℕ) (m b : ℕ)
     → covers (part_of_store counts site levels o bytes m) b ≡ true → b / 64 ≡ m
 part_inside counts site levels o bytes m b h =
@@ -164,7 +164,7 @@ well_store n m y l o inside at_line step none h = record {
 
 -- ---- all lines
 
--- each of these lines is that of a state after n steps, the first of them line 0
+-- Each of these lines is that of a state after n steps, the first of them line 0.
 abbrev pub AreWell : ℕ → List (Line StorePart) → Type 0
 AreWell n ls = (m : ℕ) (l : Line StorePart) → slice_get ls m ≡ Some l → IsWell n m l
 
@@ -245,7 +245,7 @@ unfolding run
 lines_well P I zero = λ m l e. empty_well m 0 l (line_of_fresh P _ m l e)
 lines_well P I (suc n) = step-cases P I (run P I n) (λ e ls. AreWell (suc n) ls) (well_cases P I n (lines_well P I n))
 
--- every part lies in its line
+-- Every part lies in its line.
 pub in_lines : (P : Program) (I : Input) (n : ℕ) → AreInLines (run P I n).lines
 in_lines P I n m l k x e g = (lines_well P I n m l e).inside k x g
 

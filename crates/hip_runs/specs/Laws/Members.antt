@@ -101,7 +101,7 @@ module _ {A : Type 0} (test : A → Bool) where
   all_in [] h = refl
   all_in (y ∷ xs) h = true_both (h y (inl refl)) (all_in xs (λ x i. h x (inr i)))
 
--- the first item after the first k items is at place k
+-- The first item after the first k items is at place k.
 pub get_drop : {A : Type 0} (xs : List A) (k : ℕ) (x : A) (ys : List A) → drop k xs ≡ x ∷ ys
     → slice_get xs k ≡ Some x
 get_drop [] zero x ys e = cc

@@ -56,7 +56,7 @@ flushed_alike I flush a n ls h =
 
 -- ---- the next lines
 
--- the lines after a step of a state with an event
+-- The lines after a step of a state with an event.
 abbrev Next : Input → State → Event → List (Line StorePart) → Type 0
 Next I s e ls = ls ≡ lines_after I e s.counts (top_site s.frames) (levels_of s.frames) s.lines
 
@@ -93,7 +93,7 @@ next_cases I s = record {
   fence = refl;
 }
 
--- the lines after a step, by its event, the site and the calls of the top frame, and the counts
+-- The lines after a step, by its event, the site and the calls of the top frame, and the counts.
 pub next_lines : (P : Program) (I : Input) (n : ℕ)
     → (run P I (suc n)).lines ≡ lines_after I (event P I (run P I n)) (run P I n).counts
     (top_site (run P I n).frames)
@@ -126,7 +126,7 @@ perform_counts I w f fs ls before after (Calls g rs to) = refl
 perform_counts I w f fs ls before after (Jumps b rs) = refl
 perform_counts I w f fs ls before after (Returns v) = leave_counts v w f fs ls after
 
--- the counts after a deed are those that it is given for the state after it
+-- The counts after a deed are those that it is given for the state after it.
 pub carry_counts : (I : Input) (w : World) (f : Frame) (fs : List Frame) (ls : List (Line StorePart))
     (before after : Counts) (d : Deed) → (carry_out I w f fs ls before after d).counts ≡ after
 unfolding carry_out
@@ -138,7 +138,7 @@ carry_counts I w f fs ls before after d = go (is_cut I w d)
     go true = refl
     go false = perform_counts I _ f fs ls before after d.action
 
--- a step counts itself and its entry, unless the run has ended
+-- A step counts itself and its entry, unless the run has ended.
 step_counts : (P : Program) (I : Input) (s : State)
     → ((step P I s).counts ≡ s.counts) ⊎ ((step P I s).counts ≡ counted (event P I s) s.counts)
 unfolding step event on_ending on_frames
@@ -156,7 +156,7 @@ step_counts P I s = go s.world.ending
     go (Some e) = inl refl
     go None = on_them s.frames
 
--- a run that has ended stays as it is
+-- A run that has ended stays as it is.
 pub rests-ended : (P : Program) (I : Input) (n : ℕ) → has_ended (run P I n) ≡ true
     → run P I (suc n) ≡ run P I n
 unfolding run step on_ending
@@ -167,7 +167,7 @@ rests-ended P I n h = go (run P I n).world.ending refl h
     go None q e = absurd (let z : ⊥ = cc in z)
     go (Some x) q e = ap (on_ending P I (run P I n)) q
 
--- while the run goes on, a step counts itself, and its entry if it has one
+-- While the run goes on, a step counts itself, and its entry if it has one.
 pub counts-next : (P : Program) (I : Input) (n : ℕ) → has_ended (run P I n) ≡ false
     → (run P I (suc n)).counts ≡ counted (event P I (run P I n)) (run P I n).counts
 unfolding run step event on_ending on_frames
@@ -183,7 +183,7 @@ counts-next P I n h = go (run P I n).world.ending h
     go None e = on_them (run P I n) (run P I n).frames (standing-frame P I n)
     go (Some x) e = absurd (let z : ⊥ = cc in z)
 
--- a step has at most one entry
+-- A step has at most one entry.
 pub record IsRise (P : Program) (I : Input) (n : ℕ) : Type 0 where
   pub least : (run P I n).counts.entries ≤ (run P I (suc n)).counts.entries
   pub most : (run P I (suc n)).counts.entries ≤ suc (run P I n).counts.entries
@@ -206,12 +206,12 @@ entries_rise P I n = go (step_counts P I (run P I n))
         (ap (λ (c : Counts). c.entries) e) in record { least = r.0; most = r.1 }
 
 module _ (P : Program) (I : Input) (entry : ℕ) where
-  -- how many entries are counted after n steps
+  -- How many entries are counted after n steps.
   abbrev entries : ℕ → ℕ
   entries n = (run P I n).counts.entries
 
-  -- for each number of steps, a state before it is the first with that number of entries, or all states before it have
-  -- fewer
+  -- For each number of steps, a state before it is the first with that number of entries, or all states before it have
+  -- fewer.
   search_below : (n : ℕ) → ((k : ℕ) × (k < n) × IsAtEntry P I entry k)
       ⊎ ((k : ℕ) → k < n → entries k < entry)
   search_below zero = inr (λ k lt. absurd (omega (arith, lt)))
@@ -253,7 +253,7 @@ module _ (P : Program) (I : Input) (entry : ℕ) where
       go (inr (inl e)) = e
       go (inr (inr lt)) = absurd (let h = f.least n lt in omega (arith, h, g.enough))
 
-  -- a step that reaches an entry after those of the header has exactly that number of entries
+  -- A step that reaches an entry after those of the header has exactly that number of entries.
   pub entry_exact : (n : ℕ) → header_entries I < entry → IsAtEntry P I entry n → entries n ≡ entry
   unfolding run
   entry_exact zero h a = absurd (let le = a.enough in omega (arith, le, h))

@@ -15,7 +15,7 @@ stays P I k (suc n) ended =
     ap (run P I) (let e : k + suc n ≡ suc (k + n) = omega arith in e)
     ∙ rests-ended P I (k + n) (ap has_ended before ∙ ended) ∙ before
 
--- a run that has ended stays as it is
+-- A run that has ended stays as it is.
 pub rests_later : (P : Program) (I : Input) (k m : ℕ) → k ≤ m → has_ended (run P I k) ≡ true
     → run P I m ≡ run P I k
 rests_later P I k m less ended =

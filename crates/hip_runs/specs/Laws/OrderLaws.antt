@@ -17,7 +17,7 @@ use Rattle.hip_runs.specs.Laws.StepLaws.{Cases, step-cases, counted-steps}
 -- ---- one step more
 
 module _ (P : Program) (I : Input) (n j from : ℕ) where
-  -- the event of step n
+  -- The event of step n.
   abbrev Now : Event
   Now = event P I (run P I n)
 
@@ -64,7 +64,7 @@ module _ (P : Program) (I : Input) (n j from : ℕ) where
           absurd (let h : fences Now ≡ true = subst (λ m. fences (event P I (run P I m)) ≡ true) e s.fenced in
           let b : false ≡ true = sym q ∙ h in let z : ⊥ = cc in z)
 
-  -- a flush that a fence follows came before this step, unless this step flushes
+  -- A flush that a fence follows came before this step, unless this step flushes.
   flush_of_both : IsFlushedThenFenced P I j from (suc n) → FlushedSince P I j from (suc n)
   flush_of_both s = (s.flush, s.after, omega (arith, s.ordered, s.before), s.flushed)
 
@@ -91,7 +91,7 @@ record IsSeen (P : Program) (I : Input) (n j from k flushed_ones durable_ones : 
   by_fence : IsFlushedThenFenced P I j from n → k < durable_ones
 
 module _ (P : Program) (I : Input) (n j from k : ℕ) where
-  -- the event of step n
+  -- The event of step n.
   abbrev Now_too : Event
   Now_too = event P I (run P I n)
 
@@ -146,7 +146,7 @@ module _ (P : Program) (I : Input) (n j from k : ℕ) where
     by_fence = λ s. c;
   }
 
-  -- a part that this step stores
+  -- A part that this step stores.
   seen_new : (fl du : ℕ) → from ≡ n → fl ≤ k → du ≤ k → IsSeen P I (suc n) j from k fl du
   seen_new fl du e f d = record {
     made = omega (arith, e);
@@ -163,7 +163,7 @@ get_below [] k x e = absurd (let z : ⊥ = cc in z)
 get_below (y ∷ xs) zero x e = omega arith
 get_below (y ∷ xs) (suc k) x e = omega (arith, get_below xs k x e)
 
--- an item of a list after one more was added is the added one, or an item of the list before
+-- An item of a list after one more was added is the added one, or an item of the list before.
 get_more : {A : Type 0} (xs : List A) (y x : A) (k : ℕ) → slice_get (xs ++ y ∷ []) k ≡ Some x
     → (slice_get xs k ≡ Some x) ⊎ ((k ≡ length xs) × (x ≡ y))
 get_more [] y x zero e = inr (refl, let q : x ≡ y = cc in q)
@@ -177,17 +177,17 @@ get_more (z ∷ xs) y x (suc k) e = go (get_more xs y x k e)
     go (inr h) = inr (ap suc h.0, h.1)
 
 module _ (P : Program) (I : Input) (n j : ℕ) where
-  -- before step m, each part of the line is flushed and durable as the steps since its store say
+  -- Before step m, each part of the line is flushed and durable as the steps since its store say.
   abbrev InSeen : ℕ → Line StorePart → Type 0
   InSeen m l = (k : ℕ) (x : StorePart) → slice_get l.parts k ≡ Some x
       → IsSeen P I m j x.step k l.flushed l.durable
 
-  -- the same for a line, if it is there
+  -- The same for a line, if it is there.
   abbrev AllSeen : ℕ → Option (Line StorePart) → Type 0
   AllSeen m None = Unit {0}
   AllSeen m (Some l) = InSeen m l
 
-  -- the event of step n
+  -- The event of step n.
   abbrev Now_there : Event
   Now_there = event P I (run P I n)
 
@@ -274,11 +274,11 @@ module _ (P : Program) (I : Input) (n j : ℕ) where
 -- ---- a step
 
 module _ (P : Program) (I : Input) (n : ℕ) where
-  -- the same for each of these lines
+  -- The same for each of these lines.
   abbrev AreSeen : ℕ → List (Line StorePart) → Type 0
   AreSeen m ls = (j : ℕ) → AllSeen P I n j m (slice_get ls j)
 
-  -- if step n has this event, the same for each of these lines after it
+  -- If step n has this event, the same for each of these lines after it.
   abbrev Next : Event → List (Line StorePart) → Type 0
   Next e ls = event P I (run P I n) ≡ e → AreSeen (suc n) ls
 
@@ -336,7 +336,7 @@ part_seen : (P : Program) (I : Input) (n j k : ℕ) (x : StorePart) (l : Line St
 part_seen P I n j k x l e g =
     let all : AllSeen P I n j n (Some l) = subst (AllSeen P I n j n) e (run_seen P I n j) in all k x g
 
--- a durable part's line was flushed after the store, and a fence came after the flush
+-- A durable part's line was flushed after the store, and a fence came after the flush.
 pub durable_stated : (P : Program) (I : Input) (n j k : ℕ) (x : StorePart) → IsDurableAt (run P I n) j k x
     → IsFlushedThenFenced P I j x.step n
 durable_stated P I n j k x d = go (slice_get (run P I n).lines j) refl d

@@ -15,17 +15,17 @@ use Rattle.hip_runs.specs.Step.{event, event_at, event_of, event_on_ending, even
 use Rattle.hip_runs.specs.StoredParts.Persistence.{flushes_lines}
 use Rattle.hip_runs.specs.declared.event.Event.TheVariants as events
 
--- what a step prints comes after what was printed before it, and the event gives the ending of the run
+-- What a step prints comes after what was printed before it, and the event gives the ending of the run.
 pub record IsStated (before after : World) (e : Event) : Type 0 where
   pub output : after.output ≡ before.output ++ printed_by e
   pub ending : after.ending ≡ ending_by e
 
--- the output is the same, and the run goes on
+-- The output is the same, and the run goes on.
 record IsKept (before after : World) : Type 0 where
   output : after.output ≡ before.output
   going : after.ending ≡ None
 
--- an event that prints nothing and is no end says just that
+-- An event that prints nothing and is no end says just that.
 nothing : {before after : World} → IsKept before after → (e : Event) → printed_by e ≡ []
     → ending_by e ≡ None
     → IsStated before after e

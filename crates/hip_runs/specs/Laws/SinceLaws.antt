@@ -25,7 +25,7 @@ pub below : (m n : ℕ) → m < suc n → (m < n) ⊎ (m ≡ n)
 below m n h = grind arith
 
 module _ (P : Program) (I : Input) (n : ℕ) where
-  -- the event of step n
+  -- The event of step n.
   abbrev Now : Event
   Now = event P I (run P I n)
 
@@ -90,7 +90,7 @@ record IsStated (P : Program) (I : Input) (n j : ℕ) (x : StorePart) : Type 0 w
   by_fence : FencedSince P I x.step n → x.fenced ≡ true
   flush : IsFirstFlush P I j x.step n x.first_flush
 
--- the flush is one of step n, at the site at which the run stands
+-- The flush is one of step n, at the site at which the run stands.
 record IsHere (P : Program) (I : Input) (n : ℕ) (flush : Flush) : Type 0 where
   step : flush.step ≡ n
   site : top_site (run P I n).frames ≡ Some flush.site
@@ -138,7 +138,7 @@ module _ (P : Program) (I : Input) (n j : ℕ) where
     flush = flush_now P I n j x.step flush t.made h.step h.site r x.first_flush t.flush;
   }
 
-  -- a part that this step stores
+  -- A part that this step stores.
   stated_new : (x : StorePart) → x.offset / 64 ≡ j → x.step ≡ n → x.fenced ≡ false
       → x.first_flush ≡ None
       → IsStated P I (suc n) j x
@@ -154,7 +154,7 @@ module _ (P : Program) (I : Input) (n j : ℕ) where
 
 -- ---- the parts of a line
 
--- the line is there and has this part, at whatever place
+-- The line is there and has this part, at whatever place.
 abbrev pub InLine : Option (Line StorePart) → StorePart → Type 0
 InLine None x = ⊥
 InLine (Some l) x = In x l.parts
@@ -262,7 +262,7 @@ plain_flushes base j (events.End e) p = refl
 -- ---- a step
 
 module _ (P : Program) (I : Input) (n : ℕ) where
-  -- before step m, the history of each part of these lines is that of the steps since its store
+  -- Before step m, the history of each part of these lines is that of the steps since its store.
   abbrev AreStated : ℕ → List (Line StorePart) → Type 0
   AreStated m ls = (j : ℕ) (x : StorePart) → InLine (slice_get ls j) x → IsStated P I m j x
 
@@ -270,7 +270,7 @@ module _ (P : Program) (I : Input) (n : ℕ) where
       → IsHere P I n (flush_at (run P I n).counts (site_of f))
   here f fs t = record { step = counted-steps P I n t.going; site = ap top_site t.frames }
 
-  -- if step n has this event, the same holds after it
+  -- If step n has this event, the same holds after it.
   abbrev Next : Event → List (Line StorePart) → Type 0
   Next e ls = event P I (run P I n) ≡ e → AreStated (suc n) ls
 
@@ -352,7 +352,7 @@ part_stated P I n x i =
     let r = line_of_part (run P I n).lines x i in let t =
     run_stated P I n r.0 x r.1 in subst (λ j. IsStated P I n j x) (sym t.line) t
 
--- a part is fenced exactly if a fence came since its store
+-- A part is fenced exactly if a fence came since its store.
 pub fence_stated : (P : Program) (I : Input) (n : ℕ) (x : StorePart) → PartOf (run P I n).lines x
     → x.fenced ≡ true
     → FencedSince P I x.step n
@@ -362,12 +362,12 @@ pub stated_by_fence : (P : Program) (I : Input) (n : ℕ) (x : StorePart) → Pa
     → FencedSince P I x.step n → x.fenced ≡ true
 stated_by_fence P I n x i s = (part_stated P I n x i).by_fence s
 
--- a part has the first flush of its line since its store
+-- A part has the first flush of its line since its store.
 pub flush_stated : (P : Program) (I : Input) (n : ℕ) (x : StorePart) → PartOf (run P I n).lines x
     → IsFirstFlush P I (x.offset / 64) x.step n x.first_flush
 flush_stated P I n x i = (part_stated P I n x i).flush
 
--- there is only one first flush
+-- There is only one first flush.
 apart : (m n : ℕ) → (m < n) ⊎ ((m ≡ n) ⊎ (n < m))
 apart m n = grind arith
 

@@ -18,7 +18,7 @@ use Rattle.hip_runs.specs.Step.{first_line, lines_size, event_of, stop, with_tur
 use Rattle.hip_runs.specs.Laws.Fits.{Fits, deed_fits}
 use Rattle.hip_runs.specs.declared.event.Event.TheVariants as events
 
--- an event that leaves the lines as they are
+-- An event that leaves the lines as they are.
 abbrev pub is_plain : Event → Bool
 is_plain (events.Store addr value size) = false
 is_plain (events.Flush line size) = false
@@ -26,7 +26,7 @@ is_plain (events.Persist line size) = false
 is_plain events.Fence = false
 is_plain _ = true
 
--- the run goes on, and these are its frames
+-- The run goes on, and these are its frames.
 pub record IsTop (s : State) (f : Frame) (fs : List Frame) : Type 0 where
   pub going : s.world.ending ≡ None
   pub frames : s.frames ≡ f ∷ fs
@@ -104,7 +104,7 @@ module _ (P : Program) (I : Input) (s : State) (Q : Event → List (Line StorePa
       go true = c.plain _ refl
       go false = perform_case _ f fs t after d.action h
 
-  -- then it holds for the next step
+  -- Then it holds for the next step.
   pub step-cases : Q (event P I s) (step P I s).lines
   unfolding step event on_ending on_frames
   step-cases = go s.world.ending refl
@@ -136,7 +136,7 @@ same_length I s = record {
   fence = length-map s.lines _;
 }
 
--- a run has as many lines as the initial region has whole ones
+-- A run has as many lines as the initial region has whole ones.
 pub length-lines : (P : Program) (I : Input) (n : ℕ) → length (run P I n).lines ≡ length I.image / 64
 unfolding run fresh_lines
 length-lines P I zero = length-replicate _ _
@@ -146,12 +146,12 @@ length-lines P I (suc n) =
 
 -- ---- how many steps were counted
 
--- whether a frame stands
+-- Whether a frame stands.
 abbrev pub has_frame : List Frame → Bool
 has_frame [] = false
 has_frame (f ∷ fs) = true
 
--- a frame stands, and while the run goes on, n steps were counted
+-- A frame stands, and while the run goes on, n steps were counted.
 record IsCounted (s : State) (n : ℕ) : Type 0 where
   stands : has_frame s.frames ≡ true
   steps : s.world.ending ≡ None → s.counts.steps ≡ n
@@ -217,11 +217,11 @@ unfolding run
 run_counted P I zero = record { stands = refl; steps = λ g. refl }
 run_counted P I (suc n) = step_counted P I (run P I n) n (run_counted P I n)
 
--- while a run goes on, it counts its steps
+-- While a run goes on, it counts its steps.
 pub counted-steps : (P : Program) (I : Input) (n : ℕ) → (run P I n).world.ending ≡ None
     → (run P I n).counts.steps ≡ n
 counted-steps P I n g = (run_counted P I n).steps g
 
--- a frame stands in each state of a run
+-- A frame stands in each state of a run.
 pub standing-frame : (P : Program) (I : Input) (n : ℕ) → has_frame (run P I n).frames ≡ true
 standing-frame P I n = (run_counted P I n).stands

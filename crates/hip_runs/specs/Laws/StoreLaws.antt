@@ -24,7 +24,7 @@ in_there I a n h = grind (arith, nat_tests)
 -- ---- a step
 
 module _ (P : Program) (I : Input) where
-  -- a flush and a fence change only what a part notes
+  -- A flush and a fence change only what a part notes.
   of_noted : (x : StorePart) (first : Option Flush) (is_fenced : Bool) → IsOfStore P I x
       → IsOfStore P I (record x { first_flush = first; fenced = is_fenced })
   of_noted x first is_fenced s =
@@ -51,7 +51,7 @@ module _ (P : Program) (I : Input) where
   of_flushes flush true x s = of_flush flush x s
   of_flushes flush false x s = s
 
-  -- each part of these lines is one of a store of the run
+  -- Each part of these lines is one of a store of the run.
   abbrev AreOf : List (Line StorePart) → Type 0
   AreOf ls = (j : ℕ) (x : StorePart) → InLine (slice_get ls j) x → IsOfStore P I x
 
@@ -90,7 +90,7 @@ module _ (P : Program) (I : Input) where
               holds_byte (a - I.base) bytes j b r.0 r.1;
         }
 
-    -- if this is the event of step n, each part of these lines is one of a store of the run
+    -- If this is the event of step n, each part of these lines is one of a store of the run.
     abbrev Next : Event → List (Line StorePart) → Type 0
     Next e ls = event P I (run P I n) ≡ e → AreOf ls
 
@@ -132,6 +132,6 @@ module _ (P : Program) (I : Input) where
   run_of zero j x i = absurd (no_part _ j x i)
   run_of (suc n) j x i = of_next n (run_of n) j x i
 
-  -- each part of a line is one of a store that the run made
+  -- Each part of a line is one of a store that the run made.
   pub part-of_store : (n : ℕ) (x : StorePart) → PartOf (run P I n).lines x → IsOfStore P I x
   part-of_store n x i = let r = line_of_part (run P I n).lines x i in run_of n r.0 x r.1

@@ -9,11 +9,11 @@ use Rattle.hip_runs.specs.StoredParts.Persistence.{part_of_store, flush_line, fe
 use Rattle.hip_runs.specs.State.{Level, Flush, StorePart, Counts}
 use Rattle.hip_runs.specs.declared.event.Event.TheVariants as events
 
--- the flush of a step, by the counts before it and its site
+-- The flush of a step, by the counts before it and its site.
 abbrev pub flush_at : Counts → Site → Flush
 flush_at counts site = record { step = counts.steps; site = site }
 
--- the lines after a flush of n bytes from an address on: each that has one of these bytes is flushed
+-- The lines after a flush of n bytes from an address on: each that has one of these bytes is flushed.
 abbrev pub flushed_by : Input → Flush → ℕ → ℕ → List (Line StorePart) → List (Line StorePart)
 flushed_by I flush a n ls = change_range (λ _ l. flush_line flush l) (a - I.base) n ls
 

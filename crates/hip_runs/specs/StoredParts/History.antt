@@ -8,7 +8,7 @@ use Rattle.hip_runs.specs.StoredParts.Parts.{In, PartOf}
 use Rattle.hip_runs.specs.Found.Reports.{is_open}
 use Rattle.hip_runs.specs.State.{Level, Flush, StorePart, State, levels_of}
 
--- the calls were made one after another, each before the one above it, and all before step n
+-- The calls were made one after another, each before the one above it, and all before step n.
 abbrev pub AreDescending : List Level → ℕ → Type 0
 AreDescending [] n = Unit {0}
 AreDescending (l ∷ ls) n = (l.birth < n) × AreDescending ls l.birth
@@ -26,21 +26,21 @@ pub record IsParted (standing levels : List Level) : Type 0 where
 -- What each state of a run keeps of the parts in its cache lines: when they were made and first flushed, what those of
 -- one store share, that there are instructions at their sites, and which of their calls stand.
 pub record HasHistory (P : Program) (s : State) : Type 0 where
-  -- a part was made by an earlier step, and so was its first flush
+  -- A part was made by an earlier step, and so was its first flush.
   pub made : (x : StorePart) → PartOf s.lines x → x.step < s.counts.steps
   pub flush_made : (x : StorePart) (f : Flush) → PartOf s.lines x → x.first_flush ≡ Some f
       → f.step < s.counts.steps
-  -- the parts of one store have the same site, the same calls, the same entry and the same history of fences
+  -- The parts of one store have the same site, the same calls, the same entry and the same history of fences.
   pub site : (x y : StorePart) → PartOf s.lines x → PartOf s.lines y → x.step ≡ y.step → x.site ≡ y.site
   pub levels : (x y : StorePart) → PartOf s.lines x → PartOf s.lines y → x.step ≡ y.step
       → x.levels ≡ y.levels
   pub entry : (x y : StorePart) → PartOf s.lines x → PartOf s.lines y → x.step ≡ y.step → x.entry ≡ y.entry
   pub fenced : (x y : StorePart) → PartOf s.lines x → PartOf s.lines y → x.step ≡ y.step
       → x.fenced ≡ y.fenced
-  -- a part that is flushed has a first flush
+  -- A part that is flushed has a first flush.
   pub flushed : (m k : ℕ) (l : Line StorePart) (x : StorePart) → slice_get s.lines m ≡ Some l →
       slice_get l.parts k ≡ Some x → k < l.flushed → (f : Flush) × (x.first_flush ≡ Some f)
-  -- there are instructions at the sites of stores, flushes and calls
+  -- There are instructions at the sites of stores, flushes and calls.
   pub site_there : (x : StorePart) → PartOf s.lines x → (i : Instr) × (instr_of P x.site ≡ Some i)
   pub flush_there : (x : StorePart) (f : Flush) → PartOf s.lines x → x.first_flush ≡ Some f →
       (i : Instr) × (instr_of P f.site ≡ Some i)

@@ -31,12 +31,12 @@ pub record HasCalls (s : State) : Type 0 where
   pub born : AreDescending (levels_of s.frames) s.counts.steps
   pub births : (x : StorePart) → PartOf s.lines x → AreDescending x.levels x.step
 
--- the last of the first n steps that is a fence
+-- The last of the first n steps that is a fence.
 unfoldable pub last_fence : Program → Input → ℕ → Option ℕ
 last_fence P I zero = None
 last_fence P I (suc n) = cond (fences (event P I (run P I n))) (Some n) (last_fence P I n)
 
--- whether a step is before another one, if there is another
+-- Whether a step is before another one, if there is another.
 abbrev pub is_before : ℕ → Option ℕ → Bool
 is_before step None = false
 is_before step (Some m) = nat_lt step m

@@ -3,12 +3,12 @@ use Rattle.std.specs.Prelude.{◌≡◌, ◌⊎◌, List, [], ◌∷◌}
 use Rattle.hip_lines.specs.Line.{Line}
 use Rattle.hip_runs.specs.State.{StorePart}
 
--- one of the items is this one
+-- One of the items is this one.
 abbrev pub In : {A : Type 0} → A → List A → Type 0
 In v [] = ⊥
 In v (x ∷ xs) = (v ≡ x) ⊎ In v xs
 
--- one of the lines has this part
+-- One of the lines has this part.
 abbrev pub PartOf : List (Line StorePart) → StorePart → Type 0
 PartOf [] x = ⊥
 PartOf (l ∷ ls) x = In x l.parts ⊎ PartOf ls x

@@ -7,7 +7,7 @@ use Rattle.hip_runs.specs.declared.input.Input.{Input}
 use Rattle.hip_runs.specs.State.{Level, Flush, StorePart, Counts}
 use Rattle.hip_runs.specs.Actions.{in_region}
 
--- the part in line j of a store of bytes at offset o: its bytes in that line
+-- The part in line j of a store of bytes at offset o: its bytes in that line.
 abbrev pub part_of_store : Counts → Site → List Level → ℕ → List ℕ → ℕ → StorePart
 part_of_store counts site levels o bytes j =
     record {
@@ -21,24 +21,24 @@ part_of_store counts site levels o bytes j =
       fenced = false;
     }
 
--- the region's lines after a store of bytes at an address: if it lies in the region, it appends its part to each line
--- that has a byte of it
+-- The region's lines after a store of bytes at an address: if it lies in the region, it appends its part to each line
+-- that has a byte of it.
 abbrev pub stored_lines : Input → Counts → Site → List Level → ℕ → List ℕ → List (Line StorePart) →
     List (Line StorePart)
 stored_lines I counts site levels a bytes ls =
     cond (in_region I a (length bytes))
     (stored (part_of_store counts site levels (a - I.base) bytes) (a - I.base) (length bytes) ls) ls
 
--- the first flush of a part after a flush: the earlier one if there is one, else this one
+-- The first flush of a part after a flush: the earlier one if there is one, else this one.
 abbrev pub earlier : Option Flush → Flush → Option Flush
 earlier None flush = Some flush
 earlier (Some first) flush = Some first
 
--- the part after a flush of its line
+-- The part after a flush of its line.
 abbrev pub noted_flush : Flush → StorePart → StorePart
 noted_flush flush p = record p { first_flush = earlier p.first_flush flush }
 
--- the part after a fence
+-- The part after a fence.
 abbrev pub noted_fence : StorePart → StorePart
 noted_fence p = record p { fenced = true }
 
@@ -52,16 +52,16 @@ flush_line flush l = flushed_line (map_line (noted_flush flush) l)
 abbrev pub fence_line : Line StorePart → Line StorePart
 fence_line l = fenced_line (map_line noted_fence l)
 
--- whether a flush of a range flushes lines: it has bytes, and they lie in the region
+-- Whether a flush of a range flushes lines: it has bytes, and they lie in the region.
 abbrev pub flushes_lines : Input → ℕ → ℕ → Bool
 flushes_lines I a n = nat_lt 0 n && in_region I a n
 
--- the region's lines after a flush of the n bytes from address a: each that has one of these bytes is flushed; none is
--- if the bytes do not all lie in the region
+-- The region's lines after a flush of the n bytes from address a: each that has one of these bytes is flushed; none is
+-- if the bytes do not all lie in the region.
 abbrev pub flushed_lines : Input → Flush → ℕ → ℕ → List (Line StorePart) → List (Line StorePart)
 flushed_lines I flush a n ls =
     cond (flushes_lines I a n) (change_range (λ _ l. flush_line flush l) (a - I.base) n ls) ls
 
--- the lines of the region after a fence, which acts on each of them
+-- The lines of the region after a fence, which acts on each of them.
 abbrev pub fenced_lines : List (Line StorePart) → List (Line StorePart)
 fenced_lines ls = map fence_line ls

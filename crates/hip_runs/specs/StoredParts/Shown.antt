@@ -5,14 +5,14 @@ use Rattle.hip_lines.specs.Pending.{Pending, pending_of}
 use Rattle.hip_lines.specs.declared.part.Part.{Part}
 use Rattle.hip_runs.specs.State.{StorePart}
 
--- a part of a store, as the code has it
+-- A part of a store, as the code has it.
 abbrev pub shown_part : StorePart → Part
 shown_part p = record { offset = p.offset; size = length p.bytes; tag = p.step }
 
--- the parts of a line that are not durable, in order, and how many of them are flushed
+-- The parts of a line that are not durable, in order, and how many of them are flushed.
 abbrev pub shown_line : Line StorePart → Pending Part
 shown_line l = pending_of (map_line shown_part l)
 
--- the same for each line of the region, in order
+-- The same for each line of the region, in order.
 abbrev pub shown : List (Line StorePart) → List (Pending Part)
 shown ls = map shown_line ls

@@ -12,41 +12,41 @@ use Rattle.hip_runs.specs.Step.{event, run}
 use Rattle.hip_runs.specs.declared.event.Event.TheVariants as events
 use Rattle.hip_types.specs.declared.areas.TheConstants.{LINE_SIZE}
 
--- whether a step with this event stores into the region
+-- Whether a step with this event stores into the region.
 abbrev pub stores : Event → Bool
 stores (events.Store addr value size) = true
 stores _ = false
 
--- whether a step with this event is a fence: one by itself, or the one after the flushes of a persist
+-- Whether a step with this event is a fence: one by itself, or the one after the flushes of a persist.
 abbrev pub fences : Event → Bool
 fences events.Fence = true
 fences (events.Persist line size) = true
 fences _ = false
 
--- whether cache line j of a region at a base lies in a range of whole lines
+-- Whether cache line j of a region at a base lies in a range of whole lines.
 abbrev pub has_line : ℕ → ℕ → ℕ → ℕ → Bool
 has_line base j line size = nat_le line (base + LINE_SIZE * j) && nat_lt (base + LINE_SIZE * j) (line + size)
 
--- whether a step with this event flushes cache line j of the region at a base
+-- Whether a step with this event flushes cache line j of the region at a base.
 abbrev pub flushes : ℕ → ℕ → Event → Bool
 flushes base j (events.Flush line size) = has_line base j line size
 flushes base j (events.Persist line size) = has_line base j line size
 flushes base j _ = false
 
--- a step between step `from` and step n is a fence
+-- A step between step `from` and step n is a fence.
 abbrev pub FencedSince : Program → Input → ℕ → ℕ → Type 0
 FencedSince P I from n = (m : ℕ) × (from < m) × (m < n) × (fences (event P I (run P I m)) ≡ true)
 
--- no step between step `from` and step n flushes cache line j
+-- No step between step `from` and step n flushes cache line j.
 abbrev pub NotFlushedSince : Program → Input → ℕ → ℕ → ℕ → Type 0
 NotFlushedSince P I j from n = (m : ℕ) → from < m → m < n → flushes I.base j (event P I (run P I m)) ≡ false
 
--- the site of the top frame
+-- The site of the top frame.
 abbrev pub top_site : List Frame → Option Site
 top_site [] = None
 top_site (f ∷ fs) = Some (site_of f)
 
--- the flush is the first one of line j between step `from` and step n, and the run stood at its site then
+-- The flush is the first one of line j between step `from` and step n, and the run stood at its site then.
 pub record IsFirst (P : Program) (I : Input) (j from n : ℕ) (flush : Flush) : Type 0 where
   pub after : from < flush.step
   pub before : flush.step < n
@@ -54,12 +54,12 @@ pub record IsFirst (P : Program) (I : Input) (j from n : ℕ) (flush : Flush) : 
   pub first : NotFlushedSince P I j from flush.step
   pub site : top_site (run P I flush.step).frames ≡ Some flush.site
 
--- the first flush of line j between step `from` and step n, if there is one
+-- The first flush of line j between step `from` and step n, if there is one.
 abbrev pub IsFirstFlush : Program → Input → ℕ → ℕ → ℕ → Option Flush → Type 0
 IsFirstFlush P I j from n None = NotFlushedSince P I j from n
 IsFirstFlush P I j from n (Some flush) = IsFirst P I j from n flush
 
--- a step between step `from` and step n flushes cache line j
+-- A step between step `from` and step n flushes cache line j.
 abbrev pub FlushedSince : Program → Input → ℕ → ℕ → ℕ → Type 0
 FlushedSince P I j from n = (m : ℕ) × (from < m) × (m < n) × (flushes I.base j (event P I (run P I m)) ≡ true)
 
@@ -76,21 +76,21 @@ pub record IsFlushedThenFenced (P : Program) (I : Input) (j from n : ℕ) : Type
 
 -- ---- parts at their places
 
--- the line is there and has the part at place k
+-- The line is there and has the part at place k.
 abbrev pub IsPartIn : Option (Line StorePart) → ℕ → StorePart → Type 0
 IsPartIn None k x = ⊥
 IsPartIn (Some l) k x = slice_get l.parts k ≡ Some x
 
--- the part stands at place k of cache line m
+-- The part stands at place k of cache line m.
 abbrev pub IsPartAt : State → ℕ → ℕ → StorePart → Type 0
 IsPartAt s m k x = IsPartIn (slice_get s.lines m) k x
 
--- the line is there and has the part at place k, which is before its durable number
+-- The line is there and has the part at place k, which is before its durable number.
 abbrev pub IsDurableIn : Option (Line StorePart) → ℕ → StorePart → Type 0
 IsDurableIn None k x = ⊥
 IsDurableIn (Some l) k x = (slice_get l.parts k ≡ Some x) × (k < l.durable)
 
--- the part at place k of cache line m is durable
+-- The part at place k of cache line m is durable.
 abbrev pub IsDurableAt : State → ℕ → ℕ → StorePart → Type 0
 IsDurableAt s m k x = IsDurableIn (slice_get s.lines m) k x
 

@@ -15,7 +15,7 @@ use Rattle.hip_sites.specs.Passing.{passing_in_body, passing_in_blocks, passing_
 -- ---- the whole walk
 
 module _ (P : Program) (passes : ℕ → Option Instr → Bool) where
-  -- the instruction at a site passes the test of its function
+  -- The instruction at a site passes the test of its function.
   abbrev pub passes_at : Site → Bool
   passes_at s = passes s.function (instr_of P s)
 
@@ -82,7 +82,7 @@ module _ (P : Program) (passes : ℕ → Option Instr → Bool) where
 
 -- ---- membership
 
--- the filtered list of sites has exactly those that pass the test, if no site without an instruction passes it
+-- The filtered list of sites has exactly those that pass the test, if no site without an instruction passes it.
 pub listed : (P : Program) (test : Site → Bool) → ((s : Site) → instr_of P s ≡ None → test s ≡ false)
     → (s : Site) → has_site (filter test (sites_of P)) s ≡ test s
 listed P test none s =
@@ -123,7 +123,7 @@ functions_next tests functions k x lt e =
     ap (λ n. passing_in_blocks (tests k) k 0 x.blocks ++ passing_in_functions tests n (drop n functions)) one
     ∙ sym (ap (passing_in_functions tests k) (drop_next functions k x lt e))
 
--- what was found so far, with what one more item adds
+-- What was found so far, with what one more item adds.
 pub found_next : (sites new here rest all whole : List Site) → new ≡ sites ++ here → here ++ rest ≡ all
     → sites ++ all ≡ whole → new ++ rest ≡ whole
 found_next sites new here rest all whole e f g =

@@ -79,7 +79,7 @@ joined-all Q n make (y ∷ ys) h =
 
 -- ---- numbers of blocks by their label
 
--- a number that is the successor of another comes only from that other
+-- A number that is the successor of another comes only from that other.
 pub number_before : (o : Option ℕ) (c : ℕ) → option_map suc o ≡ Some c → (d : ℕ) × (o ≡ Some d)
     × (c ≡ suc d)
 number_before None c e = cc

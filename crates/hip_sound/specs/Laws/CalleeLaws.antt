@@ -10,7 +10,7 @@ use Rattle.hip_sound.specs.Laws.Decided.{all-at}
 use Rattle.hip_sound.specs.Numbering.{function_names, function_number}
 use Rattle.hip_sound.specs.Sound.{IsSound, IsFree}
 
--- the name of a function is not that of an external function
+-- The name of a function is not that of an external function.
 pub number_free : (P : Program) → IsSound P → (callee : List ℕ) (g : ℕ) → function_number P callee ≡ Some g
     → call_of callee ≡ None
 number_free P s callee g named = go (slice_get P.functions g) refl
@@ -31,7 +31,7 @@ number_free P s callee g named = go (slice_get P.functions g) refl
         subst (λ n. call_of n ≡ None) same
         (all-at (λ (h : Function). IsFree h.name) P.functions g f s.externs.functions e)
 
--- the name of an external function has no number among the functions
+-- The name of an external function has no number among the functions.
 pub not_numbered : (P : Program) → IsSound P → (callee : List ℕ) (x : ExternCall) → call_of callee ≡ Some x
     → is_some (function_number P callee) ≡ false
 not_numbered P s callee x known = go (function_number P callee) refl

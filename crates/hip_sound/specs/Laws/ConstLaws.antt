@@ -50,49 +50,49 @@ same_truth-refl false = refl
 
 -- ---- constants that pass the test are equal
 
--- each constant that passes the test for this one is equal to it
+-- Each constant that passes the test for this one is equal to it.
 abbrev IsEqual : Const → Type 0
 IsEqual a = (b : Const) → same_const a b ≡ true → a ≡ b
 
--- each constant `getelementptr` that passes the test for this one is equal to it
+-- Each constant `getelementptr` that passes the test for this one is equal to it.
 abbrev IsEqualGep : ConstGep → Type 0
 IsEqualGep a = (b : ConstGep) → same_gep a b ≡ true → a ≡ b
 
--- each member of an aggregate constant that passes the test for this one is equal to it
+-- Each member of an aggregate constant that passes the test for this one is equal to it.
 abbrev IsEqualItem : TypedConst → Type 0
 IsEqualItem a = (b : TypedConst) → same_item a b ≡ true → a ≡ b
 
--- a constant, with the proof that what passes its test is equal to it
+-- A constant, with the proof that what passes its test is equal to it.
 abbrev Known : Type 0
 Known = (c : Const) × IsEqual c
 
--- a constant `getelementptr`, with the proof that what passes its test is equal to it
+-- A constant `getelementptr`, with the proof that what passes its test is equal to it.
 abbrev KnownGep : Type 0
 KnownGep = (g : ConstGep) × IsEqualGep g
 
--- a member of an aggregate constant, with the proof that what passes its test is equal to it
+-- A member of an aggregate constant, with the proof that what passes its test is equal to it.
 abbrev KnownItem : Type 0
 KnownItem = (i : TypedConst) × IsEqualItem i
 
--- one level of a constant, whose parts are given without their proofs
+-- One level of a constant, whose parts are given without their proofs.
 abbrev consts : Const-F Known KnownGep KnownItem → Const-F Const ConstGep TypedConst
 consts y = map-Const Known KnownGep KnownItem Const ConstGep TypedConst (λ e. e.0) (λ e. e.0) (λ e. e.0) y
 
--- one level of a constant, with the test of each part inside in its place
+-- One level of a constant, with the test of each part inside in its place.
 abbrev tests_of : Const-F Const ConstGep TypedConst
     → Const-F (Const → Bool) (ConstGep → Bool) (TypedConst → Bool)
 tests_of z =
     map-Const Const ConstGep TypedConst (Const → Bool) (ConstGep → Bool) (TypedConst → Bool)
     same_const same_gep same_item z
 
--- a constant `getelementptr`, with the test of its base in place of the base
+-- A constant `getelementptr`, with the test of its base in place of the base.
 abbrev gep_tests : ConstGep-F Const ConstGep TypedConst
     → ConstGep-F (Const → Bool) (ConstGep → Bool) (TypedConst → Bool)
 gep_tests z =
     map-ConstGep Const ConstGep TypedConst (Const → Bool) (ConstGep → Bool) (TypedConst → Bool)
     same_const same_gep same_item z
 
--- a member of an aggregate constant, with the test of its value in place of the value
+-- A member of an aggregate constant, with the test of its value in place of the value.
 abbrev item_tests : TypedConst-F Const ConstGep TypedConst
     → TypedConst-F (Const → Bool) (ConstGep → Bool) (TypedConst → Bool)
 item_tests z =
@@ -172,7 +172,7 @@ item_is a b value h =
     let inner = value b.value both.1 in
     λ i. record { ty = ty i; value = inner i }
 
--- constants that pass the test are equal
+-- Constants that pass the test are equal.
 pub same_const-equal : (a b : Const) → same_const a b ≡ true → a ≡ b
 same_const-equal = ind-Const IsEqual IsEqualGep IsEqualItem
     (λ x y is b h.
@@ -195,31 +195,31 @@ same_const-equal = ind-Const IsEqual IsEqualGep IsEqualItem
 
 -- ---- each constant passes the test for itself
 
--- the constant passes the test for itself
+-- The constant passes the test for itself.
 abbrev IsReflexive : Const → Type 0
 IsReflexive a = same_const a a ≡ true
 
--- the constant `getelementptr` passes the test for itself
+-- The constant `getelementptr` passes the test for itself.
 abbrev IsReflexiveGep : ConstGep → Type 0
 IsReflexiveGep a = same_gep a a ≡ true
 
--- the member of an aggregate constant passes the test for itself
+-- The member of an aggregate constant passes the test for itself.
 abbrev IsReflexiveItem : TypedConst → Type 0
 IsReflexiveItem a = same_item a a ≡ true
 
--- a constant, with the proof that it passes its own test
+-- A constant, with the proof that it passes its own test.
 abbrev Passing : Type 0
 Passing = (c : Const) × IsReflexive c
 
--- a constant `getelementptr`, with the proof that it passes its own test
+-- A constant `getelementptr`, with the proof that it passes its own test.
 abbrev PassingGep : Type 0
 PassingGep = (g : ConstGep) × IsReflexiveGep g
 
--- a member of an aggregate constant, with the proof that it passes its own test
+-- A member of an aggregate constant, with the proof that it passes its own test.
 abbrev PassingItem : Type 0
 PassingItem = (i : TypedConst) × IsReflexiveItem i
 
--- one level of a constant, whose parts are given without their proofs
+-- One level of a constant, whose parts are given without their proofs.
 abbrev bare : Const-F Passing PassingGep PassingItem → Const-F Const ConstGep TypedConst
 bare y = map-Const Passing PassingGep PassingItem Const ConstGep TypedConst (λ e. e.0) (λ e. e.0) (λ e. e.0) y
 
@@ -274,7 +274,7 @@ pub same_operand-refl : (a : Operand) → same_operand a a ≡ true
 same_operand-refl (Reg a) = (bytes_eq-Decides a a).1 refl
 same_operand-refl (Fixed a) = same_const-refl a
 
--- a test that decides whether two operands are equal is this one
+-- A test that decides whether two operands are equal is this one.
 pub same_operand-is : (b : Bool) (x y : Operand) → (b ≡ true → x ≡ y) → (x ≡ y → b ≡ true)
     → b ≡ same_operand x y
 same_operand-is b x y equal test =

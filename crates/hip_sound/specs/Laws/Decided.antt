@@ -36,7 +36,7 @@ false_not false h = refl
 pub not-decides : {P : Type 0} (b : Bool) → Decides b P → Decides (not b) (¬ P)
 not-decides b d = (λ e p. not_false b e (d.1 p), λ n. false_not b (λ e. n (d.0 e)))
 
--- if the disjunction of two tests does not pass, neither of them does
+-- If the disjunction of two tests does not pass, neither of them does.
 any_cases : (a b : Bool) → ¬ ((a || b) ≡ true) → (¬ (a ≡ true)) × (¬ (b ≡ true))
 any_cases true b h = absurd (h refl)
 any_cases false b h = (λ e. cc, h)
@@ -121,7 +121,7 @@ each_from_whole n check P [] f h = tt
 each_from_whole n check P (x ∷ xs) f h =
     (f n x (All-head P x xs h), each_from_whole (n + 1) check P xs f (All-tail P x xs h))
 
--- if the check of each item gives a fact, the check of all gives the fact for all
+-- If the check of each item gives a fact, the check of all gives the fact for all.
 pub each-sound : {X : Type 0} (check : ℕ → X → Check) (P : X → Type 0) (xs : List X)
     → ((m : ℕ) (x : X) → (check m x).Holds → P x) → (each check xs).Holds → All P xs
 each-sound check P xs f h = each_from_sound 0 check P xs f h
@@ -141,7 +141,7 @@ holds_from-at n check (y ∷ ys) (suc k) x h e =
     let next : n + 1 + k ≡ n + suc k = omega arith in
     subst (λ m. (check m x).Holds) next (holds_from-at (n + 1) check ys k x h.1 e)
 
--- if the check of all items holds, that of the item at a place does
+-- If the check of all items holds, that of the item at a place does.
 pub holds-at : {X : Type 0} (check : ℕ → X → Check) (xs : List X) (k : ℕ) (x : X) → (each check xs).Holds
     → slice_get xs k ≡ Some x → (check k x).Holds
 holds-at check xs k x h e =
@@ -158,7 +158,7 @@ holds_from-made n check (x ∷ xs) h =
           subst (λ m. (check m y).Holds) next (h (suc k) y e)),
     )
 
--- it holds if it holds at each place
+-- It holds if it holds at each place.
 pub holds-made : {X : Type 0} (check : ℕ → X → Check) (xs : List X)
     → ((k : ℕ) (x : X) → slice_get xs k ≡ Some x → (check k x).Holds) → (each check xs).Holds
 holds-made check xs h =

@@ -63,7 +63,7 @@ sound-phis P s f b c i fn block prior p at before named e =
 
 -- ---- functions
 
--- a function with the signature, at the number of the name
+-- A function with the signature, at the number of the name.
 pub record FunctionAt (fs : List Function) (name : List ℕ) (s : Signature) : Type 0 where
   pub number : ℕ
   pub function : Function

@@ -22,11 +22,11 @@ use Rattle.hip_sound.specs.declared.fault.Place.{Place}
 use Rattle.hip_sound.specs.declared.fault.Place.TheVariants as places
 use Rattle.hip_sound.specs.Sound.{top_names, names_in_block, names_in_function}
 
--- the names of declarations, in order, without their places
+-- The names of declarations, in order, without their places.
 abbrev place_names : List Named → List (List ℕ)
 place_names ns = map (λ n. n.name) ns
 
--- the names differ from one another and from some earlier names
+-- The names differ from one another and from some earlier names.
 record Apart (earlier names : List (List ℕ)) : Type 0 where
   pub differ : AllDiffer names
   pub apart : (name : List ℕ) → IsAmong earlier name → ¬ IsAmong names name
@@ -97,7 +97,7 @@ names-whole P h = differ-whole (rules.declarations P) (top_names P) (top_alike P
 
 -- ---- the names in a function
 
--- each declaration becomes an item that has its name
+-- Each declaration becomes an item that has its name.
 pub record Tells {A : Type 0} (d : Declares A) (name : A → List ℕ) : Type 0 where
   pub parameter : (p : Param) → name (d.parameter p) ≡ p.name
   pub label : (b : ℕ) (label : List ℕ) → name (d.label b label) ≡ label
@@ -152,7 +152,7 @@ module _ {A : Type 0} (d : Declares A) (name : A → List ℕ) (t : Tells d name
       ∙ ap (λ ns. ns ++ map name (joined (numbered_from (n + 1) (block_declared d) bs))) (block_stated n b)
       ∙ ap (λ ns. names_in_block b ++ ns) (blocks_stated (n + 1) bs)
 
-  -- the items of a function's declarations have the names in it, in their order
+  -- The items of a function's declarations have the names in it, in their order.
   pub declared_names-are : (fn : Function) → map name (declared_by d fn) ≡ names_in_function fn
   declared_names-are fn =
       map-append name (map d.parameter fn.params) (blocks_declared d fn.blocks)

@@ -7,7 +7,7 @@ use Rattle.hip_tree.specs.declared.program.Program.{Program}
 use Rattle.hip_names.specs.Laws.NumberLaws.{number_of-there, number_of-known}
 use Rattle.hip_sound.specs.Numbering.{function_names, function_number}
 
--- a function that has a number by its name is there, with that name
+-- A function that has a number by its name is there, with that name.
 pub function_number-there : (P : Program) (name : List ℕ) (g : ℕ) → function_number P name ≡ Some g
     → (fn : Function) × (slice_get P.functions g ≡ Some fn) × (fn.name ≡ name)
 function_number-there P name g e =
@@ -24,7 +24,7 @@ pub function_number-within : (P : Program) (name : List ℕ) (g : ℕ) → funct
 function_number-within P name g e =
     let there = function_number-there P name g e in slice_get_within P.functions g there.0 there.1
 
--- a function that is there has a number by its name
+-- A function that is there has a number by its name.
 pub function_number-known : (P : Program) (g : ℕ) (fn : Function) → slice_get P.functions g ≡ Some fn
     → (j : ℕ) × (function_number P fn.name ≡ Some j)
 function_number-known P g fn e =

@@ -111,7 +111,7 @@ callees-decides P fn (Load dest ty addr align) = (λ e. All-nil (IsAmong (callee
 callees-decides P fn (Store ty value addr align) = (λ e. All-nil (IsAmong (callee_names P)), λ h. refl)
 callees-decides P fn (Gep dest inbounds ty base indices) = (λ e. All-nil (IsAmong (callee_names P)), λ h. refl)
 
--- names exist
+-- Names exist.
 phi_names-decides : (P : Program) (fn : Function) (p : Phi)
     → Decides (uses_known (scope_of P fn) (phi_uses p) && are_among (label_names fn) (edge_labels p.edges))
     (NamesExist P fn (PhiItem p))
@@ -177,7 +177,7 @@ uses-decides P fn us =
     all-decides (λ u. use_agrees (registers_of fn) u.operand u.ty) (IsTyped fn) us
     (λ u. use-decides (registers_of fn) u.operand u.ty)
 
--- the signature that a call states: its result, and its arguments' types as parameters
+-- The signature that a call states: its result, and its arguments' types as parameters.
 abbrev stated_signature : Option Scalar → List Arg → Signature
 stated_signature ret args = record { ret = ret; params = map (λ a. a.ty) args }
 
@@ -288,7 +288,7 @@ ends-decides fn block e =
     none-decides (is_entry fn.blocks) (λ label. label_at fn 0 ≡ Some label) (end_labels e)
     (λ label. entry-decides fn label)
 
--- some block of the list has the first label, and its end names the second
+-- Some block of the list has the first label, and its end names the second.
 abbrev IsPredecessor : List Block → List ℕ → List ℕ → Type 0
 IsPredecessor bs from to =
     (n : ℕ) × (b : Block) × (slice_get bs n ≡ Some b) × (b.label ≡ from) × IsAmong (end_labels b.end) to
@@ -394,7 +394,7 @@ edges-decides fn block edges =
 
 -- ---- a place
 
--- each rule of places holds of what is there
+-- Each rule of places holds of what is there.
 pub record ItemIsSound (P : Program) (fn : Function) (block : Block) (x : Item) : Type 0 where
   pub names : NamesExist P fn x
   pub fit : TypesFit x

@@ -36,14 +36,14 @@ use Rattle.hip_globals.specs.Addresses.{TypesFitIn}
 
 -- ---- globals
 
--- the types of globals and those in their initialisers fit, the initialisers have the shape of their globals' types,
--- and they name globals
+-- The types of globals and those in their initialisers fit, the initialisers have the shape of their globals' types,
+-- and they name globals.
 pub record GlobalsAreSound (P : Program) : Type 0 where
   pub fit : All TypesFitIn P.globals
   pub shape : All HasItsShape P.globals
   pub names : All (NamesGlobals P) P.globals
 
--- the types of one global and of its initialiser fit, and the initialiser has its shape and names globals
+-- The types of one global and of its initialiser fit, and the initialiser has its shape and names globals.
 abbrev global_facts : Program → GlobalVar → Type 0
 global_facts P g = TypesFitIn g × HasItsShape g × NamesGlobals P g
 
@@ -239,7 +239,7 @@ block-whole P f b fn block s = (
   ),
 )
 
--- each rule of places, at each place
+-- Each rule of places, at each place.
 pub record PlacesAreSound (P : Program) : Type 0 where
   pub sound : (f b : ℕ) (fn : Function) (block : Block) → IsBlockAt P f b fn block
       → EachItem block (ItemIsSound P fn block)
@@ -268,7 +268,7 @@ rule-of block all one f s =
 
 -- ---- soundness
 
--- a program that passes the checks is sound
+-- A program that passes the checks is sound.
 pub passes-sound : (P : Program) → rules.Passes P → IsSound P
 passes-sound P s =
     let globals = globals-sound P s.globals in
@@ -326,7 +326,7 @@ item-of P s f b fn block at =
       last = record { names = names.last; fit = fit.last; agree = agree.last; cases = cases.last; edges = edges.last };
     }
 
--- a sound program passes the checks
+-- A sound program passes the checks.
 pub sound-passes : (P : Program) → IsSound P → rules.Passes P
 sound-passes P s = record {
   spelled = s.spelled;

@@ -71,6 +71,6 @@ rules-exact P =
     (and_then-exact _ _ (externs-exact P) (and_then-exact _ _ (asks_true-exact _ _ _)
     (and_then-exact _ _ (asks_true-exact _ _ _) (and_then-exact _ _ (inner_names-exact P) (places-exact P))))))
 
--- the persistent globals of a sound program end within the largest region
+-- The persistent globals of a sound program end within the largest region.
 pub persistent-end : (P : Program) → KeepsToSizes P → end_of true 0 P.globals ≤ LARGEST_REGION
 persistent-end P k = let small = k.region in omega (arith, small)

@@ -27,19 +27,19 @@ same_width-refl W16 = refl
 same_width-refl W32 = refl
 same_width-refl W64 = refl
 
--- each type that passes the test for this one is equal to it
+-- Each type that passes the test for this one is equal to it.
 abbrev IsEqual : Ty → Type 0
 IsEqual a = (b : Ty) → same_type a b ≡ true → a ≡ b
 
--- a type, with the proof that what passes its test is equal to it
+-- A type, with the proof that what passes its test is equal to it.
 abbrev Known : Type 0
 Known = (t : Ty) × IsEqual t
 
--- one level of a type, whose parts are given without their proofs
+-- One level of a type, whose parts are given without their proofs.
 abbrev types : Ty-F Known → Ty-F Ty
 types y = map-Ty Known Ty (λ e. e.0) y
 
--- one level of a type, with the test of each type inside in its place
+-- One level of a type, with the test of each type inside in its place.
 abbrev tests : Ty-F Known → Ty-F (Ty → Bool)
 tests y = map-Ty Ty (Ty → Bool) same_type (types y)
 
@@ -73,7 +73,7 @@ level_equal (Ty-F.Struct es) Ty-F.Ptr h = cc
 level_equal (Ty-F.Struct es) (Ty-F.Array n t) h = cc
 level_equal (Ty-F.Struct es) (Ty-F.Struct ts) h = ap (λ xs. Ty-F.Struct xs) (all_equal es ts h)
 
--- types that pass the test are equal
+-- Types that pass the test are equal.
 pub same_type-equal : (a b : Ty) → same_type a b ≡ true → a ≡ b
 same_type-equal = ind-Ty IsEqual (λ x y is b h.
     let unfolded : same_type (roll-Ty x) b ≡ same_step (map-Ty Ty (Ty → Bool) same_type x) b =
@@ -83,15 +83,15 @@ same_type-equal = ind-Ty IsEqual (λ x y is b h.
     let there : P (types y) = subst P (sym is) here in
     ap roll-Ty (sym is ∙ level_equal y (out-Ty b) there) ∙ roll-out-Ty b)
 
--- the type passes the test for itself
+-- The type passes the test for itself.
 abbrev IsReflexive : Ty → Type 0
 IsReflexive a = same_type a a ≡ true
 
--- a type, with the proof that it passes its own test
+-- A type, with the proof that it passes its own test.
 abbrev Passing : Type 0
 Passing = (t : Ty) × IsReflexive t
 
--- one level of a type, whose parts are given without their proofs
+-- One level of a type, whose parts are given without their proofs.
 abbrev bare : Ty-F Passing → Ty-F Ty
 bare y = map-Ty Passing Ty (λ e. e.0) y
 
@@ -105,7 +105,7 @@ level_reflexive Ty-F.Ptr = refl
 level_reflexive (Ty-F.Array n e) = both_true (eq-eqb n n refl) e.1
 level_reflexive (Ty-F.Struct es) = all_reflexive es
 
--- each type passes the test for itself
+-- Each type passes the test for itself.
 pub same_type-refl : (a : Ty) → same_type a a ≡ true
 same_type-refl = ind-Ty IsReflexive (λ x y is.
     let unfolded : same_type (roll-Ty x) (roll-Ty x) ≡ same_step (map-Ty Ty (Ty → Bool) same_type x) (roll-Ty x) =
@@ -114,7 +114,7 @@ same_type-refl = ind-Ty IsReflexive (λ x y is.
     let here : P x = subst P is (level_reflexive y) in
     unfolded ∙ ap (λ (o : Ty-F Ty). same_level (map-Ty Ty (Ty → Bool) same_type x) o) (out-roll-Ty x) ∙ here)
 
--- a test that decides whether two types are equal is this one
+-- A test that decides whether two types are equal is this one.
 pub same_type-is : (b : Bool) (x y : Ty) → (b ≡ true → x ≡ y) → (x ≡ y → b ≡ true)
     → b ≡ same_type x y
 same_type-is b x y equal test =

@@ -65,7 +65,7 @@ module _ {P : Program} {I : Input} {s : Contents} {ws : List Write} {mark : ℕ}
       (LINE_SIZE * (((a - b) + n - 1) / LINE_SIZE + 1) - LINE_SIZE * ((a - b) / LINE_SIZE))) events.Fence)
       (flushes_is a n) base_is
 
-  -- the contents hold the run after the stack's mark is set back
+  -- The contents hold the run after the stack's mark is set back.
   pub pop_holds : (to : ℕ) → stack_start ≤ to → to ≤ mark → HoldsRun P I (after_pop to s) ws to
   pop_holds to low high = record {
     volatile = h.volatile;
@@ -79,7 +79,7 @@ module _ {P : Program} {I : Input} {s : Contents} {ws : List Write} {mark : ℕ}
       within : to ≤ mark_of s.areas
       within = omega (arith, high, h.memory.mark_is)
 
-  -- the contents hold the run after a new block on the stack
+  -- The contents hold the run after a new block on the stack.
   push_holds : (size align block : ℕ) → block ≡ block_address s.areas align → block_trap s size align ≡ None
       → HoldsRun P I (after_push size align s)
       (ws ++ record { addr = mark; bytes = zeros ((block + size) - mark) } ∷ []) (block + size)
@@ -122,7 +122,7 @@ module _ {P : Program} {I : Input} {s : Contents} {ws : List Write} {mark : ℕ}
 
 -- ---- traps
 
--- an action, unless it traps
+-- An action, unless it traps.
 abbrev pub unless : Option TrapKind → Action → Action
 unless None go = go
 unless (Some kind) go = Traps kind
@@ -133,7 +133,7 @@ unless_is (Some mem_traps.Misaligned) go = refl
 unless_is (Some mem_traps.BadAddress) go = refl
 
 module _ {P : Program} {I : Input} {s : Contents} (p : Point) (h : HoldsAt P I s p) where
-  -- an access, a flush and a new block trap in the storage exactly if they do in the run
+  -- An access, a flush and a new block trap in the storage exactly if they do in the run.
   pub access_is : (a n align : ℕ) (go : Action) → 0 < n
       → accessed P I p.world a n align go ≡ unless (access_trap s a n align) go
   access_is a n align go some =
@@ -170,7 +170,7 @@ module _ {P : Program} {I : Input} {s : Contents} (p : Point) (h : HoldsAt P I s
 
 -- ---- steps
 
--- a turn changes nothing that the contents hold
+-- A turn changes nothing that the contents hold.
 kept : {P : Program} {I : Input} {s : Contents} (turn : Bool) (w : World) → HoldsRun P I s w.writes w.mark
     → HoldsRun P I s (cond turn (with_turn w) w).writes (cond turn (with_turn w) w).mark
 kept true w h = h
@@ -324,7 +324,7 @@ module _ {P : Program} {I : Input} {old : Contents} (p : Point) (h : HoldsAt P I
   unfolding perform
   fence_done = record { is = refl; holds = kept p.turn p.world h; seen = refl }
 
-  -- what a return from a frame that is not the bottom one does, by the mark at its call
+  -- What a return from a frame that is not the bottom one does, by the mark at its call.
   pub return_done : {new : Contents} {value : ℕ} (g : Frame) (fs : List Frame) → p.frames ≡ g ∷ fs
       → stack_start ≤ p.frame.mark → p.frame.mark ≤ p.world.mark → new ≡ after_pop p.frame.mark old →
       HasDone P I p new events.Quiet (Returns value) (Returns value)

@@ -12,7 +12,7 @@ use Rattle.hip_sound.specs.Sound.{IsSound}
 use Rattle.hip_storage.specs.Contents.{initial}
 use Rattle.hip_storage.specs.Standing.{HoldsState}
 
--- the contents before the first step of a run are those of its start
+-- The contents before the first step of a run are those of its start.
 pub starts : (P : Program) (I : Input) → IsSound P → IsValid P I
     → volatile_start + length (volatile_bytes P I.base) ≡ volatile_end P
     → HoldsState P I (initial P I) (start P I)

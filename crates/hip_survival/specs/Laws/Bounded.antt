@@ -32,7 +32,7 @@ use Rattle.hip_runs.specs.declared.event.TrapKind.TheVariants as traps
 use Rattle.hip_runs.specs.declared.input.Input.{Input}
 
 module _ (P : Program) (I : Input) where
-  -- what an action may touch, under a stack mark; no condition on other actions
+  -- What an action may touch, under a stack mark; no condition on other actions.
   abbrev pub touches : ℕ → Action → Type 0
   touches mark (Stores a bytes) =
       (is_within volatile_start (volatile_end P) a (length bytes)
@@ -41,7 +41,7 @@ module _ (P : Program) (I : Input) where
   touches mark (Asserts a n) = (in_region I a n ≡ true)
   touches mark _ = Unit {0}
 
-  -- the action touches no more than that
+  -- The action touches no more than that.
   pub record Bounded (mark : ℕ) (x : Action) : Type 0 where
     pub is : touches mark x
 
@@ -158,7 +158,7 @@ module _ (P : Program) (I : Input) where
   bounded_end mark f (Some (ends.Ret arg)) = record { is = tt {0} }
   bounded_end mark f (Some ends.Unreachable) = record { is = tt {0} }
 
-  -- so is what the top frame does next
+  -- So is what the top frame does next.
   pub deed_bounded : (w : World) (f : Frame) (fs : List Frame) → Bounded w.mark (deed_at P I w f fs).action
   deed_bounded w f fs = by_code (code_at P f)
     where

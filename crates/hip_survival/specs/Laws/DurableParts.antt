@@ -32,7 +32,7 @@ get-take (suc q) (y ∷ xs) zero x lt e = e
 get-take (suc q) (y ∷ xs) (suc k) x lt e = get-take q xs k x (omega arith) e
 
 module _ {P : Type 0} (covering : P → ℕ → Bool) (value : P → ℕ → ℕ) where
-  -- a byte after parts has the value of the last part over it
+  -- A byte after parts has the value of the last part over it.
   pub last_value : (ps : List P) (b k : ℕ) (x : P) (first : ℕ) → IsLastOver covering ps b k x
       → byte_after covering value ps b first ≡ value x b
   last_value [] b k x first h = absurd (let e = h.at in let z : ⊥ = cc in z)
@@ -49,7 +49,7 @@ module _ {P : Type 0} (covering : P → ℕ → Bool) (value : P → ℕ → ℕ
   not_before : (j k : ℕ) → (j < k) ⊎ (k ≤ j)
   not_before j k = grind arith
 
-  -- the last part over a byte is not before another part that covers it
+  -- The last part over a byte is not before another part that covers it.
   not_sooner : (ps : List P) (b k : ℕ) (x : P) → slice_get ps k ≡ Some x → covering x b ≡ true
       → (o : Option (ℕ × P)) → Finds covering ps b o
       → (j : ℕ) × (y : P) × (k ≤ j) × IsLastOver covering ps b j y

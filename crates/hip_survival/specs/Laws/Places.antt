@@ -14,7 +14,7 @@ use Rattle.hip_runs.specs.StoredParts.Persistence.{fence_line, fenced_lines, flu
 use Rattle.hip_runs.specs.StoredParts.Since.{IsPartIn}
 use Rattle.hip_runs.specs.declared.input.Input.{Input}
 
--- the line has at the place a part of the store of this step
+-- The line has at the place a part of the store of this step.
 pub record HasPlace (o : Option (Line StorePart)) (k step : ℕ) : Type 0 where
   pub part : StorePart
   pub there : IsPartIn o k part
@@ -38,11 +38,11 @@ get_last (z ∷ xs) y x (suc k) e = get_last xs y x k e
 -- ---- one step
 
 module _ (m k : ℕ) where
-  -- the part that has the place before has it after, with the same store
+  -- The part that has the place before has it after, with the same store.
   abbrev Stays : List (Line StorePart) → List (Line StorePart) → Type 0
   Stays ls ls' = (t : ℕ) → HasPlace (slice_get ls m) k t → HasPlace (slice_get ls' m) k t
 
-  -- the part that has the place after had it before, with the same store, or is of the store of step n
+  -- The part that has the place after had it before, with the same store, or is of the store of step n.
   abbrev Came : ℕ → List (Line StorePart) → List (Line StorePart) → Type 0
   Came n ls ls' = (t : ℕ) → HasPlace (slice_get ls' m) k t → HasPlace (slice_get ls m) k t ⊎ (t ≡ n)
 
@@ -182,7 +182,7 @@ module _ (m k : ℕ) where
         let e : n + suc d ≡ suc (n + d) = omega arith in
         back n d t (one_before (n + d) t (subst (λ i. At i t) e h) (omega (arith, lt))) lt
 
-    -- a part has its place in each state after its store
+    -- A part has its place in each state after its store.
     pub at_time : (n t : ℕ) → At n t → (i : ℕ) → t < i → At i t
     at_time n t h i lt = go (order n i)
       where
@@ -194,7 +194,7 @@ module _ (m k : ℕ) where
         go (inr le) =
             let e : n ≡ i + (n - i) = omega (arith, le) in back i (n - i) t (subst (λ j. At j t) e h) lt
 
-    -- the store of a part is an earlier step
+    -- The store of a part is an earlier step.
     pub made_before : (n t : ℕ) → At n t → t < n
     made_before n t h = go (slice_get (run P I n).lines m) refl h
       where
@@ -209,7 +209,7 @@ module _ (m k : ℕ) where
         let same : a.part ≡ b.part = (let e : Some a.part ≡ Some b.part = sym a.there ∙ b.there in cc) in
         sym a.step_is ∙ ap (λ (x : StorePart). x.step) same ∙ b.step_is
 
-    -- in all states, the place has a part of the same store
+    -- In all states, the place has a part of the same store.
     pub one_store : (n t i u : ℕ) → At n t → At i u → t ≡ u
     one_store n t i u a b = go (order i t)
       where

@@ -30,21 +30,21 @@ use Rattle.hip_survival.specs.Laws.DurableParts.{last_value}
 use Rattle.hip_survival.specs.Laws.WholeImage.{durable_alone, durable_picked, image_byte}
 use Rattle.hip_survival.specs.Laws.WorkingBytes.{has_all_parts}
 
--- a report is made from loose parts, and is of the store of one of them
+-- A report is made from loose parts, and is of the store of one of them.
 pub of_loose_part : (standing : List Level) (check : ℕ) (r : Report) (ps : List LoosePart)
     → In r (report_of standing check ps) → (p : LoosePart) × In p ps × (r.entry ≡ p.part.entry)
 of_loose_part standing check r [] i = absurd i
 of_loose_part standing check r (p ∷ ps) (inl e) = (p, inl refl, ap (λ (x : Report). x.entry) e)
 of_loose_part standing check r (p ∷ ps) (inr i) = absurd i
 
--- a report with the entry of a part is of the part's store
+-- A report with the entry of a part is of the part's store.
 of_step : (P : Program) (I : Input) (n : ℕ) (x : StorePart) (r : Report) → PartOf (run P I n).lines x
     → r.entry ≡ x.entry → IsOfStep P I x.step r
 of_step P I n x r there e =
     let o = part-of_store P I n x there in
     record { store = ap (λ (v : Event). stores v) o.stored; entry = e ∙ o.entry }
 
--- a report of a check is of the store of a part that is loose in the range
+-- A report of a check is of the store of a part that is loose in the range.
 pub record IsOfLoosePart (P : Program) (I : Input) (n : ℕ) (range : Range) (r : Report) : Type 0 where
   pub part : LoosePart
   pub loose : IsLoosePart range.offset range.size part.part.step (run P I n).lines part
@@ -69,7 +69,7 @@ pub report_step : (P : Program) (I : Input) (n : ℕ) (range : Range) (r : Repor
     → In r (check_reports (run P I n) (Some range)) → (step : ℕ) × IsOfStep P I step r
 report_step P I n range r i = let of = reported_part P I n range r i in (of.part.part.step, of.store)
 
--- and each part that is loose in the range has a report of its store
+-- And each part that is loose in the range has a report of its store.
 pub part_reported : (P : Program) (I : Input) (n : ℕ) (range : Range) (p : LoosePart)
     → IsLoosePart range.offset range.size p.part.step (run P I n).lines p
     → (r : Report) × In r (check_reports (run P I n) (Some range)) × IsOfStep P I p.part.step r
@@ -99,7 +99,7 @@ part_reported P I n range p is =
         )
 
 module _ (P : Program) (I : Input) (n : ℕ) where
-  -- the pick of the parts before a place in one line, and of the durable parts alone in each other line
+  -- The pick of the parts before a place in one line, and of the durable parts alone in each other line.
   abbrev pick_before : ℕ → ℕ → ℕ → ℕ
   pick_before line place j = cond (nat_eq j line) place (durable_alone (run P I n) j)
 

@@ -12,7 +12,7 @@ use Rattle.hip_runs.specs.declared.input.Input.{Input}
 use Rattle.hip_survival.specs.Survival.{IsLooseAt}
 
 module _ (P : Program) (I : Input) (n : ℕ) where
-  -- the part of a loose byte is a loose part of each range that has the byte
+  -- The part of a loose byte is a loose part of each range that has the byte.
   pub part_of_loose : (b o size : ℕ) → o ≤ b → b < o + size → (h : IsLooseAt (run P I n) b)
       → IsLoosePart o size h.2.1.step (run P I n).lines (record { part = h.2.1; flushed = nat_lt h.2.0 h.0.flushed })
   part_of_loose b o size low high h = record {
@@ -28,7 +28,7 @@ module _ (P : Program) (I : Input) (n : ℕ) where
     flushed = refl;
   }
 
-  -- and a byte by which a part is loose is loose
+  -- And a byte by which a part is loose is loose.
   pub loose_of_part : (o size made : ℕ) (p : LoosePart) (r : IsLoosePart o size made (run P I n).lines p)
       → IsLooseAt (run P I n) r.byte
   loose_of_part o size made p r =

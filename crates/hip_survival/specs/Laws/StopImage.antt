@@ -21,7 +21,7 @@ use Rattle.hip_survival.specs.Laws.CheckedBytes.{checked_survives}
 use Rattle.hip_survival.specs.Laws.WholeImage.{index-bytes_at, length-bytes_at, same_lists, whole_image}
 
 module _ (P : Program) (s : IsSound P) (I : Input) (v : IsValid P I) (n : ℕ) where
-  -- the whole region, as a stop checks it
+  -- The whole region, as a stop checks it.
   abbrev whole : Range
   whole = record { offset = 0; size = length I.image }
 

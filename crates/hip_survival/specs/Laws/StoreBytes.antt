@@ -16,7 +16,7 @@ use Rattle.hip_runs.specs.StoredParts.Persistence.{part_of_store, noted_flush, n
 use Rattle.hip_runs.specs.declared.input.Input.{Input}
 use Rattle.hip_survival.specs.Laws.CutParts.{byte_after-append}
 
--- byte b of the region after all parts of its line
+-- Byte b of the region after all parts of its line.
 abbrev pub line_byte : Input → List (Line StorePart) → ℕ → ℕ
 line_byte I ls b = byte_after covers byte_of (parts_of covers byte_of (slice_get ls (b / 64))) b (slice_index I.image b)
 
@@ -70,7 +70,7 @@ true_or_not : (c : Bool) → (c ≡ true) ⊎ (c ≡ false)
 true_or_not true = inl refl
 true_or_not false = inr refl
 
--- a byte that the part covers is one of the store
+-- A byte that the part covers is one of the store.
 held-stored : (o : ℕ) (bytes : List ℕ) (j b : ℕ)
     → nat_le (start_in j o) b && nat_lt b (start_in j o + length (Held o bytes j)) ≡ true
     → (o ≤ b) × (b < o + length bytes)
@@ -89,7 +89,7 @@ module _ (I : Input) (counts : Counts) (site : Site) (levels : List Level) (a : 
   abbrev part : StorePart
   part = part_of_store counts site levels (a - I.base) bytes (b / 64)
 
-  -- the byte of the part in its line is the byte of the write
+  -- The byte of the part in its line is the byte of the write.
   part_written : (old : ℕ)
       → cond (covers part b) (byte_of part b) old
         ≡ byte_written (record { addr = a; bytes = bytes }) (I.base + b) old
@@ -124,7 +124,7 @@ module _ (I : Input) (counts : Counts) (site : Site) (levels : List Level) (a : 
           none (inl e) = absurd (apart x.1 (held-stored (a - I.base) bytes (b / 64) b e))
           none (inr e) = e
 
-  -- a line that the store does not reach has no byte of the store
+  -- A line that the store does not reach has no byte of the store.
   not_reached : has_bytes (b / 64) (a - I.base) (length bytes) ≡ false → (old : ℕ)
       → old ≡ byte_written (record { addr = a; bytes = bytes }) (I.base + b) old
   not_reached f old = go (covered_or_not (record { addr = a; bytes = bytes }) (I.base + b))

@@ -23,7 +23,7 @@ tight_survives P s I v n b lt tight content image =
     ∙ ap (λ o. byte_after covers byte_of (parts_of covers byte_of o) b (slice_index I.image b)) (sym l.1)
     ∙ sym (has_all_parts P s I v n b lt)
 
--- a byte that survives has its durable value already, so a byte with another durable value may be lost
+-- A byte that survives has its durable value already, so a byte with another durable value may be lost.
 pub surviving_durable : (P : Program) (I : Input) → IsValid P I → (n b : ℕ) → b < length I.image
     → Survives P I (run P I n) b → durable_byte I (run P I n) b ≡ working_byte P I (run P I n) b
 surviving_durable P I v n b lt h =

@@ -83,12 +83,12 @@ whole_image P s I v n = record {
 
 -- ---- durable parts alone
 
--- how many parts of a line are durable, if it is there
+-- How many parts of a line are durable, if it is there.
 abbrev pub durable_count : Option (Line StorePart) → ℕ
 durable_count None = 0
 durable_count (Some l) = l.durable
 
--- the pick that has the durable parts alone
+-- The pick that has the durable parts alone.
 abbrev pub durable_alone : State → ℕ → ℕ
 durable_alone s j = durable_count (slice_get s.lines j)
 

@@ -32,11 +32,11 @@ use Rattle.hip_survival.specs.Survival.{HasAllParts}
 use Rattle.hip_survival.specs.Laws.Bounded.{touches, Bounded, deed_bounded}
 use Rattle.hip_survival.specs.Laws.StoreBytes.{line_byte, line_byte-flushed, line_byte-fenced, line_byte-stored}
 
--- byte b of the region after writes
+-- Byte b of the region after writes.
 abbrev region_byte : Input → List Write → ℕ → ℕ
 region_byte I ws b = byte_from ws (I.base + b) (slice_index I.image b)
 
--- each byte of the region is the same after the writes as after the parts of the lines
+-- Each byte of the region is the same after the writes as after the parts of the lines.
 record Agrees (I : Input) (ws : List Write) (ls : List (Line StorePart)) : Type 0 where
   is : (b : ℕ) → b < length I.image → region_byte I ws b ≡ line_byte I ls b
 
@@ -50,7 +50,7 @@ line_there (x ∷ ls) zero h = (x, refl)
 line_there (x ∷ ls) (suc j) h = line_there ls j (omega arith)
 
 module _ (P : Program) (I : Input) (low : volatile_end P ≤ I.base) (above : stack_end ≤ I.base) where
-  -- a write that does not touch the region keeps this
+  -- A write that does not touch the region keeps this.
   beside : (ws : List Write) (ls : List (Line StorePart)) (w : Write)
       → ((b : ℕ) → (I.base + b < w.addr) ⊎ (w.addr + length w.bytes ≤ I.base + b)) → Agrees I ws ls
       → Agrees I (ws ++ w ∷ []) ls
@@ -59,7 +59,7 @@ module _ (P : Program) (I : Input) (low : volatile_end P ≤ I.base) (above : st
         ∙ not_written w (I.base + b) (region_byte I ws b) (out b) ∙ h.is b lt;
   }
 
-  -- bytes in an area before the region end before the region
+  -- Bytes in an area before the region end before the region.
   before_region : (mark a n : ℕ) → mark ≤ stack_end
       → is_within volatile_start (volatile_end P) a n || (is_within stack_start mark a n || in_region I a n) ≡ true
       → in_region I a n ≡ false → a + n ≤ I.base
@@ -101,7 +101,7 @@ module _ (P : Program) (I : Input) (low : volatile_end P ≤ I.base) (above : st
           let end = before_region mark a (length bytes) m t e in
           beside ws ls (record { addr = a; bytes = bytes }) (λ b. inr (omega (arith, end))) h
 
-  -- a new block writes only zeros on the stack, if it writes at all
+  -- A new block writes only zeros on the stack, if it writes at all.
   block_beside : (mark a n len b : ℕ) → a + n ≤ stack_end → len ≡ (a + n) - mark
       → (I.base + b < mark) ⊎ (mark + len ≤ I.base + b)
   block_beside mark a n len b h e = go (split mark (a + n))
@@ -213,7 +213,7 @@ module _ (P : Program) (I : Input) (low : volatile_end P ≤ I.base) (above : st
   run_agrees v (suc n) =
       step_agrees (run P I n) (stack_is_shaped P I n).is.within (same_size P I n v) (run_agrees v n)
 
--- so it is in working memory
+-- So it is in working memory.
 pub has_all_parts : (P : Program) → IsSound P → (I : Input) → IsValid P I → (n b : ℕ) → b < length I.image
     → HasAllParts P I (run P I n) b
 has_all_parts P s I v n b lt =

@@ -23,7 +23,7 @@ module _ (p : ℕ → Bool) where
       let len : prefix_len (λ y. not (p y)) (x ∷ xs) ≡ suc k = rw e one in
       rw (e, one, ih (omega arith)) refl
 
-  -- the first part ends before the first element that passes
+  -- The first part ends before the first element that passes.
   first_part_is : (xs : List ℕ) → before xs < length xs → Splits xs
   unfolding before Splits
   first_part_is [] lt = absurd (omega arith)
@@ -42,7 +42,7 @@ module _ (p : ℕ → Bool) where
       let len : prefix_len (λ y. not (p y)) (x ∷ xs) ≡ suc k = rw e one in
       rw (e, ih (omega arith)) refl
 
-  -- the whole is one part if no element passes
+  -- The whole is one part if no element passes.
   only_part_is : (xs : List ℕ) → length xs ≤ before xs → slice_split p xs ≡ xs ∷ []
   unfolding before
   only_part_is [] le = refl
@@ -58,7 +58,7 @@ pub only_part : (p : ℕ → Bool) (xs : List ℕ) (n : ℕ) → n ≡ prefix_le
 unfolding before
 only_part p xs n e le = only_part_is p xs (rw (← e) le)
 
--- a text has a field
+-- A text has a field.
 pub some_field : (p : ℕ → Bool) (xs : List ℕ) → (a : List ℕ) × (as' : List (List ℕ))
     × (slice_split p xs ≡ a ∷ as')
 some_field p [] = ([], [], refl)

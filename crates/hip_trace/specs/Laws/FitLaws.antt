@@ -24,7 +24,7 @@ use Rattle.hip_trace.specs.Laws.TextLaws.{is_semicolon, IsPlain, ArePlain, total
 
 -- ---- fields
 
--- the canonical text of a value reads as the value, and is short
+-- The canonical text of a value reads as the value, and is short.
 record FieldOf (A : Type 0) (read : List ℕ → Option A) (text : List ℕ) (v : A) (most : ℕ) : Type 0 where
   reads : read text ≡ Some v
   plain : IsPlain text

@@ -32,15 +32,15 @@ use Rattle.hip_trace.specs.Laws.FieldLaws.{some_field}
 
 -- ---- fields and lengths
 
--- the byte that separates the fields of an entry's text
+-- The byte that separates the fields of an entry's text.
 abbrev pub is_semicolon : ℕ → Bool
 is_semicolon b = b == byte ";"
 
--- a text without a semicolon, which is one field; the empty one too
+-- A text without a semicolon, which is one field; the empty one too.
 abbrev pub IsPlain : List ℕ → Type 0
 IsPlain f = list_any is_semicolon f ≡ false
 
--- none of these fields has a semicolon
+-- None of these fields has a semicolon.
 abbrev pub ArePlain : List (List ℕ) → Type 0
 ArePlain [] = Unit {0}
 ArePlain (f ∷ fs) = IsPlain f × ArePlain fs
@@ -80,7 +80,7 @@ fields_with w [] h = sym (append-nil (fields w))
 fields_with w (f ∷ fs) h = fields_with (w ++ byte ";" ∷ f) fs h.1
     ∙ ap (λ (ps : List (List ℕ)). ps ++ fs) (fields_push w f h.0) ∙ append_assoc (fields w) (f ∷ []) fs
 
--- the length of fields, with a semicolon each
+-- The length of fields, with a semicolon each.
 abbrev pub total : List (List ℕ) → ℕ
 total [] = 0
 total (f ∷ fs) = length f + 1 + total fs
@@ -105,7 +105,7 @@ length-fields (x ∷ xs) = go (is_semicolon x) (length-fields xs)
 
 -- ---- numbers
 
--- the canonical text reads as the same value as the text, and is no longer
+-- The canonical text reads as the same value as the text, and is no longer.
 pub record Again (A : Type 0) (read : List ℕ → Option A) (text canonical : List ℕ) (v : A) : Type 0 where
   pub again : read canonical ≡ Some v
   pub short : length canonical ≤ length text
@@ -159,7 +159,7 @@ digits_plain base (d ∷ ds) high h = rw (other (is_semicolon d) refl) (digits_p
         let great : digit_value d ≡ 36 = ap digit_value same in
         absurd (omega (arith, great, h.0, high))
 
--- the number that is read is the value of one or more digits
+-- The number that is read is the value of one or more digits.
 number_in : (base : ℕ) (text : List ℕ) (n : ℕ) → number_of base text ≡ Some n → IsNumber base text
     × (digits_value base text ≡ n)
 number_in base text n e = go (is_number base text) refl e
@@ -370,7 +370,7 @@ three_length (x ∷ y ∷ z ∷ []) f e = let k : (x, y, z) ≡ f = cc in
     + length g.2 + 3) k (omega arith)
 three_length (x ∷ y ∷ z ∷ w ∷ ws) f e = absurd (let v : ⊥ = cc in v)
 
--- two numbers in their canonical text are read again, no longer than what spelled them, and without a semicolon
+-- Two numbers in their canonical text are read again, no longer than what spelled them, and without a semicolon.
 record NumbersAgain (fs : List (List ℕ)) (n : ℕ × ℕ) : Type 0 where
   again : two_numbers (hexadecimal n.0 ∷ hexadecimal n.1 ∷ []) ≡ Some n
   short : length (hexadecimal n.0) + length (hexadecimal n.1) + 2 ≤ total fs
@@ -394,7 +394,7 @@ numbers_again fs n e =
       plain = (first.plain, (second.plain, tt));
     })
 
--- an entry of a word and its fields, read again from its canonical fields
+-- An entry of a word and its fields, read again from its canonical fields.
 record EntryAgain (word : List ℕ) (fs : List (List ℕ)) (e : Entry) : Type 0 where
   named : word_of e ≡ word
   again : entry_by (word_of e ∷ fields_of e) ≡ Some e
@@ -670,7 +670,7 @@ spelled_fields text e k = go (nat_lt 256 (length text)) refl k
     go true t h = absurd (let z : ⊥ = cc in z)
     go false t h = (ltb-false _ _ t, h)
 
--- the canonical text of an entry is read as the entry, and is no longer than the text that spelled it
+-- The canonical text of an entry is read as the entry, and is no longer than the text that spelled it.
 record TextAgain (text : List ℕ) (e : Entry) : Type 0 where
   again : entry_by (fields (text_of e)) ≡ Some e
   short : length (text_of e) ≤ length text

@@ -24,11 +24,11 @@ use Rattle.hip_trace.specs.Laws.PieceLaws.{first_none, spelled_at}
 
 -- ---- texts without separators
 
--- the text has no `|` and no line feed, so it lies in one piece
+-- The text has no `|` and no line feed, so it lies in one piece.
 abbrev IsWhole : List ℕ → Type 0
 IsWhole text = list_any is_separator text ≡ false
 
--- none of these fields has a `|` or a line feed
+-- None of these fields has a `|` or a line feed.
 abbrev AreWhole : List (List ℕ) → Type 0
 AreWhole [] = Unit {0}
 AreWhole (f ∷ fs) = IsWhole f × AreWhole fs

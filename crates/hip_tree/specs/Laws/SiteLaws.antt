@@ -10,7 +10,7 @@ use Rattle.hip_tree.specs.Sites.{has_site, same_site}
 use Rattle.hip_tree.specs.contracts.site.SiteOrd.TheImpl as derived
 use Rattle.hip_tree.specs.declared.site.Site.{Site}
 
--- the order of sites, which `cmp` and `<` compute: by function, then by block, then by index
+-- The order of sites, which `cmp` and `<` compute: by function, then by block, then by index.
 abbrev pub site_cmp : Site → Site → Ordering
 site_cmp a b = derived.cmp-value.it a b
 
@@ -55,12 +55,12 @@ same_site-sym a b =
 pub cmp-is_eq : (a b : Site) → is_eq (site_cmp a b) ≡ same_site a b
 cmp-is_eq a b = simp (then-is_eq, number-is_eq) refl
 
--- an ordered set whose keys are these sites has a site exactly if the list has it
+-- An ordered set whose keys are these sites has a site exactly if the list has it.
 pub keys_have : (sites : List Site) (s : Site) → list_any (is_at (site_cmp s)) sites ≡ has_site sites s
 keys_have [] s = refl
 keys_have (x ∷ xs) s = ap₂ (λ b c. b || c) (cmp-is_eq s x) (keys_have xs s)
 
--- what an ordered set has after one more site
+-- What an ordered set has after one more site.
 pub key_put : (old new : List Site) (site s : Site)
     → list_any (is_at (site_cmp s)) new
     ≡ cond (is_at (site_cmp site) s) true (list_any (is_at (site_cmp s)) old)

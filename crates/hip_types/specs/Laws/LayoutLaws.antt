@@ -18,7 +18,7 @@ use Rattle.hip_types.specs.declared.limits.TheConstants.{LARGEST_TYPE}
 
 -- ---- alignments
 
--- n is 1, 2, 4 or 8
+-- n is 1, 2, 4 or 8.
 pub record IsAlignment (n : ℕ) : Type 0 where
   pub is : (n ≡ 1) ⊎ ((n ≡ 2) ⊎ ((n ≡ 4) ⊎ (n ≡ 8)))
 
@@ -28,7 +28,7 @@ alignment-low n h = grind (arith, h.is)
 pub alignment-high : (n : ℕ) → IsAlignment n → n ≤ 8
 alignment-high n h = grind (arith, h.is)
 
--- the next multiple of an alignment is a multiple, and the first one
+-- The next multiple of an alignment is a multiple, and the first one.
 pub next-multiple : (x a : ℕ) → IsAlignment a → next_multiple_of x a % a ≡ 0
 next-multiple x a h = grind (arith, h.is)
 
@@ -41,7 +41,7 @@ next-lt x a h = grind (arith, h.is)
 pub next-least : (x a y : ℕ) → IsAlignment a → x ≤ y → y % a ≡ 0 → next_multiple_of x a ≤ y
 next-least x a y h le multiple = grind (arith, h.is)
 
--- the greater of two alignments is an alignment, and a multiple of both
+-- The greater of two alignments is an alignment, and a multiple of both.
 greater : (a b : ℕ) → IsAlignment a → IsAlignment b → IsAlignment (max a b)
 greater a b h k = record { is = grind (arith, h.is, k.is) }
 
@@ -51,7 +51,7 @@ greater_left a b h k = grind (arith, h.is, k.is)
 greater_right : (a b : ℕ) → IsAlignment a → IsAlignment b → max a b % b ≡ 0
 greater_right a b h k = grind (arith, h.is, k.is)
 
--- a multiple of a multiple is a multiple
+-- A multiple of a multiple is a multiple.
 pub multiple_of_multiple : (x a b : ℕ) → IsAlignment a → IsAlignment b → a % b ≡ 0 → x % a ≡ 0
     → x % b ≡ 0
 multiple_of_multiple x a b h k m n = grind (arith, h.is, k.is)
@@ -66,17 +66,17 @@ times_multiple n x a h =
 
 -- ---- shapes
 
--- a size is a multiple of its alignment, and the type itself is among the types in it
+-- A size is a multiple of its alignment, and the type itself is among the types in it.
 pub record IsRegular (s : Shape) : Type 0 where
   pub alignment : IsAlignment s.align
   pub whole : s.size % s.align ≡ 0
   pub held : s.size ≤ s.largest
 
--- a type whose shape is regular: what an induction over types gives for each type inside
+-- A type whose shape is regular: what an induction over types gives for each type inside.
 abbrev Regular : Type 0
 Regular = (t : Ty) × IsRegular (shape t)
 
--- the shapes of these types, in their order
+-- The shapes of these types, in their order.
 abbrev shapes_of : List Regular → List Shape
 shapes_of fs = map shape (map (λ f. f.0) fs)
 
@@ -152,7 +152,7 @@ align_of-Array n e = ap (λ (s : Shape). s.align) (shape-Array n e)
 pub align_of-Struct : (fs : List Ty) → align_of (Struct fs) ≡ greatest_align (shapes fs)
 align_of-Struct fs = ap (λ (s : Shape). s.align) (shape-Struct fs)
 
--- the shape of a type by those of the types inside
+-- The shape of a type by those of the types inside.
 pub shape-level : (t : Ty) → shape t ≡ shape_of_level (map-Ty Ty Shape shape (out-Ty t))
 shape-level t = fold_out-Ty Shape shape_of_level t
 
@@ -210,7 +210,7 @@ greatest_align-multiple (t ∷ ts) (suc k) h =
     (align_of-alignment (field_of ts k)) (greatest_align-multiple ts k (omega arith))
     (greater_right _ _ (align_of-alignment t) rest)
 
--- what one further field adds: `t` is field k, and those up to it are the first k + 1
+-- What one further field adds: `t` is field k, and those up to it are the first k + 1.
 pub record IsNextField (ts : List Ty) (k : ℕ) (t : Ty) : Type 0 where
   pub end : end_after 0 (shapes (take (k + 1) ts)) ≡ next_multiple_of (end_after 0 (shapes (take k ts)))
       (align_of t) + size_of t
@@ -269,33 +269,33 @@ module _ (ts : List Ty) (k : ℕ) (t : Ty) (h : k < length ts) (is : t ≡ get_o
             (omega (arith, largest_is, greatest_largest-append (take (k + 1) ts) rest));
       }
 
--- field k by its number
+-- Field k by its number.
 pub field_of-is : (ts : List Ty) (k : ℕ) → k < length ts → field_of ts k ≡ get_or ts k (field_of ts k)
 field_of-is ts k h = get_or_default ts k Ptr (field_of ts k) h
 
--- a field lies at a multiple of its alignment
+-- A field lies at a multiple of its alignment.
 pub offset_in-multiple : (ts : List Ty) (k : ℕ) → offset_in ts k % align_of (field_of ts k) ≡ 0
 offset_in-multiple ts k = next-multiple _ _ (align_of-alignment (field_of ts k))
 
--- its end is the end of the fields up to it
+-- Its end is the end of the fields up to it.
 pub field-end : (ts : List Ty) (k : ℕ) → k < length ts
     → offset_in ts k + size_of (field_of ts k) ≡ end_after 0 (shapes (take (k + 1) ts))
 field-end ts k h = sym (next_field ts k (field_of ts k) h (field_of-is ts k h)).end
 
--- fields lie in their order and do not overlap
+-- Fields lie in their order and do not overlap.
 pub fields-apart : (ts : List Ty) (j k : ℕ) → j < k → k < length ts
     → offset_in ts j + size_of (field_of ts j) ≤ offset_in ts k
 fields-apart ts j k before h =
     omega (arith, field-end ts j (omega arith), end_after-take 0 ts (j + 1) k (omega arith))
 
--- a field ends inside the struct
+-- A field ends inside the struct.
 pub field-inside : (ts : List Ty) (k : ℕ) → k < length ts
     → offset_in ts k + size_of (field_of ts k) ≤ size_of (Struct ts)
 field-inside ts k h =
     let next : IsNextField ts k (field_of ts k) = next_field ts k (field_of ts k) h (field_of-is ts k h) in
     omega (arith, next.end, next.end_le, size_of-Struct ts)
 
--- the struct's alignment is a multiple of the field's
+-- The struct's alignment is a multiple of the field's.
 pub field-align : (ts : List Ty) (k : ℕ) → k < length ts → align_of (Struct ts) % align_of (field_of ts k) ≡ 0
 field-align ts k h =
     subst (λ (a : ℕ). a % align_of (field_of ts k) ≡ 0) (sym (align_of-Struct ts)) (greatest_align-multiple ts k h)
@@ -316,7 +316,7 @@ field-fits fs k h small shallow =
     let next : IsNextField fs k (field_of fs k) = next_field fs k (field_of fs k) h (field_of-is fs k h) in
     record { small = omega (arith, next.largest_le); shallow = omega (arith, next.depth_le) }
 
--- each field of a struct that fits does
+-- Each field of a struct that fits does.
 pub Fits-Struct : (fs : List Ty) (k : ℕ) → k < length fs → Fits (Struct fs) → Fits (field_of fs k)
 Fits-Struct fs k h f =
     let s : shape (Struct fs) ≡ shape_of_level (Ty-F.Struct (shapes fs)) = shape-Struct fs in

@@ -11,17 +11,17 @@ use Rattle.hip_types.specs.Layout.{Shape, shape, shape_of_level, shapes, size_of
 use Rattle.hip_types.specs.Laws.LayoutLaws.{align_of-alignment, multiple_of_multiple, shape-level, sum_of_multiples, times_multiple, size_of-multiple, size_of-le, size_of-Struct, offset_in-multiple, greatest_align-multiple, field-inside, field-fits}
 use Rattle.hip_types.specs.declared.limits.TheConstants.{DEEPEST_NESTING, LARGEST_TYPE}
 
--- an index that enters an array at this level of a type is below its count; no condition at any other level
+-- An index that enters an array at this level of a type is below its count; no condition at any other level.
 abbrev pub level_is_inside : ℕ → Ty-F Ty → Type 0
 level_is_inside i (Ty-F.Array n e) = i < n
 level_is_inside i _ = Unit {0}
 
--- each of the indices that enters an array is below its count
+-- Each of the indices that enters an array is below its count.
 abbrev pub AreInside : List ℕ → Ty → Type 0
 AreInside [] t = Unit {0}
 AreInside (i ∷ is) t = level_is_inside i (out-Ty t) × IfSome (enter t i) (λ p. AreInside is p.ty)
 
--- the part that an index enters, in a type of this shape
+-- The part that an index enters, in a type of this shape.
 record IsEntered (s : Shape) (p : Part) (inside : Type 0) : Type 0 where
   within : inside → p.offset + size_of p.ty ≤ s.size
   aligned : p.offset % align_of p.ty ≡ 0
@@ -72,11 +72,11 @@ entered i t p is =
     subst (λ (s : Shape). IsEntered s p (level_is_inside i (out-Ty t))) (sym (shape-level t))
     (entered_level i (out-Ty t) p is)
 
--- what holds of a part of a type
+-- What holds of a part of a type.
 pub record IsPartOf (t : Ty) (p : Part) (inside : Type 0) : Type 0 where
-  -- it ends within the type if its indices are inside
+  -- It ends within the type if its indices are inside.
   pub within : inside → p.offset + size_of p.ty ≤ size_of t
-  -- it lies at a multiple of its alignment, wherever the whole does
+  -- It lies at a multiple of its alignment, wherever the whole does.
   pub aligned : p.offset % align_of p.ty ≡ 0
   pub align : align_of t % align_of p.ty ≡ 0
   pub fits : Fits t → Fits p.ty
@@ -91,7 +91,7 @@ whole t inside =
           λ f. f;
     }
 
--- a part of a part
+-- A part of a part.
 part_of_part : (t : Ty) (i : ℕ) (p q : Part) (rest : Type 0) → enter t i ≡ Some p → IsPartOf p.ty q rest →
     IsPartOf t (record { offset = p.offset + q.offset; ty = q.ty }) (level_is_inside i (out-Ty t) × rest)
 part_of_part t i p q rest is part =
@@ -108,7 +108,7 @@ part_of_part t i p q rest is part =
       fits = λ f. part.fits (first.fits f.small f.shallow);
     }
 
--- the facts of a part hold of each part to which these indices lead, in any type
+-- The facts of a part hold of each part to which these indices lead, in any type.
 abbrev ArePartsAt : List ℕ → Type 0
 ArePartsAt is = (t : Ty) (p : Part) → part_at is t ≡ Some p → IsPartOf t p (AreInside is t)
 
@@ -128,14 +128,14 @@ module _ (i : ℕ) (is : List ℕ) (t : Ty) (p : Part) (known : ArePartsAt is) w
   one_in None found e = cc
   one_in (Some q) found e = further_in q found (part_at is q.ty) refl e
 
--- the part to which indices lead
+-- The part to which indices lead.
 pub part_at-part : (is : List ℕ) (t : Ty) (p : Part) → part_at is t ≡ Some p → IsPartOf t p (AreInside is t)
 part_at-part [] t p e =
     let e-is : ◌≡◌ {A = Part} (record { offset = 0; ty = t }) p = cc in
     subst (λ (x : Part). IsPartOf t x (Unit {0})) e-is (whole t (Unit {0}))
 part_at-part (i ∷ is) t p e = one_in i is t p (part_at-part is) (enter t i) refl e
 
--- an element of one value of the type: the part at the indices, which lies in the type
+-- An element of one value of the type: the part at the indices, which lies in the type.
 pub record IsElement (t : Ty) (is : List ℕ) (o : ℕ) : Type 0 where
   pub part : Part
   pub is_part : part_at is t ≡ Some part
@@ -152,7 +152,7 @@ element is t o f inside (Some r) there e =
     let at : o ≡ r.offset = omega (arith, size_of-le t f) in
     record { part = r; is_part = there; at = at; within = omega arith }
 
--- if no index is out of range, the offset of an element of the first value lies in the type
+-- If no index is out of range, the offset of an element of the first value lies in the type.
 pub gep_of-element : (is : List ℕ) (t : Ty) (o : ℕ) → Fits t → AreInside is t → gep_of t (0 ∷ is) ≡ Some o
     → IsElement t is o
 gep_of-element is t o f inside e = element is t o f inside (part_at is t) refl e

@@ -28,7 +28,7 @@ use Rattle.hip_invariants.specs.Laws.Places.{block_there}
 
 -- Fact is about a function's register and its value, Returned about a function and what it returns.
 module _ (Fact : ℕ → List ℕ → ℕ → Type 0) (Returned : ℕ → ℕ → Type 0) where
-  -- the fact holds of each value in these registers, the hidden ones too
+  -- The fact holds of each value in these registers, the hidden ones too.
   abbrev pub each_value : ℕ → Registers → Type 0
   each_value g [] = Unit {0}
   each_value g (r ∷ rs) = Fact g r.0 r.1 × each_value g rs
@@ -37,7 +37,7 @@ module _ (Fact : ℕ → List ℕ → ℕ → Type 0) (Returned : ℕ → ℕ �
   pub record ValuesHold (g : ℕ) (rs : Registers) : Type 0 where
     pub all : each_value g rs
 
-  -- the fact holds of the register that takes the value; true if none does
+  -- The fact holds of the register that takes the value; true if none does.
   abbrev pub assigned_fact : ℕ → Option (List ℕ) → ℕ → Type 0
   assigned_fact g None v = Unit {0}
   assigned_fact g (Some name) v = Fact g name v
@@ -47,12 +47,12 @@ module _ (Fact : ℕ → List ℕ → ℕ → Type 0) (Returned : ℕ → ℕ �
   pub record WaitsFor (g : ℕ) (dest : Option (List ℕ)) (h : ℕ) : Type 0 where
     pub for_result : (v : ℕ) → Returned h v → assigned_fact g dest v
 
-  -- a frame after a call of a function, whose result goes into a register
+  -- A frame after a call of a function, whose result goes into a register.
   pub record IsAfterCall (h : ℕ) (dest : Option (List ℕ)) (g : Frame) : Type 0 where
     pub hold : ValuesHold g.function g.registers
     pub waits : WaitsFor g.function dest h
 
-  -- the fact holds of each value of the frame on top
+  -- The fact holds of each value of the frame on top.
   abbrev pub on_top : Frame → Type 0
   on_top f = ValuesHold f.function f.registers
 
@@ -70,7 +70,7 @@ module _ (Fact : ℕ → List ℕ → ℕ → Type 0) (Returned : ℕ → ℕ �
   pub record GivesFacts (g : ℕ) (x : Action) : Type 0 where
     pub is : gives_facts g x
 
-  -- the fact still holds after a register takes a value that has it
+  -- The fact still holds after a register takes a value that has it.
   pub with_value : (g : ℕ) (dest : Option (List ℕ)) (v : ℕ) (rs : Registers) → assigned_fact g dest v
       → ValuesHold g rs
       → ValuesHold g (assigned dest v rs)
@@ -93,7 +93,7 @@ module _ (Fact : ℕ → List ℕ → ℕ → Type 0) (Returned : ℕ → ℕ �
   facts_kept f (Returns v) h p =
       λ g below. with_value g.function f.dest v g.registers (below.waits.for_result v p) below.hold
 
-  -- the value that a register has, or 0 where it has none
+  -- The value that a register has, or 0 where it has none.
   pub fact_of_value : (g : ℕ) (rs : Registers) (name : List ℕ) → ValuesHold g rs → Fact g name 0
       → Fact g name (look_up rs name)
   fact_of_value g [] name h none = none
@@ -105,12 +105,12 @@ module _ (Fact : ℕ → List ℕ → ℕ → Type 0) (Returned : ℕ → ℕ �
       go true e rest = subst (λ n. Fact g n r.1) ((bytes_eq-Decides r.0 name).0 e) h.all.0
       go false e rest = rest
 
-  -- the fact holds of each value in the registers of each frame
+  -- The fact holds of each value in the registers of each frame.
   abbrev pub values_in_frames : List Frame → Type 0
   values_in_frames [] = Unit {0}
   values_in_frames (f ∷ fs) = ValuesHold f.function f.registers × values_in_frames fs
 
-  -- if the fact holds of 0 in each register, it holds of each register of each frame
+  -- If the fact holds of 0 in each register, it holds of each register of each frame.
   pub each_stated : ((g : ℕ) (name : List ℕ) → Fact g name 0) → (fs : List Frame) → values_in_frames fs
       → each_register Fact fs
   each_stated none [] h = tt
@@ -207,6 +207,6 @@ module _ (Fact : ℕ → List ℕ → ℕ → Type 0) (Returned : ℕ → ℕ �
       all_frames [] s = tt
       all_frames (f ∷ fs) s = (s.0, values_below f.function f.dest fs s.1)
 
-      -- so it holds of each register of each frame
+      -- So it holds of each register of each frame.
       pub actions_keep_facts : (n : ℕ) → values_in_frames (run P I n).frames
       actions_keep_facts n = all_frames (run P I n).frames (invariant_holds on_top IsAfterCall P I facts_invariant n)

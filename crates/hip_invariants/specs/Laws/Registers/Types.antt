@@ -91,7 +91,7 @@ found_itself (x ∷ rs) r d (inr h) = go (bytes_eq x.name r.name) refl (found_it
     go false e f = f
 
 module _ (fn : Function) (differ : AllDiffer (names_in_function fn)) where
-  -- the type that a function gives to what an instruction, a phi or a parameter assigns
+  -- The type that a function gives to what an instruction, a phi or a parameter assigns.
   pub assigned_type : (b k : ℕ) (block : Block) (i : Instr) (r : Register) → slice_get fn.blocks b ≡ Some block
       → slice_get block.body k ≡ Some i → In r (assigned_by i)
       → find_register (registers_of fn) r.name ≡ Some r.ty

@@ -16,7 +16,7 @@ use Rattle.hip_levels.proofs.quiet.quiet_stores.Goals as goal
 pub sites_in-requires-clause-fits : goal.sites_in-requires-clause-fits
 sites_in-requires-clause-fits c = functions_fit c.program-program.result.now (subst IsSound (sym c.program-program.ensures.is) c.program-program.ensures.sound)
 
--- the sites that were found are quiet
+-- The sites that were found are quiet.
 listed_quiet : (P : Program) (sites : List Site) → IsSound P → sites ≡ filter (low_stores P) (sites_of P) → IsQuiet P (has_site sites)
 listed_quiet P sites sound e =
     let same : has_site sites ≡ low_stores P = λ i s. (ap (λ (xs : List Site). has_site xs s) e ∙ found_low P s) i in

@@ -21,7 +21,7 @@ use Rattle.hip_many.specs.Union.{IsUnion}
 use Rattle.hip_many.proofs.Unions.{one_put, united, union_contains, union_suits}
 use Rattle.hip_many.proofs.union.plan_many.Goals as goal
 
--- what holds of each answer, by what held of it before
+-- What holds of each answer, by what held of it before.
 if_ok : {T E : Type 0} (A B : T → Type 0) → ((x : T) → A x → B x) → (r : Result T E) → IfOk r A → IfOk r B
 if_ok A B f (Ok x) a = f x a
 if_ok A B f (Err e) a = a

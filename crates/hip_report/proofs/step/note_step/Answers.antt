@@ -21,7 +21,7 @@ use Rattle.hip_notes.proofs.noting.Still.{still_noted}
 use Rattle.hip_notes.proofs.Rooms.{Lies, event_lies}
 use Rattle.hip_report.proofs.step.note_step.Goals as goal
 
--- a step that has nothing to note
+-- A step that has nothing to note.
 pub returns-then-has_nothing_to_note-clause-noted : goal.returns-then-has_nothing_to_note-clause-noted
 returns-then-has_nothing_to_note-clause-noted c =
     let t = taken_by c.args.machine.now c.args.seen c.args.notes.now c.args.sight.now c.requires c.if-sight.false in

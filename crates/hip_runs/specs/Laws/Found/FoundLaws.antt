@@ -62,7 +62,7 @@ same_mark-equivalence = record {
   congr = λ a b c e. ap (λ m. same_mark m c) (same_mark_equal a b e);
 }
 
--- items that are met list by list are met as one list
+-- Items that are met list by list are met as one list.
 pub met-append : {A : Type 0} (same : A → A → Bool) (xs ys zs : List A)
     → met same xs (ys ++ zs) ≡ met same (met same xs ys) zs
 met-append same xs [] zs = refl
@@ -83,11 +83,11 @@ hit-distinct P I (suc n) =
 -- ---- worths by one pass over the marks
 
 module _ (hit : List ℕ) (site : Site) (operand : ℕ) where
-  -- the sum after a mark: its worth is added if it is of the site and the operand
+  -- The sum after a mark: its worth is added if it is of the site and the operand.
   abbrev more : ℤ → Mark → ℤ
   more sum m = cond (same_site m.site site && nat_eq m.operand operand) (sum +ℤ worth_of (is_marked hit m.object)) sum
 
-  -- two tests for the same operand agree
+  -- Two tests for the same operand agree.
   same_test : (w : Worth) (m : Mark) → is_worth_of w m.site m.operand ≡ true
       → is_worth_of w site operand ≡ same_site m.site site && nat_eq m.operand operand
   same_test w m e =
@@ -154,7 +154,7 @@ module _ (hit : List ℕ) (site : Site) (operand : ℕ) where
   worths-in ws (m ∷ ms) =
       worths-in (with_mark hit ws m) ms ∙ ap (λ sum. worth_in hit site operand ms sum) (worth-with_mark ws m)
 
--- the table gives each operand its worth
+-- The table gives each operand its worth.
 pub worths-are : (marks : Marks) (site : Site) (operand : ℕ)
     → worth_at (worths marks) site operand ≡ worth marks site operand
 worths-are marks site operand = worths-in marks.hit site operand [] marks.pointed
@@ -202,7 +202,7 @@ same_hit P I n e = ap (λ ys. met nat_eq (hit P I n) ys) (no_hits P I (run P I n
 made_of : List Report → List Mark → List ℕ → Findings
 made_of rs ms hs = record { reports = rs; marks = record { pointed = ms; hit = hs } }
 
--- a run that has ended finds no more
+-- A run that has ended finds no more.
 found_next : (P : Program) (I : Input) (n : ℕ) → has_ended (run P I n) ≡ true
     → findings P I (suc n) ≡ findings P I n
 unfolding made_of
@@ -211,7 +211,7 @@ found_next P I n e =
     ∙ ap (λ ms. made_of (reports P I n) ms (hit P I (suc n))) (same_pointed P I n e)
     ∙ ap (λ hs. made_of (reports P I n) (pointed P I n) hs) (same_hit P I n e)
 
--- after n steps the run has ended, and has found what it had found after m steps
+-- After n steps the run has ended, and has found what it had found after m steps.
 record StaysFound (P : Program) (I : Input) (m n : ℕ) : Type 0 where
   ended : has_ended (run P I n) ≡ true
   same : findings P I n ≡ findings P I m

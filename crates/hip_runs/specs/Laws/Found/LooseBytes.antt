@@ -20,7 +20,7 @@ use Rattle.hip_runs.specs.Laws.Members.{at_none, equal_true, in_at, le_true, lt_
 use Rattle.hip_types.specs.Laws.DistinctLaws.{or_second}
 use Rattle.hip_lines.specs.Parts as bytes
 
--- every byte that a part covers lies in the part's line
+-- Every byte that a part covers lies in the part's line.
 abbrev pub AreInLines : List (Line StorePart) → Type 0
 AreInLines ls =
     (m : ℕ) (l : Line StorePart) (k : ℕ) (x : StorePart) → slice_get ls m ≡ Some l
@@ -29,7 +29,7 @@ AreInLines ls =
 
 -- ---- a byte that a part shows
 
--- byte c is one of `count` bytes from b, and in the range of n bytes from o, and no later part covers it
+-- Byte c is one of `count` bytes from b, and in the range of n bytes from o, and no later part covers it.
 record IsShown (o n count b : ℕ) (later : List StorePart) (c : ℕ) : Type 0 where
   from : b ≤ c
   to : c < b + count
@@ -226,7 +226,7 @@ bytes_in ws o (suc n) x b le lt e = go (λ low. bytes_in ws (suc o) n x b low (o
 
 -- ---- the loose byte of a line
 
--- byte b is loose by the part p at place k, and x is that loose byte
+-- Byte b is loose by the part p at place k, and x is that loose byte.
 record IsStated (l : Line StorePart) (b : ℕ) (x : LooseByte) (k : ℕ) (p : StorePart) : Type 0 where
   by : IsLooseBy covers l b k p
   is : x ≡ record { offset = b; tag = p.step; flushed = nat_lt k l.flushed }
@@ -430,7 +430,7 @@ part_at [] m l x e i = absurd (let z : ⊥ = cc in z)
 part_at (y ∷ ls) zero l x e i = inl (let z : l ≡ y = cc in subst (λ (w : Line StorePart). In x w.parts) z i)
 part_at (y ∷ ls) (suc m) l x e i = inr (part_at ls m l x e i)
 
--- the lines have each loose part
+-- The lines have each loose part.
 pub loose_there : (o n made : ℕ) (ls : List (Line StorePart)) (p : LoosePart) → IsLoosePart o n made ls p
     → PartOf ls p.part
 loose_there o n made ls p r =

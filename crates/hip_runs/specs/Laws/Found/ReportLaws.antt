@@ -29,7 +29,7 @@ closed_few standing (l ∷ ls) = go (is_open standing l) (closed_few standing ls
     go true h = omega (arith, h)
     go false h = omega (arith, h)
 
--- the later of two flushes is one of them
+-- The later of two flushes is one of them.
 later_one : (a b : Option Flush) (f : Flush) → later_flush a b ≡ Some f → (a ≡ Some f) ⊎ (b ≡ Some f)
 later_one None b f e = inr e
 later_one (Some a) None f e = inl e
@@ -58,7 +58,7 @@ latest_there f (Some g) = go (nat_lt f.step g.step)
     go true = refl
     go false = refl
 
--- what holds of the loose parts of a store
+-- What holds of the loose parts of a store.
 record AreKnown (P : Program) (s : State) (ps : List LoosePart) : Type 0 where
   there : (p : LoosePart) → In p ps → PartOf s.lines p.part
   flushed : (p : LoosePart) → In p ps → p.flushed ≡ true → (f : Flush) × (p.part.first_flush ≡ Some f)

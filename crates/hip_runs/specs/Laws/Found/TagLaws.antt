@@ -109,7 +109,7 @@ loose_stated P I n o len made =
     let h = are_alike (run P I n).lines (in_lines P I n) o len made in
     record { alike = h; some = some_stated _ _ made h; flushed = flushed_stated _ _ made h }
 
--- each tag of a loose byte is that of a step that was taken
+-- Each tag of a loose byte is that of a step that was taken.
 pub tag_made : (P : Program) (I : Input) (n o len : ℕ) (b : LooseByte) → In b (loose_bytes (run P I n) o len)
     → b.tag < (run P I n).counts.steps
 tag_made P I n o len b i =
@@ -119,7 +119,7 @@ tag_made P I n o len b i =
     subst (λ m. m < (run P I n).counts.steps) k.step
     ((has_history P I n).made r.0.part (loose_there o len b.tag (run P I n).lines r.0 k))
 
--- a store has no loose part if no loose byte has its tag
+-- A store has no loose part if no loose byte has its tag.
 none_loose : (P : Program) (I : Input) (n o len made : ℕ)
     → ((b : LooseByte) → In b (loose_bytes (run P I n) o len) → b.tag ≡ made → ⊥)
     → loose_parts o len (run P I n).lines made ≡ []

@@ -41,11 +41,11 @@ third_true true y z e = refl
 third_true false true z e = refl
 third_true false false z e = e
 
--- the n bytes from address a on lie in the area of the volatile globals
+-- The n bytes from address a on lie in the area of the volatile globals.
 abbrev in_volatile : Program → ℕ → ℕ → Bool
 in_volatile P a n = is_within volatile_start (volatile_end P) a n
 
--- the n bytes from address a on lie in the stack below the mark
+-- The n bytes from address a on lie in the stack below the mark.
 abbrev in_stack : World → ℕ → ℕ → Bool
 in_stack w a n = is_within stack_start w.mark a n
 
@@ -96,13 +96,13 @@ pub valid_is : (P : Program) (I : Input) (w : World) (r : Areas) (a n : ℕ) →
 valid_is P I w r a zero some v h = absurd (omega (arith, some))
 valid_is P I w r a (suc n) some v h = valid_same P I w r a n v h
 
--- the action after the memory's answer: the trap, or the action
+-- The action after the memory's answer: the trap, or the action.
 abbrev pub unless_trap : Option MemTrap → Action → Action
 unless_trap None go = go
 unless_trap (Some mem_traps.Misaligned) go = Traps traps.Misaligned
 unless_trap (Some mem_traps.BadAddress) go = Traps traps.Address
 
--- an access traps in the memory of the code exactly if it does in the run
+-- An access traps in the memory of the code exactly if it does in the run.
 pub accessed_is : (P : Program) (I : Input) (w : World) (r : Areas) (a n align : ℕ) (go : Action) → 0 < n
     → volatile_start + length (volatile_bytes P I.base) ≡ volatile_end P → HoldsMemory P I r w.writes w.mark →
     accessed P I w a n align go ≡ unless_trap (access_trap r a n align) go

@@ -6,7 +6,7 @@ use Rattle.hip_trace.specs.declared.line.TheConstants.{DIGITS}
 use Rattle.hip_trace.proofs.Tables.{holds_below, holds_at}
 use Rattle.hip_trace.proofs.line.digit_of.Goals as goal
 
--- what the table has for a byte is its digit, or is no digit
+-- What the table has for a byte is its digit, or is no digit.
 is_right : List ℕ → ℕ → Bool
 is_right table k = not (nat_lt (slice_index_or table k 0) 16) || nat_eq (slice_index_or table k 0) (digit_value k)
 

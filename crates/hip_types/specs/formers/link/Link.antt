@@ -22,26 +22,26 @@ use Rattle.hip_types.specs.declared.link.Link.TheView.{view, invariant}
 use Rattle.hip_types.specs.contracts.link.Link as link
 use Rattle.hip_types.specs.contracts.link.Link.TheInside as inside
 
--- a link is its value
+-- A link is its value.
 abbrev pub the_former : Former {0} → Former {0}
 the_former value = value
 
--- the measure of a link is that of its value
+-- The measure of a link is that of its value.
 abbrev pub the_weighed : {value : Former {0}} → Weighed value → Weighed (the_former value)
 the_weighed weight = weight
 
--- its one field is a box: where the value lies, the allocator, and the value
+-- Its one field is a box: where the value lies, the allocator, and the value.
 abbrev stored : Former {0}
 stored = via (pair (const (Ptr × Global)) this) Inside
     (λ Value at. ((at.inner.ptr, at.inner.alloc), at.inner.value))
     (λ Value parts. record { inner = record { ptr = parts.0.0; alloc = parts.0.1; value = parts.1 } })
     (λ Value at. refl) (λ Value parts. refl)
 
--- a box of the same pointer and allocator that holds another value
+-- A box of the same pointer and allocator that holds another value.
 abbrev holding : {X Y : Type 0} → Box X Global → Y → Box Y Global
 holding place value = record { ptr = place.ptr; alloc = place.alloc; value = value }
 
--- the type of a box of such a value, with the global allocator
+-- The type of a box of such a value, with the global allocator.
 abbrev box_type : RattleType → RattleType
 box_type Value = boxed.the_row Value global.the_row ghosts
 

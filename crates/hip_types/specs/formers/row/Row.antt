@@ -19,18 +19,18 @@ use Rattle.hip_types.specs.declared.row.Row.TheView.{view, invariant}
 use Rattle.hip_types.specs.contracts.row.Row as row
 use Rattle.hip_types.specs.contracts.row.Row.TheInside as inside
 
--- a row is the list of its items
+-- A row is the list of its items.
 abbrev pub the_former : Former {0} → Former {0}
 the_former item = list item
 
--- the measure of a row is the greatest of its items' measures; 0 if there is no item
+-- The measure of a row is the greatest of its items' measures; 0 if there is no item.
 abbrev pub the_weighed : {item : Former {0}} → Weighed item → Weighed (the_former item)
 the_weighed weight = w_list weight
 
 pub the_empty : List ⊥
 the_empty = []
 
--- the items of a row, in their order: a row is their list already
+-- The items of a row, in their order: a row is their list already.
 abbrev pub the_items : (Item : Type 0) → List Item → List Item
 the_items Item items = items
 
@@ -38,7 +38,7 @@ pub the_items_listed : (Item : Type 0) (items : List Item)
     → listed _ (children (the_former this) Item items) ≡ the_items Item items
 the_items_listed Item items = list-listed Item items
 
--- its one field is a vector of the items
+-- Its one field is a vector of the items.
 abbrev stored : Former {0}
 stored =
     via (vector.the_former this Global) Inside (λ Item inner. inner.items) (λ Item items. record { items = items })

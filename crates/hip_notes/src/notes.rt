@@ -1,13 +1,15 @@
-ghost use Rattle.std.specs.Prelude.{◌≡◌, ℕ, ◌+◌, ◌-◌, ◌<◌, ◌^◌, [], Some, None, cond, true, length, nat_le, IfOk, OnOk};
+ghost use Rattle.std.specs.Prelude.{◌≡◌, ◌+◌, ◌-◌, ◌<◌, ◌≤◌, ◌^◌, Some, None, cond, true, length, nat_le, IfOk, OnOk};
 ghost use Rattle.hip_types.specs.Distinct.{met};
+ghost use Rattle.hip_tree.specs.declared.program.Program.{Program};
+ghost use Rattle.hip_runs.specs.declared.input.Input.{Input};
 ghost use Rattle.hip_runs.specs.Found.Marks.{same_mark, unless_ended};
 ghost use Rattle.hip_runs.specs.Found.Reports.{checked_range};
 ghost use Rattle.hip_runs.specs.StoredParts.Since.{fences};
 ghost use Rattle.hip_runs.specs.Step.{has_entry};
-ghost use Rattle.hip_notes.specs.MetMarks.{AreMet, WereHit};
+ghost use Rattle.hip_notes.specs.MetMarks.{AreMet};
 ghost use Rattle.hip_notes.specs.CallPaths.{births_of};
-ghost use Rattle.hip_notes.specs.Noted.{EndsBelow, Follows, IsForgotten, Reported};
-ghost use Rattle.hip_notes.specs.Pending.{AreInOrder, lines_of};
+ghost use Rattle.hip_notes.specs.Noted.{AreNoted, EndsBelow, Follows, IsForgotten, Reported};
+ghost use Rattle.hip_notes.specs.Pending.{AreInOrder};
 ghost use Rattle.hip_notes.specs.Regions.{IsWhole};
 
 use crate::calls::Calls;
@@ -57,20 +59,10 @@ pub struct Notes {
 }
 
 impl Notes {
-    /// Notes of no steps.
+    /// Notes of no steps, of a run whose trace has `header` entries before the first one.
     pub fn new(alloc: Global, header: u128) -> Result<Notes, NoMemory>
         ensures header { IfOk result (λ notes. notes.header ≡ header) }
-        ensures steps { IfOk result (λ notes. notes.steps ≡ 0) }
-        ensures entries { IfOk result (λ notes. notes.entries ≡ header) }
-        ensures fence { IfOk result (λ notes. notes.fence ≡ None) }
-        ensures calls { IfOk result (λ notes. notes.calls ≡ []) }
-        ensures stores { IfOk result (λ notes. notes.pending.stores.items ≡ []) }
-        ensures lines { IfOk result (λ notes. (j : ℕ) → lines_of notes.pending.lines j ≡ None) }
-        ensures marks { IfOk result (λ notes. notes.marks.keys ≡ []) }
-        ensures recent { IfOk result (λ notes. AreMet [] notes.recent.items) }
-        ensures hit { IfOk result (λ notes. notes.hit.keys ≡ []) }
-        ensures flags { IfOk result (λ notes. WereHit [] notes.flags.items) }
-        ensures reports { IfOk result (λ notes. notes.reports ≡ []) }
+        ensures noted { header ≤ 2 ^ 64 → IfOk result (λ notes. (P : Program) (I : Input) → AreNoted P I 0 notes) }
     {
         let calls = Calls::none(alloc)?;
         let recent = none_recent(alloc)?;

@@ -10,13 +10,15 @@ import shutil
 import signal
 import subprocess
 import sys
+import tempfile
 import time
 from pathlib import Path
 from typing import Iterator
 
+import crate_schedule
 from kept import Kept
 from progress import Meter, Plan, minutes, spoken, write_weights
-from sources import Failed, Sources
+from sources import PROGRAM, Failed, Sources
 
 # What one proof may take, in bytes of memory.
 MEMORY = 4 << 30
@@ -24,7 +26,11 @@ MEMORY = 4 << 30
 FULL = 64 << 20
 # How often it looks at the proofs, in seconds.
 STEP = 1.0
-TRIAL = ["demo", "1", "8"]
+# What a copy of a crate leaves out: what the toolchain made, and the edits that only the gate tries.
+LEFT_OUT = ("out", "must-fail")
+ENDED = re.compile(r"^rt: (\w+) (?:proved$|is kept: )", re.M)
+WAITS = re.compile(r"^rt: (\w+): another run on this machine is proving the same", re.M)
+FAILED = re.compile(r"^rt: (?:FAILED: |(?=\w+ NOT PROVED))(.*)$", re.M)
 
 
 def say(text: str) -> None:
@@ -59,6 +65,25 @@ def alone(file: Path) -> Iterator[None]:
         yield
 
 
+def copy_crates(sources: Sources, room: Path) -> None:
+    """Copies the program's crate and those that it depends on, as a repository of their own."""
+    (room / ".git").mkdir()
+    shutil.copyfile(sources.top / "HANDLES", room / "HANDLES")
+    lines = crate_schedule.read_lines((sources.top / "crates.txt").read_text(encoding="utf-8"))
+    listed = [f"{line}\n" for line in lines if line.partition(":")[0].split()[0] in sources.crates]
+    (room / "crates.txt").write_text("".join(listed), encoding="utf-8")
+    for name in sources.crates:
+        for part in (sources.top / "crates" / name).iterdir():
+            to = room / "crates" / name / part.name
+            if part.name in LEFT_OUT:
+                continue
+            if part.is_dir():
+                shutil.copytree(part, to)
+            else:
+                to.parent.mkdir(parents=True, exist_ok=True)
+                shutil.copyfile(part, to)
+
+
 class Build:
     """One run of `--build`."""
 
@@ -69,61 +94,52 @@ class Build:
         self.start = time.monotonic()
         self.ended: dict[str, float] = {}
         self.measured: dict[str, float] = {}
-        self.has_waited = False
+        self.waits: set[str] = set()
 
-    def prove(self) -> None:
-        """Proves every crate, as many side by side as there are jobs, over what earlier runs kept."""
-        self.run([self.rt, "all", "check", "--jobs", str(self.jobs)], "wb")
-        failed = re.search(r"^(\w+): failed", self.text(), re.M)
-        if failed or len(self.ended) < len(self.sources.crates):
-            raise Failed(f"not built: {failed[1] if failed else 'a crate'} is not proved; {self.log} has the whole log")
-
-    def compile(self) -> Path:
-        """Compiles the proved program, and tries it on a small job."""
-        self.run([self.rt, "run", "--jobs", str(self.jobs), "--", *TRIAL], "ab")
-        return self.sources.made
+    def prove(self, room: Path) -> Path:
+        """Proves every crate in a copy, builds the program and tries it, over what earlier runs kept; it returns the program."""
+        copy_crates(self.sources, room)
+        status = self.run(room)
+        failed = FAILED.search(self.text())
+        if shutil.disk_usage(room).free < FULL:
+            raise Failed(f"not built: the disk of {room} is full")
+        if failed or status:
+            why = failed[1] if failed else f"rt ci ended with {status}"
+            raise Failed(f"not built: {why}; {self.log} has the whole log")
+        return room / "crates" / PROGRAM / "out" / PROGRAM
 
     def text(self) -> str:
-        """What the commands wrote so far."""
+        """What the toolchain wrote so far."""
         return self.log.read_text(encoding="utf-8", errors="replace")
 
-    def run(self, words: list[str], mode: str) -> None:
-        """Runs a command of the toolchain in the program's folder, and reports progress until it ends."""
-        with self.log.open(mode) as log:
-            ran = subprocess.Popen(words, cwd=self.sources.program_folder, stdin=subprocess.DEVNULL, stdout=log, stderr=log,
+    def run(self, room: Path) -> int:
+        """Runs the toolchain's gate in the copy, reports progress until it ends, and returns its exit code."""
+        environment = {**os.environ, "RT_JOBS": str(self.jobs)}
+        with self.log.open("wb") as log:
+            ran = subprocess.Popen([self.rt, "ci"], cwd=room, env=environment, stdin=subprocess.DEVNULL, stdout=log, stderr=log,
                                    start_new_session=True)
         meter = Meter(ran.pid)
-        before = dict(self.measured)
         try:
             while ran.poll() is None:
                 time.sleep(STEP)
                 meter.look()
-                self.measured = {**meter.seconds(), **before}
+                self.measured = meter.seconds()
                 self.report()
         finally:
             if ran.poll() is None:
                 os.killpg(ran.pid, signal.SIGTERM)
                 ran.wait()
             self.report(is_end=True)
-        if ran.returncode:
-            self.stop(words[1], ran.returncode)
-
-    def stop(self, command: str, status: int) -> None:
-        """Says why a command failed, if its own lines do not say which crate it is."""
-        if shutil.disk_usage(self.sources.top).free < FULL:
-            raise Failed(f"not built: the disk of {self.sources.top} is full")
-        if command != "all":
-            raise Failed(f"not built: rt {command} ended with {status}; {self.log} has the whole log")
+        return ran.returncode
 
     def report(self, is_end: bool = False) -> None:
         """Reports progress: on a terminal in one line that it rewrites, otherwise in a line for each change."""
         now = time.monotonic() - self.start
         text, before = self.text(), len(self.ended)
-        waits = re.search(r"^rt: waiting for another rt to finish in (.*)$", text, re.M)
-        if waits and not self.has_waited:
-            say(f"waiting for another proof in {waits[1]}")
-            self.has_waited = True
-        for name in re.findall(r"^== (\w+)$", text, re.M):
+        for name in set(WAITS.findall(text)) - self.waits:
+            say(f"another run on this machine is proving {name}; waiting for it")
+            self.waits.add(name)
+        for name in ENDED.findall(text):
             if name in self.plan.expected:
                 self.ended.setdefault(name, now)
         left = self.plan.remaining(now, self.ended, frozenset(self.ended) - frozenset(self.measured))
@@ -150,15 +166,15 @@ def build(rt: str, sources: Sources, kept: Kept, toolchain: str, jobs: int, weig
             return 0
         work = Build(rt, sources, jobs)
         say(f"proving {len(sources.crates)} crates, {jobs} side by side, and building; about {minutes(work.plan.whole)} where none is kept")
-        try:
-            work.prove()
-            made = work.compile()
-        except SystemExit:
-            say(f"interrupted; {len(work.ended)} of {len(sources.crates)} crates are proved and kept, and ./hippo --build goes on there")
-            raise
-        if sources.digest() != digest:
-            raise Failed("not built: a source changed meanwhile; what is proved is kept, and ./hippo --build goes on there")
-        kept.keep(made, digest, sources.commit(), toolchain)
+        with tempfile.TemporaryDirectory(prefix="hippo-build-") as room:
+            try:
+                made = work.prove(Path(room))
+            except SystemExit:
+                say(f"interrupted; {len(work.ended)} of {len(sources.crates)} crates are proved and kept, and ./hippo --build goes on there")
+                raise
+            if sources.digest() != digest:
+                raise Failed("not built: a source changed meanwhile; what is proved is kept, and ./hippo --build goes on there")
+            kept.keep(made, digest, sources.commit(), toolchain)
         if weighs:
             write_weights(sources, work.measured)
         say(f"proved and built in {spoken(time.monotonic() - work.start)}: {kept.program}")

@@ -32,18 +32,17 @@ case $1 in
     echo 'while :; do sleep 0.1; done' >"$room/run"
     (cd "$room" && exec "$room/program" "$@") &
     wait ;;
-  all)
-    [ -e "$here/locked" ] && echo 'rt: waiting for another rt to finish in /a/b' && sleep 2
+  ci)
+    [ -e "$here/locked" ] && echo 'rt: hip_low: another run on this machine is proving the same; waiting for it' && sleep 2
     for crate in hip_low hippo; do
       [ -e "$here/slow" ] && sleep 60
       [ -e "$here/waits" ] && sleep 2
-      if [ -e "$here/fails" ]; then echo "$crate: failed (1)"; exit 1; fi
-      echo "== $crate"
-    done ;;
-  run)
-    mkdir -p out
-    printf '#!/bin/bash\necho proved "$@"\nexit 7\n' >out/hippo
-    chmod +x out/hippo ;;
+      if [ -e "$here/fails" ]; then echo "rt: $crate NOT PROVED"; exit 1; fi
+      echo "rt: $crate proved"
+    done
+    mkdir -p crates/hippo/out
+    printf '#!/bin/bash\necho proved "$@"\nexit 7\n' >crates/hippo/out/hippo
+    chmod +x crates/hippo/out/hippo ;;
 esac
 """
 

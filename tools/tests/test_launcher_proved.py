@@ -49,7 +49,7 @@ class Proved(Repository):
     def test_build_of_a_built_program_does_nothing(self) -> None:
         self.build()
         self.assertRegex(self.lines(self.build())[0], "is proved and built")
-        self.assertEqual(self.calls("all"), 1)
+        self.assertEqual(self.calls("ci"), 1)
 
     def test_does_not_answer_for_other_sources(self) -> None:
         self.build()
@@ -111,7 +111,7 @@ class Proved(Repository):
 
     def test_a_proof_that_fails_is_named(self) -> None:
         (self.kit / "fails").touch()
-        self.fails(self.hippo("--build"), "not built: hip_low is not proved; .*build.log")
+        self.fails(self.hippo("--build"), "not built: hip_low NOT PROVED; .*build.log")
         self.assertFalse((self.top / "out" / "hippo").exists())
 
     def test_keeps_nothing_that_was_cut(self) -> None:
@@ -124,20 +124,20 @@ class Proved(Repository):
         command = [str(self.top / "hippo"), "--build"]
         ran = subprocess.Popen(command, cwd=self.work, env=self.environment(), stderr=subprocess.PIPE, text=True)
         self.assertIn("proving 2 crates", ran.stderr.readline())
-        self.wait_for(lambda: self.calls("all") == 1)
+        self.wait_for(lambda: self.calls("ci") == 1)
         ran.send_signal(signal.SIGINT)
         said = ran.communicate(timeout=30)[1]
         self.assertEqual(ran.returncode, 130)
         self.assertIn("interrupted; 0 of 2 crates are proved and kept", said)
 
     def test_an_interrupt_leaves_no_program_and_the_next_build_goes_on(self) -> None:
-        (self.kit / "rt").write_text(RT.replace("mkdir -p out", '[ -e "$here/holds" ] && sleep 20; mkdir -p out'))
+        (self.kit / "rt").write_text(RT.replace("mkdir -p crates", '[ -e "$here/holds" ] && sleep 20; mkdir -p crates'))
         for number, code in ((signal.SIGTERM, 128 + signal.SIGTERM), (signal.SIGKILL, -signal.SIGKILL)):
             (self.kit / "holds").touch()
-            before = self.calls("run")
+            before = self.calls("ci")
             command = [str(self.top / "hippo"), "--build"]
             ran = subprocess.Popen(command, cwd=self.work, env=self.environment(), stderr=subprocess.DEVNULL)
-            self.wait_for(lambda: self.calls("run") == before + 1)
+            self.wait_for(lambda: self.calls("ci") == before + 1)
             ran.send_signal(number)
             self.assertEqual(ran.wait(timeout=30), code)
             self.assertFalse((self.top / "out" / "hippo").exists())
@@ -150,7 +150,7 @@ class Proved(Repository):
         launcher = self.top / "tools" / "launcher" / "build.py"
         launcher.write_text(launcher.read_text().replace("FULL = 64 << 20", "FULL = 1 << 60"))
         (self.kit / "fails").touch()
-        self.fails(self.hippo("--build"), f"not built: the disk of {self.top} is full")
+        self.fails(self.hippo("--build"), "not built: the disk of .*hippo-build-.* is full")
         self.assertFalse((self.top / "out" / "hippo").exists())
 
     def test_build_needs_a_toolchain(self) -> None:
@@ -165,19 +165,29 @@ class Proved(Repository):
         (self.kit / "waits").touch()
         command = [str(self.top / "hippo"), "--build"]
         first = subprocess.Popen(command, cwd=self.work, env=self.environment(), stderr=subprocess.DEVNULL)
-        self.wait_for(lambda: self.calls("all") == 1)
+        self.wait_for(lambda: self.calls("ci") == 1)
         second = self.lines(self.build())
         self.assertEqual(first.wait(timeout=60), 0)
         self.assertRegex(second[0], rf"another --build \(process {first.pid}\).*waiting")
         self.assertRegex(second[1], "is proved and built")
-        self.assertEqual(self.calls("all"), 1)
+        self.assertEqual(self.calls("ci"), 1)
 
     def test_build_says_that_it_waits_for_another_proof(self) -> None:
         (self.kit / "locked").touch()
-        self.assertIn("hippo: waiting for another proof in /a/b", self.lines(self.build()))
+        self.assertIn("hippo: another run on this machine is proving hip_low; waiting for it", self.lines(self.build()))
+
+    def test_build_proves_a_copy_without_tests_and_edits(self) -> None:
+        (self.top / "crates" / "hippo" / "must-fail").mkdir()
+        (self.top / "crates" / "hippo" / "out").mkdir()
+        (self.top / "crates" / "hippo" / "stdout").write_text("proved\n")
+        (self.kit / "rt").write_text(RT.replace("mkdir -p crates", 'ls . crates crates/hippo >"$here/copied"; cat crates.txt >>"$here/copied"; mkdir -p crates'))
+        self.build()
+        found = (self.kit / "copied").read_text().split("\n\n")
+        self.assertEqual(found[1], "crates:\nhip_low\nhippo")
+        self.assertEqual(found[2], "crates/hippo:\nspecs\nsrc\nstdout\nhip_low:\nhippo: hip_low\n")
 
     def test_a_change_during_the_build_is_seen(self) -> None:
-        (self.kit / "rt").write_text(RT.replace("mkdir -p out", "mkdir -p out; echo more >>src/lib"))
+        (self.kit / "rt").write_text(RT.replace("mkdir -p crates", f"echo more >>{self.top}/crates/hippo/src/lib; mkdir -p crates"))
         self.fails(self.hippo("--build"), "a source changed meanwhile")
         self.assertFalse((self.top / "out" / "hippo").exists())
 
@@ -203,7 +213,7 @@ class Gate(Repository):
 
     def prove(self) -> None:
         """Makes the program as `rt ci` does."""
-        subprocess.run([self.kit / "rt", "run"], cwd=self.top / "crates" / "hippo", check=True)
+        subprocess.run([self.kit / "rt", "ci"], cwd=self.top, check=True, stdout=subprocess.DEVNULL)
 
     def test_is_kept(self) -> None:
         self.prove()
@@ -244,7 +254,7 @@ class Words(Repository):
         for words in (["more"], ["--jobs", "0"], ["--jobs", "x"]):
             ran = self.hippo("--build", *words)
             self.assertEqual((ran.returncode, ran.stdout), (2, ""))
-        self.assertEqual(self.calls("all"), 0)
+        self.assertEqual(self.calls("ci"), 0)
 
     def test_runs_the_program_that_is_named(self) -> None:
         ran = self.hippo("a b", more={"HIPPO_PROGRAM": "/bin/echo"})

@@ -30,7 +30,7 @@ STEP = 1.0
 LEFT_OUT = ("out", "must-fail")
 ENDED = re.compile(r"^rt: (\w+) (?:proved$|is kept: )", re.M)
 WAITS = re.compile(r"^rt: (\w+): another run on this machine is proving the same", re.M)
-FAILED = re.compile(r"^rt: (?:FAILED: |(?=\w+ NOT PROVED))(.*)$", re.M)
+UNPROVED = re.compile(r"^rt: (\w+) NOT PROVED", re.M)
 
 
 def say(text: str) -> None:
@@ -100,11 +100,11 @@ class Build:
         """Proves every crate in a copy, builds the program and tries it, over what earlier runs kept; it returns the program."""
         copy_crates(self.sources, room)
         status = self.run(room)
-        failed = FAILED.search(self.text())
+        unproved = UNPROVED.search(self.text())
         if shutil.disk_usage(room).free < FULL:
             raise Failed(f"not built: the disk of {room} is full")
-        if failed or status:
-            why = failed[1] if failed else f"rt ci ended with {status}"
+        if unproved or status:
+            why = f"{unproved[1]} is not proved" if unproved else f"rt ci ended with {status}"
             raise Failed(f"not built: {why}; {self.log} has the whole log")
         return room / "crates" / PROGRAM / "out" / PROGRAM
 

@@ -111,7 +111,7 @@ class Proved(Repository):
 
     def test_a_proof_that_fails_is_named(self) -> None:
         (self.kit / "fails").touch()
-        self.fails(self.hippo("--build"), "not built: hip_low NOT PROVED; .*build.log")
+        self.fails(self.hippo("--build"), "not built: hip_low is not proved; .*build.log")
         self.assertFalse((self.top / "out" / "hippo").exists())
 
     def test_keeps_nothing_that_was_cut(self) -> None:

@@ -1,5 +1,6 @@
 -- The queues of the lines that hold something, by line number.
-use Rattle.std.specs.Prelude.{◌≡◌, ◌≢◌, ℕ, ◌*◌, ◌<◌, ◌≤◌, cond, true, nat_lt, List, length, Option, Some, None, IsSome}
+use Rattle.std.specs.Prelude.{◌≡◌, ◌≢◌, ℕ, ◌+◌, ◌*◌, ◌<◌, ◌≤◌, ◌^◌, cond, true, nat_lt, List, length, Vec, vec_capacity, Option, Some, None, IsSome}
+use Rattle.std.specs.Global.{Global}
 use Rattle.std.specs.List.{list_any, IsDistinct}
 use Rattle.std.specs.Ordering.{nat_cmp, eq_by_cmp}
 use Rattle.std.specs.BTreeMap.{is_at}
@@ -47,17 +48,39 @@ HasRoomFor m (Some (o, n)) = (j : ℕ) → has_bytes j o n ≡ true → HasRoomA
 abbrev pub AreBelow : ℕ → Queues → Type 0
 AreBelow n m = (j : ℕ) → IsSome (queue_at m j) → j < n
 
--- Only room was made: what is pending stays, and so does the room that there was. A new queue is that of a line that
--- begins before byte `end`.
-pub record MakesRoom (end : ℕ) (old new : Queues) : Type 0 where
-  pub same : (j : ℕ) → pending_at new j ≡ pending_at old j
-  pub kept : (j : ℕ) → HasRoomAt old j → HasRoomAt new j
-  pub below : (n : ℕ) → end ≤ LINE_SIZE * n → AreBelow n old → AreBelow n new
+-- The n bytes from offset o are at least one, and they end below 2 ^ 64.
+abbrev pub IsRange : ℕ → ℕ → Type 0
+IsRange o n = (0 < n) × (o + n < 2 ^ 64)
 
 -- The list has the lines that hold flushed parts, each once.
 pub record ListsFlushed (lines : List ℕ) (m : Queues) : Type 0 where
   pub distinct : IsDistinct (eq_by_cmp nat_cmp) lines
   pub listed : (j : ℕ) → list_any (is_at (nat_cmp j)) lines ≡ nat_lt 0 (pending_at m j).flushed
+
+-- The list of lines has capacity for as many lines as there are queues.
+abbrev pub HasSpare : Vec ℕ Global → Queues → Type 0
+HasSpare lines m = count_of m ≤ vec_capacity lines
+
+-- The list has the lines that hold flushed parts, and has capacity for as many lines as there are queues.
+abbrev pub ListsWithSpare : Vec ℕ Global → Queues → Type 0
+ListsWithSpare lines m = ListsFlushed lines.items m × HasSpare lines m
+
+-- The new list has the lines that hold flushed parts, and has the capacity of the old list.
+abbrev pub RelistsFlushed : Vec ℕ Global → Vec ℕ Global → Queues → Type 0
+RelistsFlushed lines news m = ListsFlushed news.items m × (vec_capacity news ≡ vec_capacity lines)
+
+-- The list of lines stays. If it had capacity for as many lines as there were queues, it has capacity for as many as
+-- there are now.
+abbrev pub KeepsList : Vec ℕ Global → Vec ℕ Global → Queues → Queues → Type 0
+KeepsList lines news old new = (news.items ≡ lines.items) × (HasSpare lines old → HasSpare news new)
+
+-- Only room was made: what is pending stays, and so do the room that there was and the list of the lines that hold
+-- flushed parts. A new queue is that of a line that begins before byte `end`.
+pub record MakesRoom (end : ℕ) (lines news : Vec ℕ Global) (old new : Queues) : Type 0 where
+  pub same : (j : ℕ) → pending_at new j ≡ pending_at old j
+  pub kept : (j : ℕ) → HasRoomAt old j → HasRoomAt new j
+  pub below : (n : ℕ) → end ≤ LINE_SIZE * n → AreBelow n old → AreBelow n new
+  pub list : KeepsList lines news old new
 
 -- The line's pending parts are changed, and nothing else is.
 pub record ChangesLine (change : Pending Part → Pending Part) (line : ℕ) (old new : Queues) : Type 0 where

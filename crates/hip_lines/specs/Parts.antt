@@ -1,5 +1,5 @@
 -- What contracts see of the lines of a region: the pending parts of each line, and the room that was made for a store.
-use Rattle.std.specs.Prelude.{◌≡◌, ℕ, zero, suc, ◌+◌, ◌-◌, ◌/◌, Bool, ◌&&◌, nat_lt, nat_le, List, [], ◌++◌, map, replicate, Option, Some, None, option_map, option_and_then, option_to_list, slice_get}
+use Rattle.std.specs.Prelude.{◌≡◌, ℕ, zero, suc, ◌+◌, ◌-◌, ◌*◌, ◌/◌, ◌<◌, ◌≤◌, Bool, ◌&&◌, nat_lt, nat_le, List, [], ◌++◌, length, map, replicate, Option, Some, None, option_map, option_and_then, option_to_list, slice_get}
 use Rattle.hip_lines.specs.Line.{start_in, end_in, change_range}
 use Rattle.hip_lines.specs.Loose.{last_over}
 use Rattle.hip_lines.specs.Pending.{Pending, none_pending, pending_with, pending_flushed, pending_fenced}
@@ -11,6 +11,10 @@ use Rattle.hip_types.specs.declared.areas.TheConstants.{LINE_SIZE}
 pub record Held : Type 0 where
   pub lines : List (Pending Part)
   pub room : Option (ℕ × ℕ)
+
+-- A store of n bytes at offset o has 1 to 8 bytes, and lies in these lines.
+abbrev pub LiesIn : List (Pending Part) → ℕ → ℕ → Type 0
+LiesIn ws o n = (0 < n) × (n ≤ 8) × (o + n ≤ LINE_SIZE * length ws)
 
 -- The part covers byte b.
 abbrev pub part_covers : Part → ℕ → Bool

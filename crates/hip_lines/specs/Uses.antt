@@ -3,6 +3,10 @@ use Rattle.std.specs.Prelude.{◌≡◌, ℕ, ◌+◌, ◌<◌, ◌≤◌, List,
 use Rattle.hip_directory.specs.Tables.{count_set}
 use Rattle.hip_types.specs.declared.areas.TheConstants.{LINE_SIZE}
 
+-- There is a place for each of 256 numbers, and no number is noted as used.
+abbrev pub AreBlank : List ℕ → Type 0
+AreBlank uses = (length uses ≡ 256) × (count_set uses ≡ 0)
+
 -- The numbers of the first n bytes are noted as used, and at most n more than before.
 pub record AreNoted (numbers : List ℕ) (n : ℕ) (old new : List ℕ) : Type 0 where
   pub size : length new ≡ length old

@@ -1,8 +1,8 @@
 -- What the lines of a region represent.
-use Rattle.std.specs.Prelude.{ℕ, zero, suc, ◌≤◌, ◌^◌, List, [], ◌∷◌, vec_capacity}
+use Rattle.std.specs.Prelude.{ℕ, zero, suc, ◌≤◌, ◌^◌, List, [], ◌∷◌}
 use Rattle.hip_lines.specs.Pending.{Pending}
 use Rattle.hip_lines.specs.Parts.{Held}
-use Rattle.hip_lines.specs.Kept.{count_of, pending_at, HasRoomFor, AreBelow, ListsFlushed}
+use Rattle.hip_lines.specs.Kept.{pending_at, HasRoomFor, HasSpare, AreBelow, ListsFlushed}
 use Rattle.hip_lines.specs.declared.part.Part.{Part}
 use Rattle.hip_lines.specs.declared.queues.Queues.{Queues}
 use Rattle.hip_lines.specs.declared.lines.Lines.TheInside.{Inside}
@@ -26,5 +26,5 @@ pub record IsKept (s : Inside) : Type 0 where
   pub small : s.count ≤ 2 ^ 20
   pub below : AreBelow s.count s.queues
   pub flushed : ListsFlushed s.flushed.items s.queues
-  pub spare : count_of s.queues ≤ vec_capacity s.flushed
+  pub spare : HasSpare s.flushed s.queues
   pub room : HasRoomFor s.queues s.room

@@ -1,10 +1,10 @@
 //! The queues of the lines that hold something.
 
-ghost use Rattle.std.specs.Prelude.{◌≡◌, ℕ, ◌+◌, ◌-◌, ◌*◌, ◌/◌, ◌<◌, ◌≤◌, ◌≢◌, ◌^◌, cond, true, false, Some, length, vec_capacity, OnOk, OnErr, IsOk, None, MatchBool};
+ghost use Rattle.std.specs.Prelude.{◌≡◌, ℕ, ◌+◌, ◌-◌, ◌*◌, ◌/◌, ◌<◌, ◌≤◌, ◌≢◌, ◌^◌, cond, true, false, Some, length, OnOk, OnErr, IsOk, None, MatchBool};
 ghost use Rattle.hip_lines.specs.Line.{has_bytes};
 ghost use Rattle.hip_lines.specs.Pending.{pending_with, pending_flushed, pending_fenced};
 ghost use Rattle.hip_lines.specs.Parts.{part_in};
-ghost use Rattle.hip_lines.specs.Kept.{queue_at, count_of, pending_at, HasRoomAt, HasRoomFor, AreBelow, MakesRoom, ListsFlushed, ChangesLine, FlushesLines, ChangesSome, GivesQueue};
+ghost use Rattle.hip_lines.specs.Kept.{queue_at, count_of, pending_at, HasRoomAt, HasRoomFor, AreBelow, IsRange, ListsFlushed, ListsWithSpare, RelistsFlushed, KeepsList, MakesRoom, ChangesLine, FlushesLines, ChangesSome, GivesQueue};
 
 use crate::part::Part;
 use crate::queues::Queues;
@@ -13,12 +13,9 @@ use hip_types::{LINE_SIZE, NoMemory};
 // Makes room for one more part of a line.
 fn make_room_at(queues: &mut Queues, flushed: &mut Vec<u64>, line: u64) -> Result<(), NoMemory>
     requires { length flushed.old.items ≤ count_of queues.old }
-    ensures makes { MakesRoom (LINE_SIZE * line + LINE_SIZE) queues.old queues.new }
+    ensures makes { MakesRoom (LINE_SIZE * line + LINE_SIZE) flushed.old flushed.new queues.old queues.new }
     ensures ok { OnOk result (HasRoomAt queues.new line) }
-    ensures flushed { flushed.new.items ≡ flushed.old.items }
     ensures count { count_of queues.old ≤ count_of queues.new }
-    ensures spare { count_of queues.old ≤ vec_capacity flushed.old
-        → count_of queues.new ≤ vec_capacity flushed.new }
 {
     match queues.get(line) {
         Some(_) => queues.make_room(line),
@@ -32,10 +29,8 @@ fn add_queue(queues: &mut Queues, flushed: &mut Vec<u64>, line: u64) -> Result<(
     requires listed { length flushed.old.items ≤ count_of queues.old }
     ensures ok { OnOk result (GivesQueue line queues.old queues.new) }
     ensures err { OnErr result ((j : ℕ) → queue_at queues.new j ≡ queue_at queues.old j) }
-    ensures flushed { flushed.new.items ≡ flushed.old.items }
+    ensures list { KeepsList flushed.old flushed.new queues.old queues.new }
     ensures count { count_of queues.old ≤ count_of queues.new }
-    ensures spare { count_of queues.old ≤ vec_capacity flushed.old
-        → count_of queues.new ≤ vec_capacity flushed.new }
 {
     let more = queues.count() + 1 - flushed.len();
     if flushed.reserve(more).is_err() {
@@ -51,14 +46,10 @@ pub fn make_room_in(
     offset: u64,
     size: u32,
 ) -> Result<(), NoMemory>
-    requires some { 0 < size }
-    requires fits { offset + size < 2 ^ 64 }
+    requires range { IsRange offset size }
     requires listed { ListsFlushed flushed.old.items queues.old }
-    ensures makes { MakesRoom (offset + size) queues.old queues.new }
+    ensures makes { MakesRoom (offset + size) flushed.old flushed.new queues.old queues.new }
     ensures ok { OnOk result (HasRoomFor queues.new (Some (offset, size))) }
-    ensures flushed { flushed.new.items ≡ flushed.old.items }
-    ensures spare { count_of queues.old ≤ vec_capacity flushed.old
-        → count_of queues.new ≤ vec_capacity flushed.new }
 {
     let end = (offset + size as u64 - 1) / LINE_SIZE + 1;
     for line in offset / LINE_SIZE..end {
@@ -75,16 +66,12 @@ pub fn ensure_room(
     offset: u64,
     size: u32,
 ) -> Result<(), NoMemory>
-    requires some { 0 < size }
-    requires fits { offset + size < 2 ^ 64 }
+    requires range { IsRange offset size }
     requires listed { ListsFlushed flushed.old.items queues.old }
     requires room { HasRoomFor queues.old room }
-    ensures makes { MakesRoom (offset + size) queues.old queues.new }
+    ensures makes { MakesRoom (offset + size) flushed.old flushed.new queues.old queues.new }
     ensures ok { OnOk result (HasRoomFor queues.new (Some (offset, size))) }
     ensures ready { room ≡ Some (offset, size) → IsOk result }
-    ensures flushed { flushed.new.items ≡ flushed.old.items }
-    ensures spare { count_of queues.old ≤ vec_capacity flushed.old
-        → count_of queues.new ≤ vec_capacity flushed.new }
 {
     if is_room_for(room, offset, size) {
         return Ok(());
@@ -137,11 +124,9 @@ fn part_at(offset: u64, size: u32, tag: u128, line: u64) -> Part
 
 /// Flushes a line, and answers whether that changed it.
 pub fn flush_at(queues: &mut Queues, flushed: &mut Vec<u64>, line: u64) -> bool
-    requires listed { ListsFlushed flushed.old.items queues.old }
-    requires spare { count_of queues.old ≤ vec_capacity flushed.old }
+    requires listed { ListsWithSpare flushed.old queues.old }
     ensures changes { ChangesLine pending_flushed line queues.old queues.new }
-    ensures listed { ListsFlushed flushed.new.items queues.new }
-    ensures capacity { vec_capacity flushed.new ≡ vec_capacity flushed.old }
+    ensures listed { RelistsFlushed flushed.old flushed.new queues.new }
     ensures changed { result ≡ true → pending_at queues.new line ≢ pending_at queues.old line }
     ensures unchanged { result ≡ false → (j : ℕ) → queue_at queues.new j ≡ queue_at queues.old j }
 {
@@ -161,13 +146,10 @@ pub fn flush_at(queues: &mut Queues, flushed: &mut Vec<u64>, line: u64) -> bool
 
 /// Flushes the lines of a range, in time linear in those that have a queue, and answers whether that changed one.
 pub fn flush_in(queues: &mut Queues, flushed: &mut Vec<u64>, offset: u64, len: u64) -> bool
-    requires some { 0 < len }
-    requires fits { offset + len < 2 ^ 64 }
-    requires listed { ListsFlushed flushed.old.items queues.old }
-    requires spare { count_of queues.old ≤ vec_capacity flushed.old }
+    requires range { IsRange offset len }
+    requires listed { ListsWithSpare flushed.old queues.old }
     ensures flushes { FlushesLines offset len queues.old queues.new }
-    ensures listed { ListsFlushed flushed.new.items queues.new }
-    ensures capacity { vec_capacity flushed.new ≡ vec_capacity flushed.old }
+    ensures listed { RelistsFlushed flushed.old flushed.new queues.new }
     ensures changed { result ≡ true → ChangesSome queues.old queues.new }
     ensures unchanged { result ≡ false → (j : ℕ) → queue_at queues.new j ≡ queue_at queues.old j }
 {

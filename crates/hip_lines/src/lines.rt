@@ -1,5 +1,5 @@
 ghost use Rattle.std.specs.Prelude.{◌≡◌, ◌+◌, ◌*◌, ◌/◌, ◌%◌, ◌<◌, ◌≤◌, length, IfOk, IsOk, OnOk, OnErr, Some, None};
-ghost use Rattle.hip_lines.specs.Parts.{pending_stored, pending_flushed_all, pending_fenced_all, none_pending_all, loose_from, KeepsRoom};
+ghost use Rattle.hip_lines.specs.Parts.{pending_stored, pending_flushed_all, pending_fenced_all, none_pending_all, loose_from, KeepsRoom, LiesIn};
 
 use crate::kept::{ensure_room, fence_in, flush_at, flush_in, make_room_in, push_in};
 use crate::loose::NotDurable;
@@ -50,9 +50,7 @@ impl Lines {
 
     /// Makes room for the parts of a store, so that `note_store` of it takes no memory.
     pub fn make_room(&mut self, offset: u64, size: u32) -> Result<(), NoMemory>
-        requires some { 0 < size }
-        requires few { size ≤ 8 }
-        requires within { offset + size ≤ LINE_SIZE * length self.old.lines }
+        requires { LiesIn self.old.lines offset size }
         ensures lines { self.new.lines ≡ self.old.lines }
         ensures ok { OnOk result (self.new.room ≡ Some (offset, size)) }
         ensures err { OnErr result (self.new.room ≡ None) }
@@ -65,9 +63,7 @@ impl Lines {
 
     /// Notes the parts of a store, both or neither, each at the end of its line.
     pub fn note_store(&mut self, offset: u64, size: u32, tag: u128) -> Result<(), NoMemory>
-        requires some { 0 < size }
-        requires few { size ≤ 8 }
-        requires within { offset + size ≤ LINE_SIZE * length self.old.lines }
+        requires { LiesIn self.old.lines offset size }
         ensures ok { OnOk result (self.new.lines ≡ pending_stored offset size tag self.old.lines) }
         ensures no_room { OnOk result (self.new.room ≡ None) }
         ensures err { OnErr result (self.new ≡ self.old) }

@@ -3,7 +3,7 @@
 ghost use Rattle.std.specs.Prelude.{◌≡◌, ℕ, ◌+◌, ◌-◌, ◌<◌, ◌≤◌, ◌&&◌, cond, nat_le, nat_lt, drop, take, length, slice_index};
 ghost use Rattle.hip_lines.specs.Shown.{AreNumbers, IsRenumbered};
 ghost use Rattle.hip_directory.specs.Tables.{count_set};
-ghost use Rattle.hip_lines.specs.Uses.{AreNoted, AreUses};
+ghost use Rattle.hip_lines.specs.Uses.{AreBlank, AreNoted, AreUses};
 
 use hip_types::LINE_SIZE;
 
@@ -74,8 +74,7 @@ fn lower(numbers: &mut [u8], by: u8)
 
 /// Notes which numbers have a use: 0, those of the bytes of a line, and two others.
 pub fn note_uses(uses: &mut [u8], numbers: &[u8], flushed: usize, last: usize)
-    requires size { length uses.old ≡ 256 }
-    requires none { count_set uses.old ≡ 0 }
+    requires blank { AreBlank uses.old }
     requires line { length numbers.now ≡ LINE_SIZE }
     requires last { last < 256 }
     requires flushed { flushed ≤ last }

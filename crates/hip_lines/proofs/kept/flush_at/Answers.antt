@@ -7,13 +7,15 @@ use Rattle.hip_lines.proofs.kept.flush_at.Goals as goal
 pub push_reserved-requires : goal.push_reserved-requires
 push_reserved-requires c =
     let none = first-flush c.args.queues.now c.args.line c.in-Some.queue.now c.in-Some.ensures (c.none_flushed-is_first.ensures.yes c.if-is_first.true) in
-    omega (arith, c.args.flushed.now.ok.0, c.requires.spare, length-listed_more c.args.flushed.now.items c.args.queues.now c.args.line c.requires.listed none (some-of c.args.queues.now c.args.line c.in-Some.queue.now c.in-Some.ensures))
+    omega (arith, c.args.flushed.now.ok.0, c.requires.listed.1, length-listed_more c.args.flushed.now.items c.args.queues.now c.args.line c.requires.listed.0 none (some-of c.args.queues.now c.args.line c.in-Some.queue.now c.in-Some.ensures))
 
 pub returns-then-is_first-clause-listed : goal.returns-then-is_first-clause-listed
 returns-then-is_first-clause-listed c =
-    let none = first-flush c.args.queues.now c.args.line c.in-Some.queue.now c.in-Some.ensures (c.none_flushed-is_first.ensures.yes c.if-is_first.true) in
-    subst (λ (xs : List ℕ). ListsFlushed xs c.flush.new.self) (sym c.push_reserved.ensures.items)
-    (listed-more c.args.flushed.now.items c.args.queues.now c.flush.new.self c.args.line c.requires.listed none (flushed-some c.args.queues.now c.flush.new.self c.args.line c.in-Some.queue.now c.in-Some.ensures c.flush.ensures.here (c.none_flushed-is_first.ensures.yes c.if-is_first.true) (c.is_flushed.ensures.no c.if-is_flushed.false)) (λ q ne. ap pending_by (c.flush.ensures.others q ne)))
+    let none = first-flush c.args.queues.now c.args.line c.in-Some.queue.now c.in-Some.ensures (c.none_flushed-is_first.ensures.yes c.if-is_first.true) in (
+      subst (λ (xs : List ℕ). ListsFlushed xs c.flush.new.self) (sym c.push_reserved.ensures.items)
+          (listed-more c.args.flushed.now.items c.args.queues.now c.flush.new.self c.args.line c.requires.listed.0 none (flushed-some c.args.queues.now c.flush.new.self c.args.line c.in-Some.queue.now c.in-Some.ensures c.flush.ensures.here (c.none_flushed-is_first.ensures.yes c.if-is_first.true) (c.is_flushed.ensures.no c.if-is_flushed.false)) (λ q ne. ap pending_by (c.flush.ensures.others q ne))),
+      c.push_reserved.ensures.capacity,
+    )
 
 pub returns-then-is_flushed-clause-changes : goal.returns-then-is_flushed-clause-changes
 returns-then-is_flushed-clause-changes c = flushed-already c.args.queues.now c.args.line c.in-Some.queue.now c.in-Some.ensures (c.is_flushed.ensures.yes c.if-is_flushed.true)

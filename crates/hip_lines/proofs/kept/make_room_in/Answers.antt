@@ -4,7 +4,7 @@ use Rattle.hip_lines.proofs.Listed.{length-listed}
 use Rattle.hip_lines.proofs.kept.make_room_in.Goals as goal
 
 pub make_room_at-requires : goal.make_room_at-requires
-make_room_at-requires c = omega (arith, ap length c.loop-line.invariant.1, c.loop-line.invariant.2, length-listed c.args.flushed.now.items c.args.queues.now c.requires.listed)
+make_room_at-requires c = omega (arith, ap length c.loop-line.invariant.2.0, c.loop-line.invariant.1, length-listed c.args.flushed.now.items c.args.queues.now c.requires.listed)
 
 pub returns-in_err-make_room_at-clause-makes : goal.returns-in_err-make_room_at-clause-makes
 returns-in_err-make_room_at-clause-makes c = record {
@@ -13,6 +13,7 @@ returns-in_err-make_room_at-clause-makes c = record {
   below = λ n h b.
       let lt : c.loop-line.line < n = omega (arith, c.loop-line-test.true, h) in
       c.make_room_at.ensures.makes.below n (omega (arith, lt)) (c.loop-line.invariant.0.below n (omega (arith, lt)) b);
+  list = (c.make_room_at.ensures.makes.list.0 ∙ c.loop-line.invariant.2.0, λ h. c.make_room_at.ensures.makes.list.1 (c.loop-line.invariant.2.1 h));
 }
 
 pub loop-line-preserved : goal.loop-line-preserved
@@ -23,9 +24,8 @@ loop-line-preserved c = (
     room = λ j from to. go j from (split j to);
     below = λ n h b. c.make_room_at.ensures.makes.below n (omega (arith, h)) (c.loop-line.invariant.0.below n (omega (arith, h)) b);
   },
-  c.make_room_at.ensures.flushed ∙ c.loop-line.invariant.1,
-  omega (arith, c.make_room_at.ensures.count, c.loop-line.invariant.2),
-  λ h. c.make_room_at.ensures.spare (c.loop-line.invariant.3 h),
+  omega (arith, c.make_room_at.ensures.count, c.loop-line.invariant.1),
+  (c.make_room_at.ensures.makes.list.0 ∙ c.loop-line.invariant.2.0, λ h. c.make_room_at.ensures.makes.list.1 (c.loop-line.invariant.2.1 h)),
 )
   where
     split : (j : ℕ) → j < c.loop-line.line + 1 → (j < c.loop-line.line) ⊎ (c.loop-line.line ≡ j)
@@ -39,5 +39,6 @@ pub returns-clause-makes : goal.returns-clause-makes
 returns-clause-makes c = record {
   same = c.loop-line.invariant.0.same;
   kept = c.loop-line.invariant.0.kept;
-  below = λ n h b. c.loop-line.invariant.0.below n (omega (arith, c.loop-line-test.false, c.loop-line.auto.line-end, h, c.requires.some)) b;
+  below = λ n h b. c.loop-line.invariant.0.below n (omega (arith, c.loop-line-test.false, c.loop-line.auto.line-end, h, c.requires.range.0)) b;
+  list = c.loop-line.invariant.2;
 }

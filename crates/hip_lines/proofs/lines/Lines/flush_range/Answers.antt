@@ -4,8 +4,8 @@ use Rattle.hip_lines.specs.Kept.{pending_by}
 use Rattle.hip_lines.proofs.Helds.{held-length, held-same_length, lines-same, lines-flushed_all, some-changes}
 use Rattle.hip_lines.proofs.lines.Lines.flush_range.Goals as goal
 
-pub flush_in-requires-clause-fits : goal.flush_in-requires-clause-fits
-flush_in-requires-clause-fits c = omega (arith, c.self.invariant.small, c.requires.within, held-length c.self.inside.count c.self.inside.queues _ (ap (λ (h : Held). h.lines) c.self.view_is))
+pub flush_in-requires-clause-range : goal.flush_in-requires-clause-range
+flush_in-requires-clause-range c = (c.requires.some, omega (arith, c.self.invariant.small, c.requires.within, held-length c.self.inside.count c.self.inside.queues _ (ap (λ (h : Held). h.lines) c.self.view_is)))
 
 pub returns-then-flush_in-clause-lines : goal.returns-then-flush_in-clause-lines
 returns-then-flush_in-clause-lines c = lines-flushed_all c.args.offset c.args.len c.self.inside.count c.self.inside.queues c.flush_in.new.queues c.flush_in.ensures.flushes ∙ ap (pending_flushed_all c.args.offset c.args.len) (ap (λ (h : Held). h.lines) c.self.view_is)
@@ -35,7 +35,7 @@ pub invariant_of-self : goal.invariant_of-self
 invariant_of-self c = record {
   small = c.self.invariant.small;
   below = c.flush_in.ensures.flushes.below c.self.inside.count c.self.invariant.below;
-  flushed = c.flush_in.ensures.listed;
-  spare = omega (arith, c.flush_in.ensures.flushes.count, c.flush_in.ensures.capacity, c.self.invariant.spare);
+  flushed = c.flush_in.ensures.listed.0;
+  spare = omega (arith, c.flush_in.ensures.flushes.count, c.flush_in.ensures.listed.1, c.self.invariant.spare);
   room = tt;
 }

@@ -1,11 +1,11 @@
-use Rattle.std.proofs.Common.{◌≡◌, ◌+◌, length, ap, subst, ◌∙◌, arith}
+use Rattle.std.proofs.Common.{◌≡◌, ◌+◌, length, refl, ap, subst, ◌∙◌, arith}
 use Rattle.hip_lines.specs.Uses.{AreUses}
 use Rattle.hip_lines.proofs.Renumbers.{count-none}
 use Rattle.hip_lines.proofs.Shows.{flushed-renumbered, numbers-renumbered, shows-renumbered}
 use Rattle.hip_lines.proofs.queue.Queue.keep_shown.Goals as goal
 
-pub note_uses-requires-clause-none : goal.note_uses-requires-clause-none
-note_uses-requires-clause-none c = count-none 256
+pub note_uses-requires-clause-blank : goal.note_uses-requires-clause-blank
+note_uses-requires-clause-blank c = (refl, count-none 256)
 
 pub invariant_of-self : goal.invariant_of-self
 invariant_of-self c =

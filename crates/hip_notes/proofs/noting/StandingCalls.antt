@@ -49,7 +49,7 @@ abbrev pub SameOnes : List Level → List Level → Type 0
 SameOnes old new = (a b : ℕ) (l m : Level) → length old + b ≡ length new + a → slice_get old a ≡ Some l
     → slice_get new b ≡ Some m → l.birth ≡ m.birth → drop a old ≡ drop b new
 
--- Each of these calls began before so many steps.
+-- Each of these calls began before that number of steps.
 abbrev AreBefore : ℕ → List Level → Type 0
 AreBefore steps ls = (k : ℕ) (l : Level) → slice_get ls k ≡ Some l → l.birth < steps
 

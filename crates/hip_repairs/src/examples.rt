@@ -1,13 +1,13 @@
 //! Small programs with the reports of their runs and their repairs, computed by the definitions.
 
-ghost use Rattle.hip_repairs.specs.examples.AssertInsideCallee.{assert_inside_callee, assert_inside_callee_repaired, assert_inside_callee_reports, };
-ghost use Rattle.hip_repairs.specs.examples.CopyHoisted.{copy_hoisted, copy_hoisted_repaired, copy_hoisted_report, };
-ghost use Rattle.hip_repairs.specs.examples.FenceWithoutFlush.{fence_without_flush, fence_without_flush_repaired, fence_without_flush_report, };
-ghost use Rattle.hip_repairs.specs.examples.FlushWithoutFence.{flush_without_fence, flush_without_fence_repaired, flush_without_fence_report, };
-ghost use Rattle.hip_repairs.specs.examples.MutualRecursion.{mutual_recursion, mutual_recursion_repaired, mutual_recursion_report, };
+ghost use Rattle.hip_repairs.specs.examples.AssertInsideCallee.{assert_inside_callee, assert_inside_callee_repaired, assert_inside_callee_reports};
+ghost use Rattle.hip_repairs.specs.examples.CopyHoisted.{copy_hoisted, copy_hoisted_repaired, copy_hoisted_report};
+ghost use Rattle.hip_repairs.specs.examples.FenceWithoutFlush.{fence_without_flush, fence_without_flush_repaired, fence_without_flush_report};
+ghost use Rattle.hip_repairs.specs.examples.FlushWithoutFence.{flush_without_fence, flush_without_fence_repaired, flush_without_fence_report};
+ghost use Rattle.hip_repairs.specs.examples.MutualRecursion.{mutual_recursion, mutual_recursion_repaired, mutual_recursion_report};
 ghost use Rattle.hip_repairs.specs.examples.OneStore.{one_store, one_store_repaired, one_store_report};
-ghost use Rattle.hip_repairs.specs.examples.OverwrittenStore.{overwritten_store, overwritten_store_repaired, overwritten_store_report, };
-ghost use Rattle.hip_repairs.specs.examples.StoreInTwoLines.{store_in_two_lines, store_in_two_lines_repaired, store_in_two_lines_report, };
+ghost use Rattle.hip_repairs.specs.examples.OverwrittenStore.{overwritten_store, overwritten_store_repaired, overwritten_store_report};
+ghost use Rattle.hip_repairs.specs.examples.StoreInTwoLines.{store_in_two_lines, store_in_two_lines_repaired, store_in_two_lines_report};
 ghost use Rattle.hip_repairs.specs.examples.Words.{IsHoisted, IsWorked, zeroed};
 ghost use Rattle.std.specs.Prelude.{[], ◌∷◌};
 

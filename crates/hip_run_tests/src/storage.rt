@@ -1,6 +1,5 @@
 //! The storage of a run: its memory, and what it shows of stores and flushes.
 
-
 use crate::machines::{BASE, checked, input};
 use hip_examples::AMPLE;
 use hip_runs::{Event, TrapKind};

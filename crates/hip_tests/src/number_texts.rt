@@ -1,6 +1,5 @@
 //! Numbers as texts.
 
-
 use hip_num::{decimal_into, hex_into, natural_into, read_decimal, read_hex, read_signed};
 use std::process::Abort;
 

@@ -1,6 +1,5 @@
 //! What a sound program gives: its functions, its addresses and its initial bytes.
 
-
 use hip_copies::same;
 use hip_examples::AMPLE;
 use hip_parse::parse;

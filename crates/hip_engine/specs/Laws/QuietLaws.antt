@@ -47,7 +47,7 @@ after_step_is m = go (state_of m).world.ending refl
   where
     go : (o : Option Ending) → (state_of m).world.ending ≡ o
         → run m.program m.input (cond (is_some o) m.taken (suc m.taken))
-          ≡ on_ending m.program m.input (state_of m) o
+        ≡ on_ending m.program m.input (state_of m) o
     go (Some e) q = refl
     go None q = ap (on_ending m.program m.input (state_of m)) q
 

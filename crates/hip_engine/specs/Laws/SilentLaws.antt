@@ -42,7 +42,7 @@ module _ (P : Program) (I : Input) where
       → (run P I (suc n)).world.output ≡ (run P I n).world.output
   silent_prints n s =
       (run_stated P I n).output
-        ∙ ap (λ text. (run P I n).world.output ++ text) (prints_nothing (event P I (run P I n)) s)
+      ∙ ap (λ text. (run P I n).world.output ++ text) (prints_nothing (event P I (run P I n)) s)
       ∙ append-nil (run P I n).world.output
 
   -- Silent steps print nothing.

@@ -280,7 +280,7 @@ module _ (P : Program) where
       case_keeps below (Alloca dest ty align) e =
           λ a q within. record {
             kept =
-              reached_assigned I w f r (Alloca dest ty align) e (Some dest) a (own (Alloca dest ty align) dest refl);
+                reached_assigned I w f r (Alloca dest ty align) e (Some dest) a (own (Alloca dest ty align) dest refl);
             trap = λ e. let z : ⊥ = cc in z;
           }
       case_keeps below (Load dest ty addr align) e =

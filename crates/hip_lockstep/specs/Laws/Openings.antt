@@ -121,7 +121,7 @@ module _ (P : Program) (start : CabinetState) (es : List Entry) (r : ReaderState
     later = later_faults start s s' read.reading f.later;
     rose = subst (λ k. Rose k s'.faults) read.reading.faults f.rose;
     stated =
-      stated_map (λ bytes. IsRead bytes es (ahead r s)) (λ bytes. ShowsNone P bytes s'.rest) start.rest read.stated
+        stated_map (λ bytes. IsRead bytes es (ahead r s)) (λ bytes. ShowsNone P bytes s'.rest) start.rest read.stated
         (λ bytes at h.
         let t = front_taken bytes es r r' s s' h f in
         record {
@@ -338,7 +338,7 @@ header_read P start r s given lockstep h =
           let spells = spelled_next bytes h.entries lockstep.next (ahead r s) k in
           ap (header P) spells.1 ∙ h.header (Some lockstep.next ∷ spells.0)
           ∙ ap (go_on P given lockstep.entries
-              (λ given'. header_from P given' (suc lockstep.entries) spells.0)) h.ends
+          (λ given'. header_from P given' (suc lockstep.entries) spells.0)) h.ends
           ∙ ap (λ n. Gives n (filled P given)) so.number);
     }
   where

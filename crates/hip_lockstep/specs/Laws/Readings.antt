@@ -78,7 +78,7 @@ module _ (bytes : List ℕ) (es : List Entry) (e : Entry) (piece : List ℕ) (sp
   after : (more : List (Option Entry)) → stated es ++ (entry_of piece ∷ more) ≡ stated (es ++ e ∷ []) ++ more
   after more =
       ap (λ (o : Option Entry). stated es ++ (o ∷ more)) spells
-        ∙ sym (append_assoc (stated es) (Some e ∷ []) more)
+      ∙ sym (append_assoc (stated es) (Some e ∷ []) more)
       ∙ ap (λ (ps : List (Option Entry)). ps ++ more) (sym stated_one)
 
   at_separator : (text left : List ℕ) (separator : ℕ) → list_any is_separator piece ≡ false

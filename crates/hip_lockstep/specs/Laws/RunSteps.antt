@@ -223,7 +223,7 @@ module _ (P : Program) (I : Input) (start : CabinetState) (valid : IsValid P I) 
           number = refl;
           differs = subst (λ ps. FirstDiffers true ps whole (length (trace P I n)) kind) (sym spells)
               (subst
-                (λ es. FirstDiffers true (stated (trace P I n) ++ rest) es (length (trace P I n)) kind) (sym split)
+              (λ es. FirstDiffers true (stated (trace P I n) ++ rest) es (length (trace P I n)) kind) (sym split)
               (differs-past true (trace P I n) rest more kind d));
         });
   }

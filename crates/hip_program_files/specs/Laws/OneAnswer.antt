@@ -94,9 +94,9 @@ one_refusal files name (loads.Bad a) (loads.Bad b) p q = bad_files files name a 
 one_refusal files name loads.Missing loads.TooLarge p q = absurd (not_there (file_of files name) q.text q.found p)
 one_refusal files name loads.TooLarge loads.Missing p q = absurd (not_there (file_of files name) p.text p.found q)
 one_refusal files name loads.Missing (loads.Bad b) p q =
-  absurd (not_there (file_of files name) q.text q.is_text.stated p)
+    absurd (not_there (file_of files name) q.text q.is_text.stated p)
 one_refusal files name (loads.Bad a) loads.Missing p q =
-  absurd (not_there (file_of files name) p.text p.is_text.stated q)
+    absurd (not_there (file_of files name) p.text p.is_text.stated q)
 one_refusal files name loads.TooLarge (loads.Bad b) p q =
     absurd (let text = same_bytes (file_of files name) p.text q.text p.found q.is_text.stated in
     omega (arith, ap length text, p.long, q.is_text.fits))

@@ -191,7 +191,7 @@ second_repair P I found sound is_input valid is files p t on old new stated met 
           fits = on.fits;
           stated =
               subst (λ (fs : Option (List NamedFile)).
-                  IfSome fs (λ stated_files. file_of stated_files p ≡ Some (show Q)))
+              IfSome fs (λ stated_files. file_of stated_files p ≡ Some (show Q)))
               (sym stated) on.text;
         };
         reads = cured.reads;

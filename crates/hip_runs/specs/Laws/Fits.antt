@@ -213,7 +213,7 @@ event_stated P I fs (Calls g rs to) o h = record { is = tt {0} }
 event_stated P I fs (Jumps b rs) o h = record { is = tt {0} }
 event_stated P I fs (Returns v) o h =
     stated_cond (is_bottom fs) (events.End (Stop (signed W32 (bits W32 v).value))) events.Quiet o
-      (record { is = tt {0} })
+    (record { is = tt {0} })
     (record { is = tt {0} })
 
 at_stated : (P : Program) (I : Input) (w : World) (fs : List Frame) (d : Deed) (o : Option Instr) → Fits P d.action o

@@ -305,7 +305,7 @@ module _ (P : Program) (I : Input) (n : ℕ) where
           × (x ≡ part_of_store (run P I n).counts (site_of f) (levels_of (f ∷ fs)) (a - I.base) bytes j))
           → IsStated P I (suc n) j x
       by_store f fs t a bytes e q j x (inl i) =
-        stated_same P I n j (ap fences q) (ap (flushes I.base j) q) x (stated j x i)
+          stated_same P I n j (ap fences q) (ap (flushes I.base j) q) x (stated j x i)
       by_store f fs t a bytes e q j x (inr r) = stated_new P I n j x
           (ap (λ (y : StorePart). y.offset / 64) r.1 ∙ line_of_start (a - I.base) (length bytes) j r.0)
           (ap (λ (y : StorePart). y.step) r.1 ∙ counted-steps P I n t.going)

@@ -43,7 +43,7 @@ module _ (P : Program) (passes : ℕ → Option Instr → Bool) where
       let rest = body_filtered f b (suc k) fn block is e_f e_b
       (λ j. at (suc j) ∙ ap (slice_get block.body) (let q : k + suc j ≡ suc k + j = omega arith in q)) in
       ap (λ t. cond t (s ∷ later) later)
-        (there f b k fn block i e_f e_b (ap (slice_get block.body) here ∙ sym (at 0)))
+      (there f b k fn block i e_f e_b (ap (slice_get block.body) here ∙ sym (at 0)))
       ∙ front_chosen (test f i) s later ∙ ap (λ zs. cond (test f i) (s ∷ []) [] ++ zs) rest
 
   blocks_filtered : (f b : ℕ) (fn : Function) (xs : List Block) → slice_get P.functions f ≡ Some fn

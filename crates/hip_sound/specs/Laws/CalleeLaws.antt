@@ -41,4 +41,4 @@ not_numbered P s callee x known = go (function_number P callee) refl
     go (Some g) e =
         absurd
         (let free = number_free P s callee g e in
-         let no : None ≡ Some x = sym free ∙ known in let z : ⊥ = cc in z)
+        let no : None ≡ Some x = sym free ∙ known in let z : ⊥ = cc in z)

@@ -186,7 +186,7 @@ signature-decides : (ret : Option Scalar) (args : List Arg) (o : Option Signatur
 signature-decides ret args None = (λ e. cc, λ h. cc)
 signature-decides ret args (Some s) =
     let d =
-      both-decides _ _ (same_result-decides s.ret ret) (same_scalars-decides s.params (map (λ a. a.ty) args)) in (
+    both-decides _ _ (same_result-decides s.ret ret) (same_scalars-decides s.params (map (λ a. a.ty) args)) in (
       λ e. let h = d.0 e in λ i. Some (record { ret = h.0 i; params = h.1 i }),
       λ h. let same : s ≡ stated_signature ret args = cc in d.1 (ap (λ t. t.ret) same, ap (λ t. t.params) same),
     )

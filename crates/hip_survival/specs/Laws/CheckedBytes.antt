@@ -85,7 +85,7 @@ reported_loose P I n range tight =
   where
     go : (made : ℕ) (ps : List LoosePart) → loose_parts range.offset range.size (run P I n).lines made ≡ ps
         → report_of (levels_of (run P I n).frames) (suc (run P I n).counts.entries)
-          (loose_parts range.offset range.size (run P I n).lines made) ≡ []
+        (loose_parts range.offset range.size (run P I n).lines made) ≡ []
     go made [] e = ap (report_of (levels_of (run P I n).frames) (suc (run P I n).counts.entries)) e
     go made (p ∷ ps) e =
         let r = part_loose range.offset range.size made (run P I n).lines p

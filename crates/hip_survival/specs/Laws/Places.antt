@@ -165,7 +165,7 @@ module _ (m k : ℕ) where
         let e : suc (n + d) ≡ n + suc d = omega arith in
         subst (λ i. At i t) e
         (step-cases P I (run P I (n + d)) (λ e ls. Stays (run P I (n + d)).lines ls)
-          (stays_cases I (run P I (n + d))) t (onward n d t h))
+        (stays_cases I (run P I (n + d))) t (onward n d t h))
 
     one_before : (n t : ℕ) → At (suc n) t → t < n → At n t
     unfolding run

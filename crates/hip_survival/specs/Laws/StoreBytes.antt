@@ -92,7 +92,7 @@ module _ (I : Input) (counts : Counts) (site : Site) (levels : List Level) (a : 
   -- The byte of the part in its line is the byte of the write.
   part_written : (old : ℕ)
       → cond (covers part b) (byte_of part b) old
-        ≡ byte_written (record { addr = a; bytes = bytes }) (I.base + b) old
+      ≡ byte_written (record { addr = a; bytes = bytes }) (I.base + b) old
   part_written old = go (covered_or_not (record { addr = a; bytes = bytes }) (I.base + b))
     where
       go : ((write_covers (record { addr = a; bytes = bytes }) (I.base + b) ≡ true) × (a ≤ I.base + b)

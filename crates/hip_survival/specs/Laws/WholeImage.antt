@@ -49,7 +49,7 @@ image_byte I s pick b lt =
     let z : 0 + b ≡ b = omega arith in
     slice_index-image_from covers byte_of s.lines pick 0 I.image b lt
     ∙ ap (λ c. byte_after covers byte_of
-        (take (pick (c / 64)) (parts_of covers byte_of (slice_get s.lines (c / 64)))) c (slice_index I.image b)) z
+    (take (pick (c / 64)) (parts_of covers byte_of (slice_get s.lines (c / 64)))) c (slice_index I.image b)) z
 
 -- ---- all parts
 

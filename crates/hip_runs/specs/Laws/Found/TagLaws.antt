@@ -64,7 +64,7 @@ module _ {A : Type 0} (f : ℕ → List A) where
 module _ (ps : List LoosePart) (bs : List LooseByte) (made : ℕ) (h : AreAlike ps bs made) where
   some_stated : not_empty ps ≡ has_tag made bs
   some_stated =
-    both_ways _ _ (λ e. to ps (λ p i. h.byte_of p i) e) (λ e. from (any_in (λ b. nat_eq b.tag made) bs e))
+      both_ways _ _ (λ e. to ps (λ p i. h.byte_of p i) e) (λ e. from (any_in (λ b. nat_eq b.tag made) bs e))
     where
       to : (qs : List LoosePart)
           → ((p : LoosePart) → In p qs → (b : LooseByte) × In b bs × (b.tag ≡ made)

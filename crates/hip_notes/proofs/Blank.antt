@@ -1,5 +1,5 @@
 -- Notes of no steps.
-use Rattle.std.proofs.Common.{◌≡◌, ℕ, ◌/◌, ◌≤◌, ◌^◌, List, [], Option, Some, None, refl, sym, ◌∙◌, subst, arith}
+use Rattle.std.proofs.Common.{◌≡◌, ℕ, ◌/◌, ◌≤◌, ◌^◌, Bool, true, List, [], Option, Some, None, slice_get, refl, sym, ap, ◌∙◌, subst, arith}
 use Rattle.hip_tree.specs.declared.program.Program.{Program}
 use Rattle.hip_lines.specs.Line.{Line}
 use Rattle.hip_runs.specs.Found.Marks.{hit, pointed}
@@ -28,6 +28,12 @@ tells_none P I header notes lines e h = record {
   flushes = λ j l q. absurd (let z : None ≡ Some l = sym (h j) ∙ q in let w : ⊥ = cc in w);
   kept = λ b k x l. absurd (none_loose P I b k x l);
 }
+
+-- No flag is that of a global that was hit.
+pub none_hit : (hits : List ℕ) (flags : List Bool) → flags ≡ [] → WereHit hits flags
+none_hit hits flags e = λ g is.
+    let h : slice_get [] g ≡ Some true = sym (ap (λ (fs : List Bool). slice_get fs g) e) ∙ is in
+    absurd (let z : ⊥ = cc in z)
 
 pub blank : (c : Notes) → c.header ≤ 2 ^ 64 → c.steps ≡ 0 → c.entries ≡ c.header → c.fence ≡ None → c.calls ≡ [] → c.pending.stores.items ≡ []
     → ((j : ℕ) → lines_of c.pending.lines j ≡ None) → c.marks.keys ≡ [] → AreMet [] c.recent.items → c.hit.keys ≡ [] → WereHit [] c.flags.items → c.reports ≡ [] → (P : Program) (I : Input) → AreNoted P I 0 c

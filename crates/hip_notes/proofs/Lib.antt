@@ -1,3 +1,4 @@
+pub mod Blank
 pub mod CallBirths
 pub mod Clamped
 pub mod ClosedCalls

@@ -48,26 +48,18 @@ pub fn replay<C: Cabinet>(
     requires current { IsTrue (C.state cabinet.old).is_current }
     ensures { Replays checked.now reader.new (C.state cabinet.old) (C.state cabinet.new) result }
 {
-    let begun = match read_header(alloc, checked, reader, cabinet) {
-        Ok(begun) => begun,
-        Err(refusal) => return Err(refusal),
-    };
-    let Begun { input, lockstep } = begun;
-    match run_beside(alloc, checked, &input, lockstep, reader, cabinet) {
-        Ok(
-            Followed {
-                findings,
-                ending,
-                entries,
-            },
-        ) => Ok(Replayed {
-            input,
-            findings,
-            ending,
-            entries,
-        }),
-        Err(refusal) => Err(refusal),
-    }
+    let Begun { input, lockstep } = read_header(alloc, checked, reader, cabinet)?;
+    let Followed {
+        findings,
+        ending,
+        entries,
+    } = run_beside(alloc, checked, &input, lockstep, reader, cabinet)?;
+    Ok(Replayed {
+        input,
+        findings,
+        ending,
+        entries,
+    })
 }
 
 // Runs a program on an input, and compares the entries after the header with those of the run.
@@ -86,10 +78,7 @@ fn run_beside<C: Cabinet>(
         (record { input = input.now; lockstep = lockstep }) →
         Follows checked.now input.now start reader.new (C.state cabinet.new) result }
 {
-    let mut machine = match Machine::new(alloc, checked, input) {
-        Ok(machine) => machine,
-        Err(_) => return Err(ReplayRefusal::NoMemory),
-    };
+    let mut machine = Machine::new(alloc, checked, input)?;
     note_beside(alloc, &mut machine, lockstep, reader, cabinet)
 }
 
@@ -111,22 +100,14 @@ fn note_beside<'a, C: Cabinet>(
 {
     runs_are_bounded();
     let _program = machine.checked().program();
-    let mut tracker = match Tracker::new(alloc, lockstep.entries) {
-        Ok(tracker) => tracker,
-        Err(_) => return Err(ReplayRefusal::NoMemory),
-    };
-    let ended = match follow(machine, &mut tracker, lockstep, reader, cabinet) {
-        Ok(ended) => ended,
-        Err(refusal) => return Err(refusal),
-    };
-    match tracker.close(machine) {
-        Ok(findings) => Ok(Followed {
-            findings,
-            ending: ended.ending,
-            entries: ended.entries,
-        }),
-        Err(_) => Err(ReplayRefusal::NoMemory),
-    }
+    let mut tracker = Tracker::new(alloc, lockstep.entries)?;
+    let ended = follow(machine, &mut tracker, lockstep, reader, cabinet)?;
+    let findings = tracker.close(machine)?;
+    Ok(Followed {
+        findings,
+        ending: ended.ending,
+        entries: ended.entries,
+    })
 }
 
 // Takes the steps of a run, and compares their entries with those of a trace.
@@ -153,21 +134,15 @@ fn follow<'a, C: Cabinet>(
     let program = machine.checked().program();
     let _most = longest(program);
     'steps: loop {
-        let event = match tracker.next_event(machine) {
-            Ok(event) => event,
-            Err(_) => return Err(ReplayRefusal::NoMemory),
-        };
-        match lockstep.meet(event, reader, cabinet) {
-            Ok(met) => match met {
-                None => {}
-                Some(ending) => {
-                    return Ok(Ended {
-                        ending,
-                        entries: lockstep.entries,
-                    });
-                }
-            },
-            Err(refusal) => return Err(refusal),
+        let event = tracker.next_event(machine)?;
+        match lockstep.meet(event, reader, cabinet)? {
+            None => {}
+            Some(ending) => {
+                return Ok(Ended {
+                    ending,
+                    entries: lockstep.entries,
+                });
+            }
         }
     }
 }

@@ -1,10 +1,10 @@
 -- The lines of what stands before a run's first step.
 use Rattle.std.proofs.Common.{◌≡◌, ℕ, ℤ, zero, suc, ◌+◌, ◌*◌, ◌-◌, ◌/◌, ◌<◌, ◌≤◌, Bool, true, false, List, [], ◌∷◌, ◌++◌, length, map, take, drop, get_or, refl, sym, ap, ◌∙◌, subst, arith, append-nil, append_assoc, length-append, drop-cons}
-use Rattle.std.specs.Prelude.{if◌then◌else◌}
+use Rattle.std.specs.Prelude.{Result, Ok, Err, if◌then◌else◌}
 use Rattle.std.proofs.lemmas.Grind.{flat_map-append}
 use Rattle.std.proofs.lemmas.List.{length-map, take_all, take-append-drop}
 use Rattle.hip_io.specs.Laws.SinkLaws.{and_then, prefix_of_more, writes_nothing}
-use Rattle.hip_io.specs.Sinks.{SinkState, AppendsAll, AppendsPrefix, Writes}
+use Rattle.hip_io.specs.Sinks.{SinkState, AppendsAll, AppendsPrefix, Writes, Wrote}
 use Rattle.hip_io.specs.declared.sink.Put.TheVariants.{Done, Failed}
 use Rattle.hip_trace.specs.Texts.{line_of, lines_of}
 use Rattle.hip_trace.specs.declared.entry.Entry.{Entry}
@@ -190,11 +190,15 @@ header_count I lines e =
     let numbers = length-map I.numbers (λ (z : ℤ). Input z) in
     omega (arith, all, both, numbers, e)
 
-pub both_starts : {old mid new : SinkState} (I : Run) → AppendsAll old mid (line_of (Start I.limit)) → AppendsPrefix mid new (line_of (Register I.base (length I.image))) → AppendsPrefix old new (lines_of (Start I.limit ∷ Register I.base (length I.image) ∷ []))
+both_starts : {old mid new : SinkState} (I : Run) → AppendsAll old mid (line_of (Start I.limit)) → AppendsPrefix mid new (line_of (Register I.base (length I.image))) → AppendsPrefix old new (lines_of (Start I.limit ∷ Register I.base (length I.image) ∷ []))
 both_starts I p q = then_part (Start I.limit ∷ []) (Register I.base (length I.image) ∷ []) (one_line (Start I.limit) p) (part_line (Register I.base (length I.image)) q)
 
-pub both_started : {old mid new : SinkState} (I : Run) → AppendsAll old mid (line_of (Start I.limit)) → AppendsAll mid new (line_of (Register I.base (length I.image))) → AppendsAll old new (lines_of (Start I.limit ∷ Register I.base (length I.image) ∷ []))
+both_started : {old mid new : SinkState} (I : Run) → AppendsAll old mid (line_of (Start I.limit)) → AppendsAll mid new (line_of (Register I.base (length I.image))) → AppendsAll old new (lines_of (Start I.limit ∷ Register I.base (length I.image) ∷ []))
 both_started I p q = then_all (Start I.limit ∷ []) (Register I.base (length I.image) ∷ []) (one_line (Start I.limit) p) (one_line (Register I.base (length I.image)) q)
+
+pub both_wrote : {T E : Type 0} {old mid new : SinkState} (I : Run) (r : Result T E) → AppendsAll old mid (line_of (Start I.limit)) → Wrote mid new (line_of (Register I.base (length I.image))) r → Wrote old new (lines_of (Start I.limit ∷ Register I.base (length I.image) ∷ [])) r
+both_wrote I (Ok _) p q = both_started I p q
+both_wrote I (Err _) p q = both_starts I p q
 
 abbrev starts : Run → List Entry
 starts I = Start I.limit ∷ Register I.base (length I.image) ∷ []

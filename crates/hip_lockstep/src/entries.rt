@@ -72,10 +72,10 @@ pub fn put_entry<S: Sink>(event: Event, out: &mut S) -> Result<u128, WriteFault>
     ensures count { IfOk result (λ n. n ≡ length (entry_list (entry_of_event event))) }
 {
     match usual_of(event) {
-        Some(usual) => match write_usual(usual, out) {
-            Ok(()) => Ok(1),
-            Err(fault) => Err(fault),
-        },
+        Some(usual) => {
+            write_usual(usual, out)?;
+            Ok(1)
+        }
         None => match ending_of(event) {
             Some(ending) => put_ending(ending, out),
             None => Ok(0),
@@ -88,8 +88,6 @@ fn put_ending<S: Sink>(ending: Ending, out: &mut S) -> Result<u128, WriteFault>
     ensures wrote { Wrote (S.state out.old) (S.state out.new) (line_of (entry_of_ending ending)) result }
     ensures count { IfOk result (λ n. n ≡ 1) }
 {
-    match write_entry(&entry_of_ending(ending), out) {
-        Ok(()) => Ok(1),
-        Err(fault) => Err(fault),
-    }
+    write_entry(&entry_of_ending(ending), out)?;
+    Ok(1)
 }

@@ -21,18 +21,10 @@ pub fn put_header<S: Sink>(input: &Input, out: &mut S) -> Result<u128, WriteFaul
     ensures wrote { Wrote (S.state out.old) (S.state out.new) (lines_of (header_of input.now)) result }
     ensures count { IfOk result (λ n. n ≡ length (header_of input.now)) }
 {
-    match put_start(input, out) {
-        Ok(()) => {}
-        Err(fault) => return Err(fault),
-    }
-    match put_numbers(input.numbers.as_slice(), out) {
-        Ok(()) => {}
-        Err(fault) => return Err(fault),
-    }
-    match put_image(input.base, &input.image, out) {
-        Ok(lines) => Ok(2 + input.numbers.len() as u128 + u128::from(lines)),
-        Err(fault) => Err(fault),
-    }
+    put_start(input, out)?;
+    put_numbers(input.numbers.as_slice(), out)?;
+    let lines = put_image(input.base, &input.image, out)?;
+    Ok(2 + input.numbers.len() as u128 + u128::from(lines))
 }
 
 fn put_start<S: Sink>(input: &Input, out: &mut S) -> Result<(), WriteFault>
@@ -40,21 +32,15 @@ fn put_start<S: Sink>(input: &Input, out: &mut S) -> Result<(), WriteFault>
         (lines_of (entries.Start input.now.limit ∷ entries.Register input.now.base (length input.now.image) ∷ []))
         result }
 {
-    match write_entry(&Entry::Start { limit: input.limit }, out) {
-        Ok(()) => {}
-        Err(fault) => return Err(fault),
-    }
+    write_entry(&Entry::Start { limit: input.limit }, out)?;
     let size = input.image.len() as u64;
-    match write_entry(
+    write_entry(
         &Entry::Register {
             base: input.base,
             size,
         },
         out,
-    ) {
-        Ok(()) => Ok(()),
-        Err(fault) => Err(fault),
-    }
+    )
 }
 
 fn put_numbers<S: Sink>(numbers: &[i64], out: &mut S) -> Result<(), WriteFault>
@@ -62,10 +48,7 @@ fn put_numbers<S: Sink>(numbers: &[i64], out: &mut S) -> Result<(), WriteFault>
 {
     'numbers: for place in 0..numbers.len() {
         let number = number_at(numbers, place);
-        match put_number(number, out) {
-            Ok(()) => {}
-            Err(fault) => return Err(fault),
-        }
+        put_number(number, out)?;
     }
     Ok(())
 }
@@ -93,10 +76,7 @@ fn put_image<S: Sink>(base: u64, image: &Image, out: &mut S) -> Result<u64, Writ
 {
     let mut count = 0;
     'lines: for line in 0..image.len() as u64 / LINE_SIZE {
-        match put_line(base + LINE_SIZE * line, &image.line(line), out) {
-            Ok(more) => count += more,
-            Err(fault) => return Err(fault),
-        }
+        count += put_line(base + LINE_SIZE * line, &image.line(line), out)?;
     }
     Ok(count)
 }
@@ -112,10 +92,8 @@ fn put_line<S: Sink>(addr: u64, line: &[u8], out: &mut S) -> Result<u64, WriteFa
     }
     let mut bytes = [0; 64];
     bytes.copy_from_slice(line);
-    match write_entry(&Entry::Image { addr, bytes }, out) {
-        Ok(()) => Ok(1),
-        Err(fault) => Err(fault),
-    }
+    write_entry(&Entry::Image { addr, bytes }, out)?;
+    Ok(1)
 }
 
 pub(crate) fn some_byte(line: &[u8]) -> bool

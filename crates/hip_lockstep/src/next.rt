@@ -61,13 +61,9 @@ pub(crate) fn read_next<C: Cabinet>(
     if reader.keep_usual(next) {
         return Ok(());
     }
-    match next_entry(count, reader, cabinet) {
-        Ok(entry) => {
-            next.set(entry);
-            Ok(())
-        }
-        Err(refusal) => Err(refusal),
-    }
+    let entry = next_entry(count, reader, cabinet)?;
+    next.set(entry);
+    Ok(())
 }
 
 // Whether nothing was read after n entries.

@@ -66,10 +66,7 @@ fn read_limit<C: Cabinet>(reader: &mut Reader, cabinet: &mut C) -> Result<u64, R
     ensures current { IsTrue (C.state cabinet.new).is_current }
     ensures reading { OnOk result (reader.new.progress ≡ Reading) }
 {
-    let entry = match next_entry(0, reader, cabinet) {
-        Ok(entry) => entry,
-        Err(refusal) => return Err(refusal),
-    };
+    let entry = next_entry(0, reader, cabinet)?;
     match valid_limit(&entry) {
         Some(limit) => Ok(limit),
         None => Err(ReplayRefusal::Misfit {
@@ -93,10 +90,7 @@ fn read_base<C: Cabinet>(
     ensures current { IsTrue (C.state cabinet.new).is_current }
     ensures reading { OnOk result (reader.new.progress ≡ Reading) }
 {
-    let entry = match next_entry(1, reader, cabinet) {
-        Ok(entry) => entry,
-        Err(refusal) => return Err(refusal),
-    };
+    let entry = next_entry(1, reader, cabinet)?;
     match valid_base(checked, &entry) {
         Some(base) => Ok(base),
         None => Err(ReplayRefusal::Misfit {
@@ -125,20 +119,14 @@ fn read_values<C: Cabinet>(
 {
     let mut entries = 2;
     'entries: loop {
-        let next = match next_entry(entries, reader, cabinet) {
-            Ok(next) => next,
-            Err(refusal) => return Err(refusal),
-        };
-        match given.take(checked, size, &next) {
-            Ok(true) => entries += 1,
-            Ok(false) => {
-                return Ok(Lockstep {
-                    next: KeptEntry::new(next),
-                    entries,
-                });
-            }
-            Err(_) => return Err(ReplayRefusal::NoMemory),
+        let next = next_entry(entries, reader, cabinet)?;
+        if !given.take(checked, size, &next)? {
+            return Ok(Lockstep {
+                next: KeptEntry::new(next),
+                entries,
+            });
         }
+        entries += 1;
     }
 }
 
@@ -155,14 +143,8 @@ pub fn read_header<C: Cabinet>(
     ensures read { ReadsHeader checked.now (C.state cabinet.old) reader.new (C.state cabinet.new) result }
     ensures current { IsTrue (C.state cabinet.new).is_current }
 {
-    let limit = match read_limit(reader, cabinet) {
-        Ok(limit) => limit,
-        Err(refusal) => return Err(refusal),
-    };
-    let base = match read_base(checked, reader, cabinet) {
-        Ok(base) => base,
-        Err(refusal) => return Err(refusal),
-    };
+    let limit = read_limit(reader, cabinet)?;
+    let base = read_base(checked, reader, cabinet)?;
     let mut given = Given {
         base,
         limit,
@@ -170,12 +152,7 @@ pub fn read_header<C: Cabinet>(
         image: Image::new(alloc),
     };
     let size = checked.region_size();
-    let lockstep = match read_values(checked, &mut given, size, reader, cabinet) {
-        Ok(lockstep) => lockstep,
-        Err(refusal) => return Err(refusal),
-    };
-    match given.fill(size) {
-        Ok(input) => Ok(Begun { input, lockstep }),
-        Err(_) => Err(ReplayRefusal::NoMemory),
-    }
+    let lockstep = read_values(checked, &mut given, size, reader, cabinet)?;
+    let input = given.fill(size)?;
+    Ok(Begun { input, lockstep })
 }

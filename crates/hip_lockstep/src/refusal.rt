@@ -1,4 +1,5 @@
 use hip_run_traces::MisfitKind;
+use hip_types::NoMemory;
 
 /// Why a trace was not replayed.
 #[derive(Clone, Copy, Debug, PartialEq, Eq)]
@@ -8,4 +9,15 @@ pub enum ReplayRefusal {
     /// A read of the file failed.
     ReadFault,
     NoMemory,
+}
+
+impl From<NoMemory> for ReplayRefusal {
+    ghost use Rattle.std.specs.Prelude.{◌≡◌};
+    ghost use Rattle.hip_lockstep.specs.declared.refusal.ReplayRefusal.TheVariants as refusals;
+
+    ghost from_gives = { λ _ refusal. refusal ≡ refusals.NoMemory };
+
+    fn from(_: NoMemory) -> ReplayRefusal {
+        ReplayRefusal::NoMemory
+    }
 }

@@ -71,10 +71,8 @@ impl Lockstep {
             });
         }
         self.entries += 1;
-        match read_next(self.entries, &mut self.next, reader, cabinet) {
-            Ok(()) => Ok(None),
-            Err(refusal) => Err(refusal),
-        }
+        read_next(self.entries, &mut self.next, reader, cabinet)?;
+        Ok(None)
     }
 
     // Compares the entry of the step that ends the run, and reads the end of the file.
@@ -98,9 +96,7 @@ impl Lockstep {
             });
         }
         self.entries += 1;
-        match read_end(self.entries, reader, cabinet) {
-            Ok(()) => Ok(Some(ending)),
-            Err(refusal) => Err(refusal),
-        }
+        read_end(self.entries, reader, cabinet)?;
+        Ok(Some(ending))
     }
 }

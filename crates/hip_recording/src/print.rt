@@ -66,10 +66,7 @@ fn print_steps<'a, S: Sink>(runner: &mut Runner<'a>, out: &mut S) -> Result<Endi
     runs_are_bounded();
     events_tell_output_and_ending();
     'steps: loop {
-        let event = match runner.next_print() {
-            Ok(event) => event,
-            Err(_) => return Err(RecordRefusal::NoMemory),
-        };
+        let event = runner.next_print()?;
         match ending_of(event) {
             Some(ending) => return Ok(ending),
             None => match put_event(out, event) {

@@ -59,10 +59,8 @@ fn record_whole<'a, S: Sink>(
     ensures delivered { HoldsNothing result (S.held out.new) }
 {
     let _program = machine.checked().program();
-    match put_header(machine.input(), out) {
-        Ok(header) => record_steps(alloc, machine, header, out),
-        Err(_) => Err(RecordRefusal::WriteFault),
-    }
+    let header = put_header(machine.input(), out)?;
+    record_steps(alloc, machine, header, out)
 }
 
 // Takes the steps of a run after its header, notes them, and writes their entries.
@@ -83,18 +81,13 @@ fn record_steps<'a, S: Sink>(
         Ok(tracker) => tracker,
         Err(_) => return Err(out_of_memory(out)),
     };
-    let ended = match put_noted(machine, &mut tracker, header, out) {
-        Ok(ended) => ended,
-        Err(refusal) => return Err(refusal),
-    };
-    match tracker.close(machine) {
-        Ok(findings) => Ok(Recorded {
-            ending: ended.ending,
-            entries: ended.entries,
-            findings,
-        }),
-        Err(_) => Err(RecordRefusal::NoMemory),
-    }
+    let ended = put_noted(machine, &mut tracker, header, out)?;
+    let findings = tracker.close(machine)?;
+    Ok(Recorded {
+        ending: ended.ending,
+        entries: ended.entries,
+        findings,
+    })
 }
 
 // Takes the steps of a run after its header, notes them, writes their entries and delivers them.
@@ -142,14 +135,8 @@ fn note_entries<'a, S: Sink>(
     let program = machine.checked().program();
     let _most = longest(program);
     'steps: loop {
-        let event = match tracker.next_event(machine) {
-            Ok(event) => event,
-            Err(_) => return Err(RecordRefusal::NoMemory),
-        };
-        match put_entry(event, out) {
-            Ok(more) => entries += more,
-            Err(_) => return Err(RecordRefusal::WriteFault),
-        }
+        let event = tracker.next_event(machine)?;
+        entries += put_entry(event, out)?;
         match ending_of(event) {
             Some(ending) => return Ok(Ended { ending, entries }),
             None => {}

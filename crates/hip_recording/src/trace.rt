@@ -45,10 +45,8 @@ fn put_trace<'a, S: Sink>(runner: &mut Runner<'a>, out: &mut S) -> Result<Ended,
     ensures delivered { HoldsNothing result (S.held out.new) }
 {
     let _program = runner.checked().program();
-    match put_header(runner.input(), out) {
-        Ok(header) => put_steps(runner, header, out),
-        Err(_) => Err(RecordRefusal::WriteFault),
-    }
+    let header = put_header(runner.input(), out)?;
+    put_steps(runner, header, out)
 }
 
 // Takes the steps of a run after its header, writes their entries and delivers them.
@@ -89,14 +87,8 @@ fn put_entries<'a, S: Sink>(
     let program = runner.checked().program();
     let _most = longest(program);
     'steps: loop {
-        let event = match runner.next_event() {
-            Ok(event) => event,
-            Err(_) => return Err(RecordRefusal::NoMemory),
-        };
-        match put_entry(event, out) {
-            Ok(more) => entries += more,
-            Err(_) => return Err(RecordRefusal::WriteFault),
-        }
+        let event = runner.next_event()?;
+        entries += put_entry(event, out)?;
         match ending_of(event) {
             Some(ending) => return Ok(Ended { ending, entries }),
             None => {}

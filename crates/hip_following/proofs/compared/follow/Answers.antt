@@ -1,4 +1,5 @@
 use Rattle.std.proofs.Common.{inr, suc, ◌^◌, ◌<◌, [], ◌∷◌, ◌++◌, Ok, refl, sym, ap, ◌∙◌, subst, arith}
+use Rattle.std.proofs.lemmas.Result.{err_from_is_err_and}
 use Rattle.hip_lockstep.specs.Laws.Openings.{stopped_after}
 use Rattle.hip_lockstep.specs.InStep.{FollowsStep, IsInStep}
 use Rattle.hip_run_traces.specs.Traces.{trace}
@@ -16,9 +17,11 @@ steps-init g c = record { program = refl; input = refl; current = c.requires.cur
 pub next_event-requires : goal.next_event-requires
 next_event-requires g c = inr c.steps.invariant.noted
 
-pub returns-in-Err-clause-steps : goal.returns-in-Err-clause-steps
-returns-in-Err-clause-steps g c = λ start h.
-    stopped_after start c.steps.reader (g.C.Cabinet.state c.steps.cabinet) (trace c.args.machine.now.program c.args.machine.now.input c.steps.machine.taken ++ c.steps.lockstep.next ∷ []) (c.steps.invariant.so_far start h).read
+pub returns-in_err-event-clause-steps : goal.returns-in_err-event-clause-steps
+returns-in_err-event-clause-steps g c = λ start h.
+    let p = err_from_is_err_and c.from_residual.result c.from_residual.ensures.1 in
+    rw (p.1, p.2)
+    (stopped_after start c.steps.reader (g.C.Cabinet.state c.steps.cabinet) (trace c.args.machine.now.program c.args.machine.now.input c.steps.machine.taken ++ c.steps.lockstep.next ∷ []) (c.steps.invariant.so_far start h).read)
 
 pub meet-requires-clause-room : goal.meet-requires-clause-room
 meet-requires-clause-room g c =
@@ -29,57 +32,60 @@ pub steps-smaller : goal.steps-smaller
 steps-smaller g c =
     let stated : IsStated c.args.machine.now.program c.args.machine.now.input = stated_by c.args.machine.now.program c.args.machine.now.input c.events_tell_output_and_ending.ensures.output c.events_tell_output_and_ending.ensures.ending c.runs_end.ensures c.runs_are_bounded.ensures.bounded in
     let is : IsGoing c.args.machine.now.program c.args.machine.now.input c.steps.machine = record { program = c.steps.invariant.program; input = c.steps.invariant.input; going = (c.steps.invariant.so_far c.requires.begun.0 c.requires.begun.1).going } in
-    let to = c.in-Ok.ensures.machine in
+    let to = c.in_ok-event.ensures.machine in
     let next = subst (λ o. FollowsStep c.args.machine.now.program c.args.machine.now.input c.requires.begun.0 to.before.taken c.meet.new.reader (g.C.Cabinet.state c.meet.new.cabinet) c.meet.new.self (Ok o)) c.in-None.is
-    (c.in-Ok-meet.ensures.meets c.args.machine.now.program c.args.machine.now.input c.requires.begun.0 to.before.taken (in_step_there stated is to c.requires.begun.0 c.steps.reader (g.C.Cabinet.state c.steps.cabinet) c.steps.lockstep (c.steps.invariant.so_far c.requires.begun.0 c.requires.begun.1)) (event_there stated is to)) in
+    (c.in_ok-meet.ensures.meets c.args.machine.now.program c.args.machine.now.input c.requires.begun.0 to.before.taken (in_step_there stated is to c.requires.begun.0 c.steps.reader (g.C.Cabinet.state c.steps.cabinet) c.steps.lockstep (c.steps.invariant.so_far c.requires.begun.0 c.requires.begun.1)) (event_there stated is to)) in
     nearer stated is to next.going
 
 pub steps-preserved : goal.steps-preserved
 steps-preserved g c =
     let stated : IsStated c.args.machine.now.program c.args.machine.now.input = stated_by c.args.machine.now.program c.args.machine.now.input c.events_tell_output_and_ending.ensures.output c.events_tell_output_and_ending.ensures.ending c.runs_end.ensures c.runs_are_bounded.ensures.bounded in
     let is : IsGoing c.args.machine.now.program c.args.machine.now.input c.steps.machine = record { program = c.steps.invariant.program; input = c.steps.invariant.input; going = (c.steps.invariant.so_far c.requires.begun.0 c.requires.begun.1).going } in
-    let to = c.in-Ok.ensures.machine in
+    let to = c.in_ok-event.ensures.machine in
     record {
       program = program_there stated is to;
       input = input_there stated is to;
-      current = c.in-Ok-meet.ensures.current;
+      current = c.in_ok-meet.ensures.current;
       so_far = λ start h.
           let next = subst (λ o. FollowsStep c.args.machine.now.program c.args.machine.now.input start to.before.taken c.meet.new.reader (g.C.Cabinet.state c.meet.new.cabinet) c.meet.new.self (Ok o)) c.in-None.is
-          (c.in-Ok-meet.ensures.meets c.args.machine.now.program c.args.machine.now.input start to.before.taken (in_step_there stated is to start c.steps.reader (g.C.Cabinet.state c.steps.cabinet) c.steps.lockstep (c.steps.invariant.so_far start h)) (event_there stated is to)) in
+          (c.in_ok-meet.ensures.meets c.args.machine.now.program c.args.machine.now.input start to.before.taken (in_step_there stated is to start c.steps.reader (g.C.Cabinet.state c.steps.cabinet) c.steps.lockstep (c.steps.invariant.so_far start h)) (event_there stated is to)) in
           subst (λ n. IsInStep c.args.machine.now.program c.args.machine.now.input start n c.meet.new.reader (g.C.Cabinet.state c.meet.new.cabinet) c.meet.new.self) (sym (taken_there stated is to)) next;
-      noted = noted_now c.next_event.new.self c.next_event.new.machine c.steps.tracker.header c.in-Ok.ensures.noted;
-      header = ap (λ t. t.header) c.in-Ok.ensures.noted ∙ c.steps.invariant.header;
+      noted = noted_now c.next_event.new.self c.next_event.new.machine c.steps.tracker.header c.in_ok-event.ensures.noted;
+      header = ap (λ t. t.header) c.in_ok-event.ensures.noted ∙ c.steps.invariant.header;
     }
 
 pub returns-in-Some-clause-steps : goal.returns-in-Some-clause-steps
 returns-in-Some-clause-steps g c =
     let stated : IsStated c.args.machine.now.program c.args.machine.now.input = stated_by c.args.machine.now.program c.args.machine.now.input c.events_tell_output_and_ending.ensures.output c.events_tell_output_and_ending.ensures.ending c.runs_end.ensures c.runs_are_bounded.ensures.bounded in
     let is : IsGoing c.args.machine.now.program c.args.machine.now.input c.steps.machine = record { program = c.steps.invariant.program; input = c.steps.invariant.input; going = (c.steps.invariant.so_far c.requires.begun.0 c.requires.begun.1).going } in
-    let to = c.in-Ok.ensures.machine in
+    let to = c.in_ok-event.ensures.machine in
     λ start h. (
       suc to.before.taken,
       subst (λ o. FollowsStep c.args.machine.now.program c.args.machine.now.input start to.before.taken c.meet.new.reader (g.C.Cabinet.state c.meet.new.cabinet) c.meet.new.self (Ok o)) c.in-Some.is
-          (c.in-Ok-meet.ensures.meets c.args.machine.now.program c.args.machine.now.input start to.before.taken (in_step_there stated is to start c.steps.reader (g.C.Cabinet.state c.steps.cabinet) c.steps.lockstep (c.steps.invariant.so_far start h)) (event_there stated is to)),
+          (c.in_ok-meet.ensures.meets c.args.machine.now.program c.args.machine.now.input start to.before.taken (in_step_there stated is to start c.steps.reader (g.C.Cabinet.state c.steps.cabinet) c.steps.lockstep (c.steps.invariant.so_far start h)) (event_there stated is to)),
     )
 
-pub returns-in-Err-meet-clause-steps : goal.returns-in-Err-meet-clause-steps
-returns-in-Err-meet-clause-steps g c =
+pub returns-in_err-meet-clause-steps : goal.returns-in_err-meet-clause-steps
+returns-in_err-meet-clause-steps g c =
     let stated : IsStated c.args.machine.now.program c.args.machine.now.input = stated_by c.args.machine.now.program c.args.machine.now.input c.events_tell_output_and_ending.ensures.output c.events_tell_output_and_ending.ensures.ending c.runs_end.ensures c.runs_are_bounded.ensures.bounded in
     let is : IsGoing c.args.machine.now.program c.args.machine.now.input c.steps.machine = record { program = c.steps.invariant.program; input = c.steps.invariant.input; going = (c.steps.invariant.so_far c.requires.begun.0 c.requires.begun.1).going } in
-    let to = c.in-Ok.ensures.machine in
-    λ start h. c.in-Err-meet.ensures.meets c.args.machine.now.program c.args.machine.now.input start to.before.taken (in_step_there stated is to start c.steps.reader (g.C.Cabinet.state c.steps.cabinet) c.steps.lockstep (c.steps.invariant.so_far start h)) (event_there stated is to)
+    let to = c.in_ok-event.ensures.machine in
+    λ start h.
+    let p = err_from_is_err_and c.from_residual-in_err-meet.result c.from_residual-in_err-meet.ensures.1 in
+    rw (p.1, p.2)
+    (c.in_err-meet.ensures.meets c.args.machine.now.program c.args.machine.now.input start to.before.taken (in_step_there stated is to start c.steps.reader (g.C.Cabinet.state c.steps.cabinet) c.steps.lockstep (c.steps.invariant.so_far start h)) (event_there stated is to))
 
 pub returns-in-Some-clause-over : goal.returns-in-Some-clause-over
 returns-in-Some-clause-over g c =
     let stated : IsStated c.args.machine.now.program c.args.machine.now.input = stated_by c.args.machine.now.program c.args.machine.now.input c.events_tell_output_and_ending.ensures.output c.events_tell_output_and_ending.ensures.ending c.runs_end.ensures c.runs_are_bounded.ensures.bounded in
     let is : IsGoing c.args.machine.now.program c.args.machine.now.input c.steps.machine = record { program = c.steps.invariant.program; input = c.steps.invariant.input; going = (c.steps.invariant.so_far c.requires.begun.0 c.requires.begun.1).going } in
-    let to = c.in-Ok.ensures.machine in
+    let to = c.in_ok-event.ensures.machine in
     let over = subst (λ o. FollowsStep c.args.machine.now.program c.args.machine.now.input c.requires.begun.0 to.before.taken c.meet.new.reader (g.C.Cabinet.state c.meet.new.cabinet) c.meet.new.self (Ok o)) c.in-Some.is
-    (c.in-Ok-meet.ensures.meets c.args.machine.now.program c.args.machine.now.input c.requires.begun.0 to.before.taken (in_step_there stated is to c.requires.begun.0 c.steps.reader (g.C.Cabinet.state c.steps.cabinet) c.steps.lockstep (c.steps.invariant.so_far c.requires.begun.0 c.requires.begun.1)) (event_there stated is to)) in
+    (c.in_ok-meet.ensures.meets c.args.machine.now.program c.args.machine.now.input c.requires.begun.0 to.before.taken (in_step_there stated is to c.requires.begun.0 c.steps.reader (g.C.Cabinet.state c.steps.cabinet) c.steps.lockstep (c.steps.invariant.so_far c.requires.begun.0 c.requires.begun.1)) (event_there stated is to)) in
     record {
       program = program_there stated is to;
       input = input_there stated is to;
       ended = over_there stated is to c.in-Some.ending over.ended;
-      noted = noted_now c.next_event.new.self c.next_event.new.machine c.steps.tracker.header c.in-Ok.ensures.noted;
-      header = ap (λ t. t.header) c.in-Ok.ensures.noted ∙ c.steps.invariant.header;
+      noted = noted_now c.next_event.new.self c.next_event.new.machine c.steps.tracker.header c.in_ok-event.ensures.noted;
+      header = ap (λ t. t.header) c.in_ok-event.ensures.noted ∙ c.steps.invariant.header;
     }

@@ -1,4 +1,5 @@
 use Rattle.std.proofs.Common.{length, sym, ap, ◌∙◌, subst}
+use Rattle.std.proofs.lemmas.Result.{err_from_is_err_and}
 use Rattle.hip_io.specs.Laws.SinkLaws.{writes_nothing}
 use Rattle.hip_io.specs.Sinks.{AppendsAll, AppendsPrefix}
 use Rattle.hip_io.specs.declared.sink.Put.TheVariants.{Done}
@@ -17,18 +18,20 @@ pub returns-then-not-some_byte-clause-count : goal.returns-then-not-some_byte-cl
 returns-then-not-some_byte-clause-count g c =
     ap (λ es. length es) (sym (no_image c.args.addr c.args.line.now c.requires (sym c.some_byte.ensures ∙ c.if-not-some_byte.true)))
 
-pub returns-in-Ok-clause-wrote : goal.returns-in-Ok-clause-wrote
-returns-in-Ok-clause-wrote g c =
+pub returns-clause-wrote : goal.returns-clause-wrote
+returns-clause-wrote g c =
     subst (λ es. AppendsAll (g.S.Sink.state c.args.out.now) (g.S.Sink.state c.write_entry.new.out) (lines_of es))
     (sym (one_image c.args.addr c.args.line.now c.requires (sym c.some_byte.ensures ∙ c.if-not-some_byte.false)))
-    (one_line (Image c.args.addr c.args.line.now) (subst (λ bytes. AppendsAll (g.S.Sink.state c.args.out.now) (g.S.Sink.state c.write_entry.new.out) (line_of (Image c.args.addr bytes))) c.copy_from_slice.ensures.after c.in-Ok.ensures))
+    (one_line (Image c.args.addr c.args.line.now) (subst (λ bytes. AppendsAll (g.S.Sink.state c.args.out.now) (g.S.Sink.state c.write_entry.new.out) (line_of (Image c.args.addr bytes))) c.copy_from_slice.ensures.after c.in_ok-write_entry.ensures))
 
-pub returns-in-Ok-clause-count : goal.returns-in-Ok-clause-count
-returns-in-Ok-clause-count g c =
+pub returns-clause-count : goal.returns-clause-count
+returns-clause-count g c =
     ap (λ es. length es) (sym (one_image c.args.addr c.args.line.now c.requires (sym c.some_byte.ensures ∙ c.if-not-some_byte.false)))
 
-pub returns-in-Err-clause-wrote : goal.returns-in-Err-clause-wrote
-returns-in-Err-clause-wrote g c =
-    subst (λ es. AppendsPrefix (g.S.Sink.state c.args.out.now) (g.S.Sink.state c.write_entry.new.out) (lines_of es))
+pub returns-in_err-write_entry-clause-wrote : goal.returns-in_err-write_entry-clause-wrote
+returns-in_err-write_entry-clause-wrote g c =
+    let p = err_from_is_err_and c.from_residual.result c.from_residual.ensures.1 in
+    rw p.1
+    (subst (λ es. AppendsPrefix (g.S.Sink.state c.args.out.now) (g.S.Sink.state c.write_entry.new.out) (lines_of es))
     (sym (one_image c.args.addr c.args.line.now c.requires (sym c.some_byte.ensures ∙ c.if-not-some_byte.false)))
-    (part_line (Image c.args.addr c.args.line.now) (subst (λ bytes. AppendsPrefix (g.S.Sink.state c.args.out.now) (g.S.Sink.state c.write_entry.new.out) (line_of (Image c.args.addr bytes))) c.copy_from_slice.ensures.after c.in-Err.ensures))
+    (part_line (Image c.args.addr c.args.line.now) (subst (λ bytes. AppendsPrefix (g.S.Sink.state c.args.out.now) (g.S.Sink.state c.write_entry.new.out) (line_of (Image c.args.addr bytes))) c.copy_from_slice.ensures.after c.in_err-write_entry.ensures)))

@@ -1,4 +1,5 @@
 use Rattle.std.proofs.Common.{refl, sym, ap, ◌∙◌, subst}
+use Rattle.std.proofs.lemmas.Result.{err_from_is_err_and}
 use Rattle.hip_run_traces.specs.Laws.TraceLaws.{length-header_of}
 use Rattle.hip_runs.specs.Found.Marks.{IsFound}
 use Rattle.hip_runs.specs.Step.{header_entries}
@@ -15,26 +16,30 @@ returns-in-Err-clause-records g c = λ start h.
 pub new-requires : goal.new-requires
 new-requires g c = header_small c.args.machine.now.program c.args.machine.now.input (subst (λ p. IsSound p) c.checked.ensures c.program-program.ensures.sound) c.requires.valid (c.runs_are_bounded.ensures.bounded c.args.machine.now.program c.args.machine.now.input) c.args.header c.requires.counted
 
-pub returns-in-Err-put_noted-clause-records : goal.returns-in-Err-put_noted-clause-records
-returns-in-Err-put_noted-clause-records g c = λ start h. c.in-Err-put_noted.ensures.trace start h
+pub returns-in_err-ended-clause-records : goal.returns-in_err-ended-clause-records
+returns-in_err-ended-clause-records g c = λ start h.
+    let p = err_from_is_err_and c.from_residual.result c.from_residual.ensures.1 in
+    rw (p.1, p.2) (c.in_err-ended.ensures.trace start h)
 
 pub put_noted-requires-clause-noted : goal.put_noted-requires-clause-noted
 put_noted-requires-clause-noted g c = subst (λ (t : Tracked). HasNoted t c.args.machine.now) (sym c.in-Ok.ensures) (record { working = refl; all = c.requires.fresh })
 
 pub close-requires-clause-header : goal.close-requires-clause-header
 close-requires-clause-header g c =
-    c.in-Ok-put_noted.ensures.ended.header ∙ ap (λ (t : Tracked). t.header) c.in-Ok.ensures ∙ c.requires.counted
-    ∙ length-header_of c.args.machine.now.input ∙ ap header_entries (sym c.in-Ok-put_noted.ensures.ended.input)
+    c.in_ok-ended.ensures.ended.header ∙ ap (λ (t : Tracked). t.header) c.in-Ok.ensures ∙ c.requires.counted
+    ∙ length-header_of c.args.machine.now.input ∙ ap header_entries (sym c.in_ok-ended.ensures.ended.input)
 
-pub returns-in-Ok-close-clause-records : goal.returns-in-Ok-close-clause-records
-returns-in-Ok-close-clause-records g c = λ start h. record {
-  put = c.in-Ok-put_noted.ensures.trace start h;
+pub returns-clause-records : goal.returns-clause-records
+returns-clause-records g c = λ start h. record {
+  put = c.in_ok-ended.ensures.trace start h;
   found =
-      subst (λ p. IsFound p c.args.machine.now.input c.in-Ok-close.findings) c.in-Ok-put_noted.ensures.ended.program
-      (subst (λ i. IsFound c.put_noted.new.machine.program i c.in-Ok-close.findings) c.in-Ok-put_noted.ensures.ended.input c.in-Ok-close.ensures);
+      subst (λ p. IsFound p c.args.machine.now.input c.in_ok-findings.findings) c.in_ok-ended.ensures.ended.program
+      (subst (λ i. IsFound c.put_noted.new.machine.program i c.in_ok-findings.findings) c.in_ok-ended.ensures.ended.input c.in_ok-findings.ensures);
 }
 
-pub returns-in-Err-close-clause-records : goal.returns-in-Err-close-clause-records
-returns-in-Err-close-clause-records g c = λ start h.
-    stopped_whole c.args.machine.now.program c.args.machine.now.input start (g.S.Sink.state c.put_noted.new.out) c.in-Ok-put_noted.ended
-    (c.in-Ok-put_noted.ensures.trace start h)
+pub returns-in_err-findings-clause-records : goal.returns-in_err-findings-clause-records
+returns-in_err-findings-clause-records g c = λ start h.
+    let p = err_from_is_err_and c.from_residual-in_err-findings.result c.from_residual-in_err-findings.ensures.1 in
+    rw (p.1, p.2)
+    (stopped_whole c.args.machine.now.program c.args.machine.now.input start (g.S.Sink.state c.put_noted.new.out) c.in_ok-ended.ended
+    (c.in_ok-ended.ensures.trace start h))

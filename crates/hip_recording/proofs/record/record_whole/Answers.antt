@@ -1,4 +1,5 @@
 use Rattle.std.proofs.Common.{◌+◌, ◌<◌, ◌^◌, length, sym, ap, ◌∙◌, subst}
+use Rattle.std.proofs.lemmas.Result.{err_from_is_err_and}
 use Rattle.hip_lockstep.proofs.Rooms.{within}
 use Rattle.hip_runs.specs.declared.input.Input.{Input}
 use Rattle.hip_run_traces.specs.Traces.{header_of}
@@ -17,16 +18,18 @@ pub record_steps-requires : goal.record_steps-requires
 record_steps-requires g c = record {
   valid = c.input.ensures.valid;
   fresh = c.requires;
-  counted = c.in-Ok.ensures.count ∙ ap (λ (i : Input). length (header_of i)) c.input.ensures.is;
+  counted = c.in_ok-header.ensures.count ∙ ap (λ (i : Input). length (header_of i)) c.input.ensures.is;
 }
 
-pub returns-in-Ok-clause-records : goal.returns-in-Ok-clause-records
-returns-in-Ok-clause-records g c =
+pub returns-clause-records : goal.returns-clause-records
+returns-clause-records g c =
     let start = g.S.Sink.state c.args.out.now in
-    c.record_steps.ensures.records start (subst (λ (i : Input). AppendsAll start (g.S.Sink.state c.put_header.new.out) (lines_of (header_of i))) c.input.ensures.is c.in-Ok.ensures.wrote)
+    c.record_steps.ensures.records start (subst (λ (i : Input). AppendsAll start (g.S.Sink.state c.put_header.new.out) (lines_of (header_of i))) c.input.ensures.is c.in_ok-header.ensures.wrote)
 
-pub returns-in-Err-clause-records : goal.returns-in-Err-clause-records
-returns-in-Err-clause-records g c =
+pub returns-in_err-header-clause-records : goal.returns-in_err-header-clause-records
+returns-in_err-header-clause-records g c =
     let start = g.S.Sink.state c.args.out.now in
-    header_failed c.args.machine.now.program c.args.machine.now.input start (g.S.Sink.state c.put_header.new.out)
-    (subst (λ (i : Input). AppendsPrefix start (g.S.Sink.state c.put_header.new.out) (lines_of (header_of i))) c.input.ensures.is c.in-Err.ensures.wrote)
+    let p = err_from_is_err_and c.from_residual.result c.from_residual.ensures.1 in
+    rw (p.1, p.2)
+    (header_failed c.args.machine.now.program c.args.machine.now.input start (g.S.Sink.state c.put_header.new.out)
+    (subst (λ (i : Input). AppendsPrefix start (g.S.Sink.state c.put_header.new.out) (lines_of (header_of i))) c.input.ensures.is c.in_err-header.ensures.wrote))

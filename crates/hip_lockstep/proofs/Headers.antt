@@ -196,9 +196,9 @@ both_starts I p q = then_part (Start I.limit ∷ []) (Register I.base (length I.
 both_started : {old mid new : SinkState} (I : Run) → AppendsAll old mid (line_of (Start I.limit)) → AppendsAll mid new (line_of (Register I.base (length I.image))) → AppendsAll old new (lines_of (Start I.limit ∷ Register I.base (length I.image) ∷ []))
 both_started I p q = then_all (Start I.limit ∷ []) (Register I.base (length I.image) ∷ []) (one_line (Start I.limit) p) (one_line (Register I.base (length I.image)) q)
 
-pub both_wrote : {T E : Type 0} {old mid new : SinkState} (I : Run) (r : Result T E) → AppendsAll old mid (line_of (Start I.limit)) → Wrote mid new (line_of (Register I.base (length I.image))) r → Wrote old new (lines_of (Start I.limit ∷ Register I.base (length I.image) ∷ [])) r
-both_wrote I (Ok _) p q = both_started I p q
-both_wrote I (Err _) p q = both_starts I p q
+pub both_wrote : {T E : Type 0} {old mid : SinkState} (new : SinkState) (I : Run) (r : Result T E) → AppendsAll old mid (line_of (Start I.limit)) → Wrote mid new (line_of (Register I.base (length I.image))) r → Wrote old new (lines_of (Start I.limit ∷ Register I.base (length I.image) ∷ [])) r
+both_wrote new I (Ok _) p q = both_started I p q
+both_wrote new I (Err _) p q = both_starts I p q
 
 abbrev starts : Run → List Entry
 starts I = Start I.limit ∷ Register I.base (length I.image) ∷ []

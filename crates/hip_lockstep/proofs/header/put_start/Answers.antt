@@ -13,5 +13,5 @@ returns-in_err-write_entry g c =
 
 pub returns : goal.returns
 returns g c =
-    both_wrote c.args.input.now c.write_entry-2.result c.in_ok-write_entry.ensures
+    both_wrote (g.S.Sink.state c.write_entry-2.new.out) c.args.input.now c.write_entry-2.result c.in_ok-write_entry.ensures
     (subst (λ n. Wrote (g.S.Sink.state c.write_entry.new.out) (g.S.Sink.state c.write_entry-2.new.out) (line_of (entries.Register c.args.input.now.base n)) c.write_entry-2.result) c.len-size.ensures c.write_entry-2.ensures)

@@ -5,7 +5,6 @@ from __future__ import annotations
 import math
 import os
 import resource
-import statistics
 import subprocess
 import sys
 import time
@@ -60,12 +59,12 @@ def spent(command: Command) -> float:
 
 
 def times(runs: int, *commands: Command) -> list[float]:
-    """The median time of each command. They run in turn, so that other load affects all of them equally."""
+    """The least time of each command, since other work on the machine only adds to a time. They run in turn, so that it affects all of them."""
     taken: list[list[float]] = [[] for _ in commands]
     for _ in range(runs):
         for found, command in zip(taken, commands):
             found.append(spent(command))
-    return [statistics.median(found) for found in taken]
+    return [min(found) for found in taken]
 
 
 def peak(command: Command) -> float:

@@ -56,6 +56,22 @@ pub record AreNoted (P : Program) (I : Input) (n : ℕ) (c : Notes) : Type 0 whe
   pub flags : WereHit c.hit.keys c.flags.items
   pub reports : c.header ≡ header_entries I → c.reports ≡ reports P I n
 
+-- The notes of no steps, where the trace has this number of entries before the first step: the entries are counted,
+-- and nothing else is noted.
+pub record AreOfNoSteps (before : ℕ) (c : Notes) : Type 0 where
+  pub header : c.header ≡ before
+  pub steps : c.steps ≡ 0
+  pub entries : c.entries ≡ before
+  pub fence : c.fence ≡ None
+  pub calls : c.calls ≡ []
+  pub stores : c.pending.stores.items ≡ []
+  pub lines : (j : ℕ) → lines_of c.pending.lines j ≡ None
+  pub marks : c.marks.keys ≡ []
+  pub recent : AreMet [] c.recent.items
+  pub hit : c.hit.keys ≡ []
+  pub flags : WereHit [] c.flags.items
+  pub reports : c.reports ≡ []
+
 -- ---- what an event does to what is kept of pending stores
 
 -- The lines that contain one of n bytes at offset o are changed.

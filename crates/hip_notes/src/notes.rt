@@ -1,14 +1,12 @@
-ghost use Rattle.std.specs.Prelude.{◌≡◌, ◌+◌, ◌-◌, ◌<◌, ◌≤◌, ◌^◌, Some, None, cond, true, length, nat_le, IfOk, OnOk};
+ghost use Rattle.std.specs.Prelude.{◌≡◌, ◌+◌, ◌-◌, ◌<◌, ◌^◌, Some, None, cond, true, length, nat_le, IfOk, OnOk};
 ghost use Rattle.hip_types.specs.Distinct.{met};
-ghost use Rattle.hip_tree.specs.declared.program.Program.{Program};
-ghost use Rattle.hip_runs.specs.declared.input.Input.{Input};
 ghost use Rattle.hip_runs.specs.Found.Marks.{same_mark, unless_ended};
 ghost use Rattle.hip_runs.specs.Found.Reports.{checked_range};
 ghost use Rattle.hip_runs.specs.StoredParts.Since.{fences};
 ghost use Rattle.hip_runs.specs.Step.{has_entry};
 ghost use Rattle.hip_notes.specs.MetMarks.{AreMet};
 ghost use Rattle.hip_notes.specs.CallPaths.{births_of};
-ghost use Rattle.hip_notes.specs.Noted.{AreNoted, EndsBelow, Follows, IsForgotten, Reported};
+ghost use Rattle.hip_notes.specs.Noted.{AreOfNoSteps, EndsBelow, Follows, IsForgotten, Reported};
 ghost use Rattle.hip_notes.specs.Pending.{AreInOrder};
 ghost use Rattle.hip_notes.specs.Regions.{IsWhole};
 
@@ -61,8 +59,7 @@ pub struct Notes {
 impl Notes {
     /// Notes of no steps, of a run whose trace has `header` entries before the first one.
     pub fn new(alloc: Global, header: u128) -> Result<Notes, NoMemory>
-        ensures header { IfOk result (λ notes. notes.header ≡ header) }
-        ensures noted { header ≤ 2 ^ 64 → IfOk result (λ notes. (P : Program) (I : Input) → AreNoted P I 0 notes) }
+        ensures { IfOk result (AreOfNoSteps header) }
     {
         let calls = Calls::none(alloc)?;
         let recent = none_recent(alloc)?;

@@ -1,9 +1,19 @@
 use Rattle.std.proofs.Common.{[], refl}
-use Rattle.hip_notes.proofs.Blank.{blank, none_hit}
+use Rattle.hip_notes.proofs.Blank.{none_hit}
 use Rattle.hip_notes.proofs.notes.Notes.new.Goals as goal
 
-pub returns-clause-noted : goal.returns-clause-noted
-returns-clause-noted c = λ le P I.
-    let pending = c.new.ensures in
-    blank _ le refl refl refl c.in_ok-calls.ensures pending.stores pending.lines c.new-2.ensures.empty
-    c.in_ok-recent.ensures c.new-3.ensures.empty (none_hit [] _ c.new-4.ensures.items) c.new-5.ensures P I
+pub returns : goal.returns
+returns c = record {
+  header = refl;
+  steps = refl;
+  entries = refl;
+  fence = refl;
+  calls = c.in_ok-calls.ensures;
+  stores = c.new.ensures.stores;
+  lines = c.new.ensures.lines;
+  marks = c.new-2.ensures.empty;
+  recent = c.in_ok-recent.ensures;
+  hit = c.new-3.ensures.empty;
+  flags = none_hit [] _ c.new-4.ensures.items;
+  reports = c.new-5.ensures;
+}

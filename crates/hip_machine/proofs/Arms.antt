@@ -77,6 +77,23 @@ module _ {old : Core} {m : Moment} where
     storage = s.storage;
   })
 
+  -- The run ends in no turn.
+  pub stops_still : (new : Core) (e : Ending) → new ≡ record old { ending = Some e; taken = old.taken + 1 } → Before old m →
+      Stands m.program m.input new (record m.world { ending = Some e }) m.top m.rest m.after.steps
+  stops_still new e is b = let s = b.stands in subst (λ (c : Core). Stands m.program m.input c (record m.world { ending = Some e }) m.top m.rest m.after.steps) (sym is) (record {
+    limit = s.limit;
+    turns = s.turns;
+    taken = counted_next _ _ _ s.taken b.counted;
+    ending = refl;
+    left = s.left;
+    placed = s.placed;
+    registers = s.registers;
+    mark = s.mark;
+    saved = s.saved;
+    blocks = s.blocks;
+    storage = s.storage;
+  })
+
   -- A slot takes a value, and so does the register of its name.
   pub assigns : (new : Core) (slot v : ℕ) →
       new ≡ record old { slots = new.slots; top = record old.top { place = old.top.place + 1 }; taken = old.taken + 1; turns = old.turns + 1 } → new.slots.items ≡ slice_set old.slots.items (old.top.base + slot) v →

@@ -30,7 +30,7 @@ use Rattle.hip_code.specs.declared.op.Op.{Op}
 use Rattle.hip_machine.specs.declared.core_parts.Core.{Core}
 use Rattle.hip_machine.specs.Acts.{Acts, ActsOn, Before, Carries, CarriesHere, Fits, HasNext, IsLaid, IsReady, Keeps, Moment, action_here, acted, carried, numbers_of, seen_at, seen_of}
 use Rattle.hip_machine.specs.Stands.{Stands, StandsOn, StandsFor, Stepped}
-use Rattle.hip_machine.proofs.Arms.{counted_next, mark_is_high, mark_is_low}
+use Rattle.hip_machine.proofs.Arms.{mark_is_high, mark_is_low, stops_still}
 use Rattle.hip_machine.proofs.Known.{all_known, end_keeps, phis_known, values_kept}
 use Rattle.hip_machine.proofs.Slots.{result_within}
 
@@ -70,26 +70,12 @@ pub carries_cut : {I : Input} {code : Code} {old new : Core} {e : Event} {o : Op
 unfolding carry_out
 carries_cut {I} {code} {old} {new} {e} {o} t above is stops = record {
   carries = λ m same b placed past.
-      let s = b.stands in
-      let turns = s.turns in
-      let limit = s.limit in
+      let turns = b.stands.turns in
+      let limit = b.stands.limit in
       let passed : nat_lt m.world.turns m.input.limit ≡ false = le-ltb _ _ (omega (arith, above, turns, limit)) in
       let x = action_here code old o m in
       let cut : is_cut m.input m.world (record { turn = op_turn o; action = x }) ≡ true = ap₂ (λ t n. t && not n) t passed in
-      let stands = subst (λ (c : Core). Stands m.program m.input c (record m.world { ending = Some Cut }) m.top m.rest m.after.steps) (sym stops) (record {
-        limit = s.limit;
-        turns = s.turns;
-        taken = counted_next _ _ _ s.taken b.counted;
-        ending = refl;
-        left = s.left;
-        placed = s.placed;
-        registers = s.registers;
-        mark = s.mark;
-        saved = s.saved;
-        blocks = s.blocks;
-        storage = s.storage;
-      }) in
-      subst (λ b. Stepped m.program m.input new e (cond b (stop Cut m.world (m.top ∷ m.rest) m.lines m.after) (acted m (op_turn o) x)) (cond b (events.End Cut) (seen_of m x))) (sym cut) (record { stands = stands; event = is });
+      subst (λ b. Stepped m.program m.input new e (cond b (stop Cut m.world (m.top ∷ m.rest) m.lines m.after) (acted m (op_turn o) x)) (cond b (events.End Cut) (seen_of m x))) (sym cut) (record { stands = stops_still new Cut stops b; event = is });
 }
 
 -- ---- what comes next

@@ -42,7 +42,7 @@ use Rattle.hip_machine.specs.Acts.{Acts, Before, Does, DoesNext, HasNext, Keeps,
 use Rattle.hip_machine.specs.Below.{AreSaved}
 use Rattle.hip_machine.specs.Blocks.{blocks_of}
 use Rattle.hip_machine.specs.Stands.{Stands, Stepped}
-use Rattle.hip_machine.proofs.Arms.{assigns, counted_next, placed_next, turn_next}
+use Rattle.hip_machine.proofs.Arms.{assigns, counted_next, placed_next, stops_still, turn_next}
 use Rattle.hip_machine.proofs.Slots.{kept_set, saved_kept}
 
 -- The site of the op that is next in the machine's top frame, by its index in its block.
@@ -161,21 +161,9 @@ pub halts : {old new : Core} {e : Event} {x : Moment → Action} (st : Contents)
 unfolding perform
 halts {old} {new} {e} {x} st kind same is event stops = record {
   does = λ m b past.
-      let s = b.stands in
+      let core = stops ∙ ap (λ (y : Contents). record old { storage = y; ending = Some (Trap kind); taken = old.taken + 1 }) same in
       subst (λ y. Stepped m.program m.input new e (acted m false y) (seen_of m y)) (sym (is m b)) (record {
-        stands = subst (λ (c : Core). Stands m.program m.input c (record m.world { ending = Some (Trap kind) }) m.top m.rest m.after.steps) (sym (stops ∙ ap (λ (y : Contents). record old { storage = y; ending = Some (Trap kind); taken = old.taken + 1 }) same)) (record {
-          limit = s.limit;
-          turns = s.turns;
-          taken = counted_next _ _ _ s.taken b.counted;
-          ending = refl;
-          left = s.left;
-          placed = s.placed;
-          registers = s.registers;
-          mark = s.mark;
-          saved = s.saved;
-          blocks = s.blocks;
-          storage = s.storage;
-        });
+        stands = stops_still new (Trap kind) core b;
         event = event;
       });
 }

@@ -101,7 +101,7 @@ pub record HasBeenCut (table : Answer → Type 0) (s : Sinks) : Type 0 where
   pub carried_out : outcome_of answer.status ≡ CarriedOut
   pub written : CutsOut s answer ⊎ CutsNotes s answer
 
--- A command that writes its text for out while it makes it has written a front of the text.
+-- A command that writes its text for out before the whole text is made has written a front of the text.
 abbrev pub HasBegun : Bool → (Answer → Type 0) → Sinks → Type 0
 HasBegun true table s = (answer : Answer) × table answer × WritesFront s answer
 HasBegun false table s = ⊥
@@ -123,7 +123,7 @@ answered CutShort table begins old new s status = HasBeenCut table s
 answered RanOut table begins old new s status = HasRunOut table begins old new s
 
 -- What a call does that ends with this status. `table` has the command's answers, and `begins` says whether the command
--- writes its text for out while it makes it.
+-- writes its text for out before the whole text is made.
 pub record HasAnswered (table : Answer → Type 0) (begins : Bool) (old new : CabinetState) (s : Sinks)
     (status : Status) : Type 0 where
   pub how : answered (outcome_of status) table begins old new s status

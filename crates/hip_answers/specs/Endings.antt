@@ -9,7 +9,8 @@ use Rattle.hip_runs.specs.declared.event.Ending.TheVariants as endings
 use Rattle.hip_runs.specs.declared.event.TrapKind.{TrapKind}
 use Rattle.hip_trace.specs.Entries.{trap_text}
 
--- The status of a command that runs a program: Done whatever number `main` returned, and else the trap or the cut.
+-- The status of a command that runs a program: Done if the run stops, whatever number `main` returned, and else the
+-- trap or the cut.
 abbrev pub status_of_ending : Ending → Status
 status_of_ending (endings.Stop code) = statuses.Done
 status_of_ending (endings.Trap kind) = statuses.Trapped kind

@@ -16,8 +16,8 @@ pub fn refuse<N: Sink>(notes: &mut N, status: Status) -> Status
     status
 }
 
-/// The status of a call that has tried to write its text for the notes, after that for the output: the status, or a
-/// write fault. Then it tries to write the line of the write fault.
+/// The status of a call that has written to the output and then tried to write its text for the notes: the status, or a
+/// write fault. After a write fault it tries to write the line of the write fault.
 pub fn finish<N: Sink>(notes: &mut N, tried: Put, status: Status) -> Status
     ensures { Finishes tried status (N.state notes.old) (N.state notes.new) result }
 {

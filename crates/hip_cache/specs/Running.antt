@@ -1,4 +1,4 @@
--- A machine on its way: its lines hold what is pending in the state of its runner.
+-- A machine during its run: its lines hold what is pending in the state of its runner.
 use Rattle.hip_runs.specs.Seen.{Seen, state_of}
 use Rattle.hip_runs.specs.Standing.{HoldsLines}
 use Rattle.hip_cache.specs.declared.machine.Machine.TheInside.{Inside}

@@ -13,7 +13,7 @@ use Rattle.hip_sound.specs.Sound.{top_names}
 use Rattle.hip_calls.specs.Fresh.{candidate, fresh_from, fresh_name, fresh_for, name_of, numeral}
 use Rattle.hip_calls.specs.Laws.FreshLaws.{IsFirstFree, fresh-first, fresh-free, first_alike, among_alike}
 
--- The same names are taken.
+-- Two lists have the same taken names.
 abbrev pub Alike : List (List ℕ) → List (List ℕ) → Type 0
 Alike xs ys = (q : List ℕ) → is_among xs q ≡ is_among ys q
 

@@ -10,7 +10,7 @@ nothing_after [] k e = refl
 nothing_after (x ∷ xs) zero e = cc
 nothing_after (x ∷ xs) (suc k) e = nothing_after xs k e
 
--- Where the list ends, nothing more is reached.
+-- At the end of the list, nothing more is reached.
 pub reached-end : (P : Program) (steps place : ℕ) (seen : List ℕ) → slice_get seen place ≡ None → reached P steps place seen ≡ seen
 reached-end P zero place seen e = refl
 reached-end P (suc steps) place seen e =

@@ -10,7 +10,7 @@ abbrev pub numeral_in : ℕ → ℕ → List ℕ
 numeral_in zero n = []
 numeral_in (suc more) n = if nat_lt n 10 then (48 + n) ∷ [] else numeral_in more (n / 10) ++ (48 + n % 10) ∷ []
 
--- A number in decimal, however long it is. (`decimal` of std stops at 64 digits, and names are to differ for all
+-- A number in decimal, however long it is. (`decimal` of std stops at 64 digits, and names have to differ for all
 -- numbers.)
 abbrev pub numeral : ℕ → List ℕ
 numeral n = numeral_in (suc n) n
@@ -20,7 +20,7 @@ abbrev pub candidate : List ℕ → ℕ → List ℕ
 candidate name zero = name ++ codes ".pm"
 candidate name (suc k) = name ++ (codes ".pm" ++ numeral (suc k))
 
--- The first of `more` candidates from number k on that is not taken; where all are taken, the next candidate.
+-- The first of `more` candidates from number k on that is not taken. If all are taken, the next candidate.
 abbrev pub fresh_from : List (List ℕ) → List ℕ → ℕ → ℕ → List ℕ
 fresh_from taken name zero k = candidate name k
 fresh_from taken name (suc more) k =

@@ -13,14 +13,14 @@ use Rattle.hip_calls.specs.Laws.FreshLaws.{IsFirstFree}
 use Rattle.hip_calls.specs.Reach.{called_at, called_from, callees}
 use Rattle.hip_calls.specs.Laws.ReachLaws.{Has}
 
--- Each callee of these calls passes the test, and so does each function that a passing one calls.
+-- Each callee of these calls passes the test, and so does each function that a passing function calls.
 pub record PassesOn (P : Program) (sites : List Site) (test : ℕ → Bool) : Type 0 where
   pub first : (s : Site) (f : ℕ) → has_site sites s ≡ true → Has (called_at P (instr_of P s)) f
       → test f ≡ true
   pub onward : (f g : ℕ) → test f ≡ true → Has (called_from P f) g → test g ≡ true
 
--- The functions that calls reach from these calls. They are functions of the program, each once. The callees are there,
--- and so is each function that one of them calls, and no other function is there.
+-- The functions that calls reach from these calls. They are functions of the program, each once. The list has the
+-- callees of the calls and each function that a function of the list calls, and no other function.
 pub record AreReached (P : Program) (sites : List Site) (reached : List ℕ) : Type 0 where
   pub functions : (f : ℕ) → Has reached f → f < length P.functions
   pub distinct : IsDistinct nat_eq reached
@@ -33,8 +33,8 @@ pub record AreReached (P : Program) (sites : List Site) (reached : List ℕ) : T
 abbrev pub CalleesAreReached : Type 0
 CalleesAreReached = (P : Program) (sites : List Site) → AreReached P sites (callees P sites)
 
--- Fresh names for copies of functions: one for each. It is the first of `f.pm`, `f.pm1`, `f.pm2` and so on that neither
--- the program nor an earlier copy has, and no external function has it.
+-- Fresh names for copies of functions, one for each copy. Each is the first of `f.pm`, `f.pm1`, `f.pm2` and so on that
+-- is not a name of the program or of an earlier copy, and is not the name of an external function.
 pub record AreFresh (P : Program) (functions : List ℕ) (names : List (List ℕ)) : Type 0 where
   pub each : length names ≡ length functions
   pub distinct : IsDistinct bytes_eq names

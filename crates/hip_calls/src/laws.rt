@@ -7,7 +7,7 @@ pub fn callees_are_reached()
     ensures { CalleesAreReached }
 {}
 
-/// Each fresh name is the first candidate that is not in use, and none of them is an external function's.
+/// Each fresh name is the first candidate that is not in use, and no fresh name is the name of an external function.
 pub fn fresh_names_are_fresh()
     ensures { FreshNamesAreFresh }
 {}

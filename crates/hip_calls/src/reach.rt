@@ -108,7 +108,7 @@ fn number_at(seen: &IndexSet<usize>, place: usize) -> Option<usize>
     seen.get_index(place).copied()
 }
 
-/// Adds what calls reach from the functions that are there.
+/// Adds the functions that calls reach from the functions in the list.
 fn add_reached(seen: &mut IndexSet<usize>, functions: &FunctionTable<'_>) -> Result<(), NoMemory>
     ensures { OnOk result (seen.new.keys ≡ reached functions.now (length functions.now.functions) 0 seen.old.keys) }
 {

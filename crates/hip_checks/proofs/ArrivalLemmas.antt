@@ -100,7 +100,7 @@ predecessors-push (x ∷ xs) b at name = by_test (is_predecessor at x) (predeces
     by_test false e = e
 
 module _ {S : Type 0} {old new : IndexMap (Bor (List ℕ)) (List (List ℕ)) S} where
-  -- One block more.
+  -- The predecessors after one more block.
   pub predecessors_more : (bs : List Block) (i : ℕ) (b : Block) → i < length bs → b ≡ get_or bs i b → FindsPredecessors old (take i bs) → Arrives old new (end_labels b.end) b.label → FindsPredecessors new (take (i + 1) bs)
   predecessors_more bs i b within is so_far more = record {
     finds = λ at name.

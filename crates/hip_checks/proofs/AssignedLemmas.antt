@@ -117,7 +117,7 @@ step_to_graph fn b c differ leads =
       there = rw (length_graph fn) (slice_get_within fn.blocks c to.0 to.1);
     }
 
--- A number that a step leads from is that of a block.
+-- If a step leads from a number, a block has this number.
 block_with_steps : (fn : Function) (b c : ℕ) → Contains (get_or (graph_of fn) b []) c → (block : Block) × (slice_get fn.blocks b ≡ Some block)
 block_with_steps fn b c h = ⊎_elim (λ g. (g.0, g.2)) (λ g. absurd (none g.0)) (slice_get_cases fn.blocks b).1
   where
@@ -198,7 +198,8 @@ before_some [] point b name h = absurd h
 before_some (x ∷ xs) point zero name h = (x, refl, h)
 before_some (x ∷ xs) point (suc b) name h = before_some xs point b name h
 
--- A register that can be used at a point of a block has an entry that says so.
+-- If a register can be used at a point of a block, it has an entry of this block and can be used at the point by that
+-- entry.
 pub usable_at : (fn : Function) (point : Point) (b : ℕ) (name : List ℕ) → NamesDiffer fn → IsAmong (names_before fn point b) name → (after : ℕ) × (is_there point after ≡ true) × (value_of (inner_entries fn) name ≡ Some (Assigned b after))
 usable_at fn point b name differ h =
     let at = before_some fn.blocks point b name h in
@@ -211,7 +212,8 @@ assigned_by_entry fn name d after point (inr i) there =
     let a : IsAssignedIn i.number i.block name d after = assigned_in i.number i.block name d after i.is in
     rw (a.same, i.here) (a.before point there)
 
--- And the other way round.
+-- A register whose entry says that it can be used at a point of its block is among the names that are assigned before
+-- the point.
 pub assigned_at : (fn : Function) (name : List ℕ) (d after : ℕ) (point : Point) → value_of (inner_entries fn) name ≡ Some (Assigned d after) → is_there point after ≡ true → IsAmong (names_before fn point d) name
 assigned_at fn name d after point e there = assigned_by_entry fn name d after point (entry_of_function fn name (Assigned d after) (value_is_entry (inner_entries fn) name (Assigned d after) e)) there
 
@@ -248,7 +250,7 @@ among_last : (fn : Function) (earlier : List ℕ) (last : ℕ) (point : Point) (
 among_last fn earlier last point name h =
     among_right (names_of (parameter_registers fn)) (flat_map (whole_block_names fn) earlier ++ names_before fn point last) name (among_right (flat_map (whole_block_names fn) earlier) (names_before fn point last) name h)
 
--- If no block has to be passed.
+-- If no block has to be passed, the test of the use's own block holds.
 here_by_test : (b : Bool) (d : ℕ) → (if b then None else Some d) ≡ None → b ≡ true
 here_by_test true d e = refl
 here_by_test false d e = cc
@@ -265,7 +267,7 @@ nothing_to_pass fn last point name (Some (Assigned d after)) v e earlier =
 pub assigned_here : (fn : Function) (last : ℕ) (point : Point) (name : List ℕ) → to_pass (length fn.blocks) last point (value_of (inner_entries fn) name) ≡ None → IsAssigned fn last point name
 assigned_here fn last point name e path u = u.none (nothing_to_pass fn last point name (value_of (inner_entries fn) name) refl e u.earlier)
 
--- Where a block is passed on each path.
+-- The block that has to be passed is the one that assigns the register.
 passed_by_test : (b : Bool) (d p : ℕ) → (if b then None else Some d) ≡ Some p → d ≡ p
 passed_by_test true d p e = cc
 passed_by_test false d p e = cc
@@ -289,7 +291,7 @@ assigned_when_passed fn last passed point name differ e low always path u =
     let b : IsBare fn last point name = bare fn last point name path differ u in
     b.none (passed_assigns fn last passed point name (value_of (inner_entries fn) name) refl e (omega arith) b.earlier b.path (always b.earlier b.path))
 
--- Where a path goes around the block.
+-- The block that assigns the register is the block that each path has to pass.
 same_block : (fn : Function) (last passed b after : ℕ) (point : Point) (name : List ℕ) → to_pass (length fn.blocks) last point (value_of (inner_entries fn) name) ≡ Some passed → value_of (inner_entries fn) name ≡ Some (Assigned b after) → b ≡ passed
 same_block fn last passed b after point name e v = passed_by_test (nat_eq b last && is_there point after) b passed (rw v at e)
 
@@ -355,7 +357,7 @@ numbers_are : (n : ℕ) (blocks : List Block) (label : List ℕ) → NumbersAre 
 numbers_are n [] label = record { only = λ c block here same empty. cc; first = inl refl }
 numbers_are n (b ∷ bs) label = numbers_found n b bs label (bytes_eq b.label label) (block_number_from (n + 1) bs label) refl (numbers_are (n + 1) bs label)
 
--- It is what the label denotes.
+-- The first block with a label has the number that the label denotes.
 pub number_of_label : (fn : Function) (label : List ℕ) (b : ℕ) → NamesDiffer fn → value_of (inner_entries fn) label ≡ Some (Label b) → block_number_from 0 fn.blocks label ≡ b ∷ []
 number_of_label fn label b differ e =
     let at : BlockOfLabel fn label b = block_of_label fn label b e in
@@ -369,7 +371,7 @@ number_of_label fn label b differ e =
         let one : c ≡ b = cc in
         listed ∙ ap (λ (k : ℕ). k ∷ []) (z ∙ one)
 
--- A name that denotes no block is the label of none.
+-- A name that denotes no block is not the label of a block.
 pub no_number : (fn : Function) (label : List ℕ) → NamesDiffer fn → block_number (value_of (inner_entries fn) label) ≡ [] → block_number_from 0 fn.blocks label ≡ []
 no_number fn label differ e =
     let are : NumbersAre 0 fn.blocks label (block_number_from 0 fn.blocks label) = numbers_are 0 fn.blocks label in

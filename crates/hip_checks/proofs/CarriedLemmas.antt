@@ -48,7 +48,7 @@ all_alike y (z ∷ zs) x label same others =
     let both = and_parts (carry_alike y z) (list_all (carry_alike y) zs) others in
     ap (λ b. b && list_all (λ w. carry_alike w x) zs) (alike y z x label same both.0) ∙ all_alike y zs x label same both.1
 
--- If edges agree, the first one of a label decides.
+-- If edges agree, the first edge of a label decides whether another edge agrees with them.
 first_decides : (ys : List Edge) (x : Edge) → repeats_agree ys ≡ true → list_all (λ y. carry_alike y x) ys ≡ again (value_of (map edge_entry ys) x.label) x.value
 first_decides [] x agree = refl
 first_decides (y ∷ ys) x agree = by_test (first_decides ys x both.1) (bytes_eq y.label x.label) refl

@@ -42,7 +42,7 @@ describes fn ns vs graph differ stands e = record { stands = stands; graph_is = 
 
 -- ---- functions one after another
 
--- The functions before one are right.
+-- All uses in the functions before one are assigned.
 pub record RightBefore (functions : List Function) (end : ℕ) : Type 0 where
   pub right : (g : ℕ) (gn : Function) → g < end → slice_get functions g ≡ Some gn → AllAssigned gn g
 

@@ -233,7 +233,7 @@ usable_before b point block name h =
     record { after = found.after; there = found.there; is = inr (entry_right (numbered (entries.phi b) block.phis) (body_declared (entries.instr b) block.body) name (Assigned b found.after) found.is) })
     (named_cases (phi_registers block.phis) (body_registers (body_part point block)) name (rw (registers_before-is point block) at h))
 
--- A register's entry in a block is of that block, and a use of it comes after its assignment.
+-- A register's entry in a block names this block, and the register can be used at each point after its assignment.
 pub record IsAssignedIn (b : ℕ) (block : Block) (name : List ℕ) (d after : ℕ) : Type 0 where
   pub same : d ≡ b
   pub before : (point : Point) → is_there point after ≡ true → IsAmong (names_of (registers_before point block)) name
@@ -261,7 +261,7 @@ assigned_in b block name d after (inl h) = let e : Label b ≡ Assigned d after 
 assigned_in b block name d after (inr h) =
     ⊎_elim (λ g. phi_assigned b block name d after g) (λ g. body_assigned b block name d after g) (entry_cases (numbered (entries.phi b) block.phis) (body_declared (entries.instr b) block.body) name (Assigned d after) h)
 
--- What is no label of a block is a register.
+-- An entry of a block that is not its label is the entry of a register.
 registers_assign : (b : ℕ) (block : Block) (name : List ℕ) (v : Inner) → IsEntry (numbered (entries.phi b) block.phis ++ body_declared (entries.instr b) block.body) name v → (after : ℕ) × (Assigned b after ≡ v)
 registers_assign b block name v h =
     ⊎_elim (λ g. (0, (phi_from b 0 block.phis name v g).0)) (λ g. let found : BodyName b 0 block.body name v = body_from b 0 block.body name v g in (found.after, found.value))

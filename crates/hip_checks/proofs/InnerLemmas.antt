@@ -8,7 +8,7 @@ use Rattle.hip_names.specs.Tables.{Entry, StandsFor}
 use Rattle.hip_checks.proofs.NameLists.{joined-push, numbered_from-push}
 use Rattle.hip_checks.proofs.RegisterLemmas.{take_one}
 
--- Numbered items, one more.
+-- The numbered items of a list, with one more item.
 pub numbered_more : {A B : Type 0} (make : ℕ → A → B) (xs : List A) (i : ℕ) (x : A) → i < length xs → x ≡ get_or xs i x → numbered make (take (i + 1) xs) ≡ numbered make (take i xs) ++ make i x ∷ []
 numbered_more make xs i x within is =
     let short : 0 + length (take i xs) ≡ i = zero-add (length (take i xs)) ∙ length-take-le i xs (omega (arith, within)) in

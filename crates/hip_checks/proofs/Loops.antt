@@ -20,7 +20,7 @@ some_first : (a b : Option Finding) (f : Finding) → a ≡ Some f → or_else a
 some_first None b f e = cc
 some_first (Some g) b f e = e
 
--- An item with nothing found: the rest of the list decides.
+-- After an item where nothing is found, the rest of the list decides.
 pub each_goes_on : {A : Type 0} (check : ℕ → A → Check) (xs : List A) (i : ℕ) (x : A) → i < length xs → x ≡ get_or xs i x → (each_from i check (drop i xs)).found ≡ (each check xs).found → (check i x).found ≡ None → (each_from (i + 1) check (drop (i + 1) xs)).found ≡ (each check xs).found
 each_goes_on check xs i x within is so_far none = sym (none_first _ _ none) ∙ sym (each_next check xs i x within is) ∙ so_far
 

@@ -24,13 +24,13 @@ pub joined-push : {A : Type 0} (xs : List (List A)) (y : List A) → joined (xs 
 joined-push [] y = append-nil y
 joined-push (x ∷ xs) y = ap (λ zs. x ++ zs) (joined-push xs y) ∙ sym (append_assoc x (joined xs) y)
 
--- One item more, whatever its number.
+-- Names with one more item, which does not depend on its number.
 pub one_more : {A : Type 0} (make : A → Named) (base : List Named) (xs : List A) (i : ℕ) (x : A) (names : List NamedPlace) (p : NamedPlace) → i < length xs → x ≡ get_or xs i x → seen names ≡ base ++ map make (take i xs) → seen (p ∷ []) ≡ make x ∷ [] → seen (names ++ p ∷ []) ≡ base ++ map make (take (i + 1) xs)
 one_more make base xs i x names p within is so_far same =
     let prefix : take (i + 1) xs ≡ take i xs ++ x ∷ [] = subst (λ y. take (i + 1) xs ≡ take i xs ++ y ∷ []) (sym is) (take_more xs i x within) in
     map-append _ names (p ∷ []) ∙ ap (λ zs. zs ++ seen (p ∷ [])) so_far ∙ ap (λ zs. base ++ map make (take i xs) ++ zs) same ∙ append_assoc base (map make (take i xs)) (make x ∷ []) ∙ ap (λ zs. base ++ zs) (sym (ap (map make) prefix ∙ map-append make (take i xs) (x ∷ [])))
 
--- One item more; each item has several names.
+-- Names with one more item, which may have several names.
 pub more_names : {A : Type 0} (make : ℕ → A → List Named) (base : List Named) (xs : List A) (i : ℕ) (x : A) (names added : List NamedPlace) → i < length xs → x ≡ get_or xs i x → seen names ≡ base ++ joined (numbered make (take i xs)) → seen added ≡ seen names ++ make i x → seen added ≡ base ++ joined (numbered make (take (i + 1) xs))
 more_names make base xs i x names added within is so_far more =
     let prefix : take (i + 1) xs ≡ take i xs ++ x ∷ [] = subst (λ y. take (i + 1) xs ≡ take i xs ++ y ∷ []) (sym is) (take_more xs i x within) in

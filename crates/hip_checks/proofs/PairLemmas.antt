@@ -31,7 +31,7 @@ each_pair-front test (x ∷ xs) ys e =
     let here = and_parts (list_all (test x) xs) (list_all (test x) ys) (sym (list_all-append (test x) xs ys) ∙ both.0) in
     ap (λ b. b && each_pair test xs) here.0 ∙ each_pair-front test xs ys both.1
 
--- If it fails in a prefix it fails in the list.
+-- If the test fails in a prefix, it fails in the list.
 pub fails_in_front : {A : Type 0} (test : A → A → Bool) (xs : List A) (k : ℕ) → each_pair test (take k xs) ≡ false → false ≡ each_pair test xs
 fails_in_front test xs k e = by_test (each_pair test xs) refl
   where

@@ -1,4 +1,4 @@
--- Tests beside items: too many tests, or too few.
+-- Tests that are paired with items: if there are more tests than items, or fewer, the tests fail.
 use Rattle.std.proofs.Common.{ℕ, suc, ◌+◌, ◌-◌, ◌<◌, ◌≡◌, ◌&&◌, Bool, true, false, List, [], ◌∷◌, Option, map, take, drop, length, get_or, refl, sym, ap, ◌∙◌, arith}
 use Rattle.std.specs.Prelude.{◌==◌}
 use Rattle.std.proofs.lemmas.List.{at_drop_more}

@@ -1,4 +1,4 @@
--- Lists of uses of registers: what is answered of a part, and of the whole.
+-- Lists of uses of registers: how the answer for a part gives the answer for the whole.
 use Rattle.std.proofs.Common.{ℕ, zero, suc, ◌+◌, ◌<◌, ◌≤◌, ◌≡◌, List, [], ◌∷◌, ◌++◌, map, drop, length, get_or, All, Result, Ok, Err, refl, sym, ap, ◌∙◌, arith, append_assoc, append-nil}
 use Rattle.std.specs.List.{flat_map}
 use Rattle.std.proofs.lemmas.List.{at_drop_more, map-append}
@@ -58,13 +58,13 @@ first_before fn xs ys place path is = record {
   shown = is.shown;
 }
 
--- What is answered of the second list, where all of the first are assigned, is the answer for both.
+-- If all uses of the first list are assigned, the answer for the second list is the answer for both lists.
 pub answers_then : {T : Type 0} (fn : Function) (r : Result T NotAssigned) (xs ys : List RegisterUse) → All (UseIsAssigned fn) xs → AnswersUses fn r ys → AnswersUses fn r (xs ++ ys)
 answers_then fn (Ok v) xs ys all h = all_then fn xs ys all h
 answers_then fn (Err (unassigned.Use place path)) xs ys all h = first_after fn xs ys place path all h
 answers_then fn (Err unassigned.NoMemory) xs ys all h = tt
 
--- A refusal of the first list is one of both.
+-- A refusal of the first list is a refusal of both lists together.
 pub answers_first : (T : Type 0) (fn : Function) (e : NotAssigned) (xs ys : List RegisterUse) → AnswersUses {T = T} fn (Err e) xs → AnswersUses {T = T} fn (Err e) (xs ++ ys)
 answers_first T fn (unassigned.Use place path) xs ys h = first_before fn xs ys place path h
 answers_first T fn unassigned.NoMemory xs ys h = tt
@@ -77,11 +77,11 @@ pub record Carries (fn : Function) (rest whole : List RegisterUse) : Type 0 wher
 pub carries_whole : (fn : Function) (whole : List RegisterUse) → Carries fn whole whole
 carries_whole fn whole = record { carries = λ r h. h }
 
--- The first part of the rest is assigned.
+-- If the first part of the rest is assigned, the check goes on with what follows that part.
 pub carries_on : (fn : Function) (rest xs later whole : List RegisterUse) → rest ≡ xs ++ later → All (UseIsAssigned fn) xs → Carries fn rest whole → Carries fn later whole
 carries_on fn rest xs later whole e all is = record { carries = λ r h. is.carries r (rw e (answers_then fn r xs later all h)) }
 
--- Or it is refused.
+-- If the first part of the rest is refused, the whole is refused.
 pub carries_refusal : (fn : Function) (rest xs later whole : List RegisterUse) (refused : NotAssigned) → rest ≡ xs ++ later → AnswersUses {T = Unit {0}} fn (Err refused) xs → Carries fn rest whole → AnswersUses {T = Unit {0}} fn (Err refused) whole
 carries_refusal fn rest xs later whole refused e h is = is.carries (Err refused) (rw e (answers_first (Unit {0}) fn refused xs later h))
 
@@ -96,7 +96,7 @@ flat_rest g xs i x within is = at_drop_more (λ ys. flat_map g ys) xs i x within
 pub numbered_rest : {A B : Type 0} (make : ℕ → A → List B) (xs : List A) (i : ℕ) (x : A) → i < length xs → x ≡ get_or xs i x → joined (numbered_from i make (drop i xs)) ≡ make i x ++ joined (numbered_from (i + 1) make (drop (i + 1) xs))
 numbered_rest make xs i x within is = at_drop_more (λ ys. joined (numbered_from i make ys)) xs i x within ∙ ap (λ y. make i y ++ joined (numbered_from (i + 1) make (drop (i + 1) xs))) (sym is)
 
--- The uses of places one after another.
+-- The uses of two lists of operands, one after the other.
 pub used_then : (g : List ℕ → RegisterUse) (xs ys : List Use) → map g (used_registers (xs ++ ys)) ≡ map g (used_registers xs) ++ map g (used_registers ys)
 used_then g xs ys = ap (map g) (flat_map-append (λ u. operand_registers u.operand) xs ys) ∙ map-append g (used_registers xs) (used_registers ys)
 
@@ -120,7 +120,7 @@ uses_split g us =
 abbrev pub args_left : (List ℕ → RegisterUse) → List Arg → List RegisterUse
 args_left g args = map g (used_registers (arg_uses args))
 
--- What is left of numbered parts from one on.
+-- The uses of numbered parts from one part on.
 abbrev pub parts_left : {A : Type 0} → (ℕ → A → List RegisterUse) → List A → ℕ → List RegisterUse
 parts_left make xs i = joined (numbered_from i make (drop i xs))
 

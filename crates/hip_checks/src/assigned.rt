@@ -77,7 +77,7 @@ fn to_pass(count: usize, block: usize, point: Point, inner: Option<Inner>) -> Op
     }
 }
 
-/// The use of a register at a point of a block is assigned on every path.
+/// Checks that the use of a register at a point of a block is assigned on every path.
 fn check_use(
     body: &Body<'_, '_>,
     place: Place,
@@ -100,7 +100,7 @@ fn check_use(
     }
 }
 
-/// The register of an operand is assigned on every path to the point.
+/// Checks that the register of an operand is assigned on every path to the point.
 pub fn check_operand(
     body: &Body<'_, '_>,
     place: Place,
@@ -120,7 +120,7 @@ pub fn check_operand(
     }
 }
 
-/// The same for an operand, if the place has one.
+/// Checks the operand at a place, if the place has one.
 fn check_one(
     body: &Body<'_, '_>,
     place: Place,
@@ -140,7 +140,7 @@ fn check_one(
     }
 }
 
-/// The same for arguments.
+/// Checks the arguments at a place.
 fn check_args(
     body: &Body<'_, '_>,
     place: Place,
@@ -163,7 +163,7 @@ fn check_args(
     Ok(())
 }
 
-/// The same for all that a place uses.
+/// Checks all that a place uses.
 pub fn check_uses(
     body: &Body<'_, '_>,
     place: Place,

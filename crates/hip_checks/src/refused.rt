@@ -21,7 +21,7 @@ impl From<NoMemory> for Refused {
     }
 }
 
-/// What a rule with this test finds at the place.
+/// Refuses the place with the fault if the test of a rule does not hold.
 pub fn ask(holds: bool, fault: Fault, place: Place) -> Result<(), Refused>
     ensures { Answers result (asked holds fault place) }
 {

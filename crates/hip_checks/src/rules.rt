@@ -19,7 +19,7 @@ use crate::rules::whole::check_main;
 use hip_tree::Program;
 use std::alloc::Global;
 
-/// The rules between spelling and paths, in their order.
+/// Checks the rules between the rule of spelling and the rule of paths, in their order.
 pub fn check_rules(alloc: Global, program: &Program) -> Result<(), Refused>
     ensures { Answers result (rules_check program.now).found }
 {

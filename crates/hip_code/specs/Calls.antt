@@ -16,15 +16,16 @@ use Rattle.hip_code.specs.declared.op.Outside.TheVariants.{Assert, Print, Read}
 use Rattle.hip_code.specs.declared.op.Persistence.{Persistence}
 use Rattle.hip_code.specs.declared.op.Persistence.TheVariants.{Flush, Fence, Range}
 
--- The op of a call that flushes or fences, by the effect and the parameters of the function: a flush of an address
--- alone is of its line, and one with a size is of a range.
+-- The op of a call that flushes or fences, by the effect and the parameters of the function. A flush that takes only an
+-- address flushes the line of that address; a flush that also takes a size flushes the lines of a range.
 abbrev pub line_op : LineEffect → List Scalar → Operand → Operand → Persistence
 line_op lines.Flush (addr ∷ size ∷ more) a b = Range a b false
 line_op lines.Flush _ a b = Flush a
 line_op lines.FlushAndFence params a b = Range a b true
 line_op _ params a b = Fence
 
--- The op of a call with a result and two arguments, of which the function may take fewer.
+-- The op of a call of an external function, with the slot of its result and its first two operands. The function may
+-- take fewer.
 abbrev pub extern_op : ExternCall → Option ℕ → Operand → Operand → Effect
 extern_op calls.ReadI64 dest a b = effects.Outside (Read dest)
 extern_op calls.PrintI64 dest a b = effects.Outside (Print a)
@@ -43,7 +44,7 @@ are_both globals region names constants [] a b = ⊥
 are_both globals region names constants (x ∷ xs) a b =
     IsOperand globals region names constants a x.value × is_first globals region names constants xs b
 
--- The operands resolve the arguments of a function with these parameters, at most two.
+-- The operands resolve the arguments of a function with these parameters, or its first two arguments if it has more.
 abbrev pub are_passed : List GlobalVar → ℕ → List (List ℕ) → List ℕ → List Scalar → List Arg → Operand
     → Operand →
     Type 0

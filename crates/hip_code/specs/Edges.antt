@@ -50,7 +50,7 @@ are_moves globals region names constants from (m ∷ ms) (p ∷ ps) =
 are_moves globals region names constants from [] (p ∷ ps) = ⊥
 are_moves globals region names constants from (m ∷ ms) [] = ⊥
 
--- The moves are those of the arguments of a call, one for each parameter, into slots of the callee.
+-- The moves are those of the arguments of a call into slots of the callee: one for each parameter that has an argument.
 abbrev pub are_arguments : List GlobalVar → ℕ → List (List ℕ) → List (List ℕ) → List ℕ → List Move
     → List Param
     → List Arg → Type 0
@@ -74,8 +74,8 @@ pub record IsEdge (P : Program) (I : Input) (f b : ℕ) (tables : Tables) (numbe
   pub moves : are_moves P.globals I.base (names_at P f) tables.constants (label_of (block_at P f b))
       (entries_of edge.moves tables.moves) (phis_of (block_at P f edge.block))
 
--- The cases are those of a switch, in ascending order of value. Each has an edge of the block, and for each value they
--- give an edge to the label to which the switch goes, whichever label it goes to where no case has the value.
+-- The cases are those of a switch, in ascending order of value, and each has an edge of the block. For each value, they
+-- give an edge to the label to which the switch goes; this holds for every default label.
 pub record AreCases (P : Program) (I : Input) (f b : ℕ) (tables : Tables) (cs : List Case)
     (ds : List named_case.Case) : Type 0 where
   pub ascend : IsNonDecreasingBy (λ c. c.value) cs
@@ -84,7 +84,7 @@ pub record AreCases (P : Program) (I : Input) (f b : ℕ) (tables : Tables) (cs 
   pub taken : (v other : ℕ) (label : List ℕ) → IsEdge P I f b tables other label
       → IsEdge P I f b tables (case_edge v cs other) (case_label v ds label)
 
--- The call is that of a defined function.
+-- The call is a call of this defined function, with these arguments and this result.
 pub record IsCall (P : Program) (I : Input) (f : ℕ) (tables : Tables) (call : Call) (callee : List ℕ)
     (args : List Arg)
     (dest : Option (List ℕ)) : Type 0 where

@@ -1,4 +1,4 @@
--- The operands of its instruction that an op has: the address of a store, and the arguments of a call.
+-- The operands of an instruction that its op keeps: the address of a store, and the arguments of a call.
 use Rattle.std.specs.List.{list_any}
 use Rattle.std.specs.Prelude.{ℕ, ◌≤◌, ◌≡◌, Bool, true, false, List, length, map, Option, Some, None, slice_get}
 use Rattle.hip_types.specs.declared.number.Scalar.{Scalar}
@@ -30,7 +30,7 @@ stores_at n a _ = ⊥
 abbrev pub values_passed : Numbers → Call → List ℕ
 values_passed n call = map (λ m. operand_value n m.value) (entries_of call.arguments n.tables.moves)
 
--- The call is one of that function, and passes these values where it takes as many.
+-- The call is a call of that function, and passes these values if the function has a parameter for each of them.
 pub record IsCallWith (P : Program) (n : Numbers) (callee : List ℕ) (values : List ℕ) (call : Call) : Type 0 where
   pub numbered : function_number P callee ≡ Some call.function
   pub passed : (g : Function) → slice_get P.functions call.function ≡ Some g
@@ -53,7 +53,8 @@ abbrev pub passes_or_effects : Program → Numbers → Option ExternCall → Lis
 passes_or_effects P n None callee values o = passes P n callee values o
 passes_or_effects P n (Some call) callee values o = is_memory o
 
--- The op of a store has its address, the op of a call passes its arguments; the ops of all other instructions fit.
+-- The op of a store has the address of the store, and the op of a call passes its arguments; any op fits any other
+-- instruction.
 abbrev pub names_operands : Program → Input → Numbers → Registers → Op → Instr → Type 0
 names_operands P I n rs o (instrs.Store ty value addr align) = stores_at n (value_of P.globals I.base rs addr) o
 names_operands P I n rs o (instrs.Call dest ret callee args) =
@@ -76,7 +77,7 @@ abbrev pub says_pointed : Op → List Arg → Type 0
 says_pointed (ops.Control (controls.Call call)) args = call.pointed ≡ has_pointer args
 says_pointed _ args = Unit {0}
 
--- The same, where the instruction is a call.
+-- If the instruction and its op are both calls, the op says whether one of the arguments is a pointer.
 abbrev pub says_of : Op → Instr → Type 0
 says_of o (instrs.Call dest ret callee args) = says_pointed o args
 says_of o _ = Unit {0}

@@ -25,7 +25,8 @@ use Rattle.hip_code.specs.declared.op.Value.TheVariants as values
 abbrev pub compares : Comparison → Bool → Width → Operand → Operand → Rest
 compares test negated w a b = Compare test negated w a b
 
--- A is greater than b where b is less than a, and at least b where it is not less.
+-- The op of a comparison. "Greater" is "less" with the operands exchanged, "at least" is "less" negated, and "at most"
+-- is "less" with the operands exchanged and negated.
 abbrev pub compare_op : Pred → Width → Operand → Operand → Rest
 compare_op preds.Eq w a b = Compare Equal false w a b
 compare_op preds.Ne w a b = Compare Equal true w a b
@@ -38,7 +39,7 @@ compare_op preds.Sge w a b = Compare SignedLess true w a b
 compare_op preds.Slt w a b = Compare SignedLess false w a b
 compare_op preds.Sle w a b = Compare SignedLess true w b a
 
--- Only `sext` looks at the sign.
+-- The op of a change of type; only `sext` uses the sign.
 abbrev pub cast_op : CastOp → Width → Width → Operand → Rest
 cast_op casts.Sext from to a = Cast true from to a
 cast_op casts.Zext from to a = Cast false from to a
@@ -54,7 +55,7 @@ integer_value op w a b = values.Integer op w a b
 abbrev pub division_value : Bool → Bool → Width → Operand → Operand → Value
 division_value signed rest w a b = values.Rest (Other (others.Divide (record { signed = signed; rest = rest }) w a b))
 
--- Divisions have an op of their own.
+-- The op of an operation on two integers; divisions have an op of their own.
 abbrev pub binary_value : BinaryOp → Width → Operand → Operand → Value
 binary_value binaries.Add w a b = integer_value (integers.Sum sums.Add) w a b
 binary_value binaries.Sub w a b = integer_value (integers.Sum sums.Sub) w a b

@@ -116,7 +116,7 @@ pub enum Rest {
         a: Operand,
         b: Operand,
     },
-    /// The value modulo 2 to a width; if it is signed, it is sign-extended from the other width first.
+    /// The value cut to the width `to`; if the cast is signed, the value is first sign-extended from the width `from`.
     Cast {
         signed: bool,
         from: Width,
@@ -190,8 +190,8 @@ pub enum Outside {
     Read(Option<u32>),
 }
 
-/// What an edge moves into a slot: a phi's operand for the block that control comes from. Or what a call moves into the
-/// slot of a parameter.
+/// What an edge or a call moves into a slot: a phi's operand for the block that control comes from, or the argument for
+/// a parameter.
 #[derive(Clone, Copy)]
 pub struct Move {
     pub dest: u32,

@@ -14,7 +14,7 @@ use Rattle.hip_program_files.specs.Laws.{LoadsOne}
 use Rattle.hip_program_files.specs.Loading.{HasNoProgram, IsProgramOf}
 use Rattle.hip_program_files.specs.declared.refusal.LoadRefusal.{LoadRefusal}
 
--- What was done with the program of a file.
+-- The file has a program.
 abbrev pub HasLoaded : Option (List NamedFile) → List ℕ → Type 0
 HasLoaded files name = (P : Program) × IsProgramOf files name P
 
@@ -38,7 +38,7 @@ module _ (one : (files : List NamedFile) (name : List ℕ) → LoadsOne files na
       subst (λ x. IsSameAnswer x b) (sym u.is) (subst (λ x. IsSameAnswer (refusal (status_of_refusal u.why)) x) (sym v.is)
       (same_refusal u.why v.why same))
 
-  -- Both have no program, or both have done something with it.
+  -- If both calls have no program, or both have run it, their answers are the same, unless one is a read fault.
   pub one_answer : (Did DidToo : Type 0) (a b : Answer) → (Did → HasLoaded old.files name)
       → (DidToo → HasLoaded other.files name) → (Did → DidToo → IsSameAnswer a b) → LacksProgram old new name a ⊎ Did
       → LacksProgram other other_new name b ⊎ DidToo

@@ -33,7 +33,7 @@ fn copy_gep(alloc: Global, gep: &ConstGep) -> Result<Const, NoMemory>
     }
 }
 
-// The constant with a copy of its base, which is moved into it.
+// A copy of the constant `getelementptr`. A copy of its base is given, and moved into it.
 fn gep_from(alloc: Global, gep: &ConstGep, base: Const) -> Result<Const, NoMemory>
     requires { base ≡ gep.now.base }
     ensures { IfOk result (λ c. c ≡ consts.Gep gep.now) }

@@ -47,7 +47,7 @@ pub length-bytes_after : (vs : List StoredValue) (b : ℕ) (xs : List ℕ) → l
 length-bytes_after [] b xs = refl
 length-bytes_after (v ∷ vs) b xs = length-bytes_after vs b (bytes_with v b xs) ∙ length-bytes_with v b xs
 
--- Byte by byte they are those after the values.
+-- Each byte after some stored values is the byte that these values give.
 pub index-bytes_after : (vs : List StoredValue) (b : ℕ) (xs : List ℕ) (i : ℕ) → i < length xs → slice_index (bytes_after vs b xs) i ≡ byte_after stored_covers stored_byte vs (b + i) (slice_index xs i)
 index-bytes_after [] b xs i h = refl
 index-bytes_after (v ∷ vs) b xs i h = index-bytes_after vs b (bytes_with v b xs) i (omega (arith, h, length-bytes_with v b xs)) ∙ ap (byte_after stored_covers stored_byte vs (b + i)) (index-bytes_with v b xs i h)
@@ -62,7 +62,7 @@ index-take (suc n) [] i h = refl
 index-take (suc n) (x ∷ xs) zero h = refl
 index-take (suc n) (x ∷ xs) (suc i) h = index-take n xs i (omega arith)
 
--- One value more.
+-- The bytes after one more stored value.
 after-suc : (vs : List StoredValue) (i : ℕ) (v : StoredValue) (b : ℕ) (xs : List ℕ) → slice_get vs i ≡ Some v → bytes_after (take (suc i) vs) b xs ≡ bytes_with v b (bytes_after (take i vs) b xs)
 after-suc [] i v b xs e = absurd (let z : ⊥ = cc in z)
 after-suc (w ∷ vs) zero v b xs e = let s : w ≡ v = cc in ap (λ u. bytes_with u b xs) s
@@ -80,7 +80,7 @@ module _ (v : StoredValue) (b : ℕ) (old new : List ℕ) (len : length new ≡ 
       let l : i < length old = omega (arith, len, lt) in
       at i l ∙ ap (λ t. cond t (stored_byte v (b + i)) (slice_index old i)) (sym (covers i l)) ∙ sym (index-bytes_with v b old i l))
 
--- Two tests that say the same.
+-- Two tests are equal if each implies the other.
 pub same_test : (a b : Bool) → (a ≡ true → b ≡ true) → (b ≡ true → a ≡ true) → a ≡ b
 same_test true true f g = refl
 same_test true false f g = sym (f refl)

@@ -37,7 +37,7 @@ get_mapped g (x ∷ xs) (suc k) = get_mapped g xs k
 short_more : (m n : ℕ) (ls : List (Line StorePart)) → m ≤ n → AreShort m ls → AreShort n ls
 short_more m n ls h a = record { are = λ j l e. omega (arith, h, a.are j l e) }
 
--- Lines that are changed in a range.
+-- If a change adds few parts to each line of a range, the lines have at most that many more.
 short_changed : (f : ℕ → Line StorePart → Line StorePart) (o n m more : ℕ) (ls : List (Line StorePart)) → ((j : ℕ) (l : Line StorePart) → length (f j l).parts ≤ length l.parts + more) → AreShort m ls → AreShort (m + more) (change_range f o n ls)
 short_changed f o n m more ls h a = record {
   are = λ j l e.
@@ -91,7 +91,8 @@ unfolding leave
 few_left I v w f [] ls after h k = record { parts = h; turns = k }
 few_left I v w f (g ∷ fs) ls after h k = record { parts = h; turns = k }
 
--- Where a store takes a turn more than the lines have parts.
+-- After an action each line has at most as many parts as turns were taken, if a store takes one turn more than the
+-- lines have parts.
 few_performed : (I : Input) (w : World) (f : Frame) (fs : List Frame) (ls : List (Line StorePart)) (before after : Counts) (x : Action) (m : ℕ) → AreShort m ls → m ≤ w.turns → (stores x ≡ true → m + 1 ≤ w.turns) → w.turns ≤ I.limit
     → IsFew I (perform I w f fs ls before after x)
 unfolding perform

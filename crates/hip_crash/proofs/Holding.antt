@@ -61,7 +61,7 @@ module _ (j : ℕ) where
   alike-fence [] (x ∷ xs) a = absurd a
   alike-fence (v ∷ vs) [] a = absurd a
 
-  -- A byte of the line after them.
+  -- A byte of the line is the same after the stored values as after the parts.
   pub after-alike : (vs : List StoredValue) (xs : List StorePart) (b y : ℕ) → AreAlike j vs xs → 64 * j ≤ b → b < 64 * j + 64
       → byte_after stored_covers stored_byte vs b y ≡ byte_after covers byte_of xs b y
   after-alike [] [] b y a h k = refl

@@ -61,7 +61,7 @@ module _ (x : Inside) (h : IsLogging x) (image : List ℕ) (e : image ≡ x.inpu
         let k = line-bounds l.0 l.1 in
         ap₂ (λ p q. record { least = p; most = q }) (a ∙ k.0) (b ∙ ap (λ n. n + length (seen_at x.region image j).later) a ∙ k.1) ∙ ap bounds_in (sym l.1)
 
-    -- The bytes after some first parts.
+    -- The bytes of the line after some first parts.
     pub bytes-are : (l : Line StorePart) → slice_get (state_of s).lines j ≡ Some l → (q i : ℕ) → l.durable ≤ q → i < 64
         → slice_index (bytes_after (take (q - l.durable) (seen_at x.region image j).later) (64 * j) (seen_at x.region image j).bytes) i ≡ byte_after covers byte_of (take q l.parts) (64 * j + i) (slice_index s.input.image (64 * j + i))
     bytes-are l g q i le lt =
@@ -106,7 +106,7 @@ module _ (x : Inside) (h : IsLogging x) (image : List ℕ) (e : image ≡ x.inpu
           rest : (m : ℕ) → m ≡ length r - 64 * j → 64 ≤ m
           rest m q = omega (arith, q, size, whole-size, lt)
 
-      -- This many later stores give the line in the content.
+      -- If this many later stores give the line in the image, the picked number is that many more than the least.
       pub number-seen : (count : ℕ) → count ≤ length (seen_at x.region image j).later → bytes_after (take count (seen_at x.region image j).later) (64 * j) (seen_at x.region image j).bytes ≡ wanted
           → IsNumberOf s.input (state_of s) r j (Some ((seen_at x.region image j).least + count))
       number-seen count le e = record {
@@ -126,7 +126,7 @@ module _ (x : Inside) (h : IsLogging x) (image : List ℕ) (e : image ≡ x.inpu
             };
       }
 
-      -- No number of them does.
+      -- If no number of later stores gives the line in the image, no number of first parts does.
       pub number-none : ((q : ℕ) → q ≤ length (seen_at x.region image j).later → bytes_after (take q (seen_at x.region image j).later) (64 * j) (seen_at x.region image j).bytes ≢ wanted) → IsNumberOf s.input (state_of s) r j None
       number-none none = record {
         is = λ l g q h.
@@ -136,7 +136,7 @@ module _ (x : Inside) (h : IsLogging x) (image : List ℕ) (e : image ≡ x.inpu
             bytes-are l g q i h.least fit ∙ sym (h.bytes (64 * j + i) (omega arith) (omega (arith, fit))) ∙ sym (wanted-byte i fit)));
       }
 
-    -- As it is read.
+    -- The same for a view of the line.
     module _ (vb : List ℕ) (vl : ℕ) (vs : List StoredValue) (start : ℕ) (eb : vb ≡ (seen_at x.region image j).bytes) (el : vl ≡ (seen_at x.region image j).least) (es : vs ≡ (seen_at x.region image j).later) (et : start ≡ 64 * j) where
       viewed : (count : ℕ) → bytes_after (take count vs) start vb ≡ bytes_after (take count (seen_at x.region image j).later) (64 * j) (seen_at x.region image j).bytes
       viewed count = ap (λ xs. bytes_after (take count xs) start vb) es ∙ ap (λ n. bytes_after (take count (seen_at x.region image j).later) n vb) et ∙ ap (λ xs. bytes_after (take count (seen_at x.region image j).later) (64 * j) xs) eb

@@ -39,7 +39,7 @@ module _ (x : Inside) (h : IsLogging x) where
   pub image-small : length I.image < 2 ^ 40
   image-small = omega (arith, h.valid.image, h.sound.sizes.region)
 
-  -- There is room for what waits.
+  -- There is room to take up what waits.
   pub has_room : (image : List ℕ) → image ≡ I.image → HasRoom x.region image
   has_room image e = subst (HasRoom x.region) (sym e) (record {
     whole = whole;
@@ -47,7 +47,7 @@ module _ (x : Inside) (h : IsLogging x) where
     few = kept-few P I x.taken (seen_at x.region I.image) h.valid h.kept;
   })
 
-  -- What waits may be taken up.
+  -- The log still represents the state after what waits is taken up.
   pub logged-same : (image : List ℕ) → image ≡ I.image → (r : RegionLog) → ((j : ℕ) → seen_at r image j ≡ seen_at x.region image j) → WaitsWithin r.waiting image → IsLogging (record x { region = r })
   logged-same image e r same within = record {
     sound = h.sound;
@@ -76,7 +76,7 @@ module _ (x : Inside) (h : IsLogging x) where
     pub count-fit : (e : Event) → e ≡ event P I (run P I x.taken) → has_entry e ≡ true → x.entries + 1 < 2 ^ 128
     count-fit e q t = let fit = entries-fit P I h.sound h.valid h.short x.taken goes (ap has_entry (sym q) ∙ t) in omega (arith, fit, h.entries)
 
-    -- The step is noted.
+    -- The log represents the next state after the step is noted.
     pub logged-next : (e : Event) → e ≡ event P I (run P I x.taken) → (q r : RegionLog) → (image : List ℕ) → image ≡ I.image → ((j : ℕ) → seen_at q image j ≡ seen_at x.region image j)
         → ((j : ℕ) → seen_at r I.image j ≡ noted I.base e j (seen_at q I.image j)) → WaitsWithin r.waiting I.image
         → (entries : ℕ) → entries ≡ cond (has_entry e) (suc x.entries) x.entries → (ended : Bool) → ended ≡ is_some (ending_by e)

@@ -1,4 +1,4 @@
--- Picks as lists: how they are looked up, and what their fitting gives.
+-- Picks as lists: how they are looked up, and what follows if none of them fails.
 use Rattle.std.proofs.Common.{◌≡◌, ◌≢◌, ◌⊎◌, inl, inr, ℕ, zero, suc, ◌+◌, ◌-◌, ◌*◌, ◌/◌, ◌<◌, ◌≤◌, ◌==◌, Bool, true, false, cond, ◌&&◌, nat_eq, nat_le, nat_lt, nat_cmp, List, [], ◌∷◌, ◌++◌, length, map, take, drop, get_or, Option, Some, None, is_some, slice_get, slice_index, refl, sym, ap, ap₂, ◌∙◌, subst, arith, length-append, length-drop}
 use Rattle.std.specs.BTreeMap.{is_at}
 use Rattle.std.specs.List.{range_with_len}
@@ -46,7 +46,7 @@ number-other : (xs : List Pick) (p : Pick) (j : ℕ) → p.line ≢ j → number
 number-other [] p j ne = ap (λ b. cond b (Some p.upto) None) (ne_test p.line j ne)
 number-other (x ∷ xs) p j ne = ap (λ o. cond (nat_eq x.line j) (Some x.upto) o) (number-other xs p j ne)
 
--- What a table has at a line.
+-- A look-up in a table by lines gives the number of the line.
 pub number-found : (entries : List (ℕ × ℕ)) (j : ℕ) → lookup (is_at (nat_cmp j)) entries ≡ number_in entries j
 number-found entries j = λ i. lookup (λ k. number-is_at j k i) entries
 
@@ -66,7 +66,8 @@ numbers-more xs p old new h updates e = record { are = λ j. go j (equal_or_not 
         let other : p.line ≢ j = λ z. s.1 (sym z) in
         updated j ∙ ap (λ b. cond b (Some p.upto) (number_in old j)) (ne_test p.line j other) ∙ h.are j ∙ sym (number-other xs p j other)
 
--- A pick that does not fail.
+-- A pick that does not fail names a line of the region, which no earlier pick names, and a number within the line's
+-- bounds.
 pub failed-none : (s : State) (earlier : List Pick) (at : ℕ) (p : Pick) → failure s earlier at p ≡ None → (p.line < length s.lines) × (number_for earlier p.line ≡ None) × IsBetween (bounds_of s p.line) p.upto
 failed-none s earlier at p e = line (nat_lt p.line (length s.lines)) refl e
   where
@@ -202,7 +203,7 @@ found-more I s image count picks upto f n = record {
     number k p e (inl h) = f.numbers k p (sym (get-append_left picks (new ∷ []) k h) ∙ e)
     number k p e (inr h) = subst (λ i. IsNumberOf I s image i (Some p.upto)) (sym f.many ∙ sym h) (subst (λ (x : Pick). IsNumberOf I s image count (Some x.upto)) (last k p e h) n)
 
--- Picks of lines one after another.
+-- Picks of consecutive lines, from a line on.
 record AreFrom (from : ℕ) (picks : List Pick) : Type 0 where
   at : (k : ℕ) (p : Pick) → slice_get picks k ≡ Some p → p.line ≡ from + k
 
@@ -216,7 +217,7 @@ from-lines : (from : ℕ) (picks : List Pick) → AreFrom from picks → map (λ
 from-lines from [] h = refl
 from-lines from (x ∷ picks) h = ap₂ (λ a ys. a ∷ ys) (from-head from x picks h) (from-lines (from + 1) picks (from-tail from x picks h))
 
--- The number of a line.
+-- The number that such picks give a line is that of the pick of the line.
 from-number : (from : ℕ) (picks : List Pick) → AreFrom from picks → (k : ℕ) (p : Pick) → slice_get picks k ≡ Some p → number_for picks (from + k) ≡ Some p.upto
 from-number from [] h k p e = absurd (let z : ⊥ = cc in z)
 from-number from (x ∷ picks) h zero p e =
@@ -229,7 +230,7 @@ from-number from (x ∷ picks) h (suc k) p e =
     other : x.line ≡ from → x.line ≢ from + suc k
     other q r = absurd (omega (arith, q, r))
 
--- They do not fail after picks of the lines before them.
+-- Such picks do not fail after the picks of the lines before them.
 from-fit : (s : State) (earlier rest : List Pick) → AreFrom (length earlier) rest → ((k : ℕ) (p : Pick) → slice_get rest k ≡ Some p → (p.line < length s.lines) × IsBetween (bounds_of s p.line) p.upto) → ((j : ℕ) → length earlier ≤ j → number_for earlier j ≡ None)
     → failure_after s earlier rest ≡ None
 from-fit s earlier [] h b n = refl
@@ -300,7 +301,7 @@ found-all I s image count picks size whole all f = record {
         ∙ ap (λ q. byte_after covers byte_of (take q l.0.parts) b (slice_index I.image b)) (number (b / 64) p.0 p.1)
         ∙ sym (is.bytes b (omega arith) (omega arith))
 
--- A line that no number fits.
+-- If no number fits a line, the content is no crash image.
 pub not-image : (I : Input) (s : State) (image : List ℕ) (j : ℕ) → j < length s.lines → IsNumberOf I s image j None → ¬ IsCrashImage I s image
 not-image I s image j lt n h = let l = get_there s.lines j lt in let r = h.lines j l.0 l.1 in n.is l.0 l.1 r.0 r.1
 

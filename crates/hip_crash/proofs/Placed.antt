@@ -94,7 +94,7 @@ changes-line f m m' line d p c = record {
     others : (j : ℕ) → j ≢ line → line_in m'.directory m'.lines.items j ≡ line_in m.directory m.lines.items j
     others j ne = ap (λ x. line_in x m'.lines.items j) d ∙ other-line f m.directory m.lines.items m'.lines.items line m.placed p c j ne
 
--- What is changed by nothing is the same.
+-- If the change of a line changes nothing, what is kept stays the same.
 pub changes-nothing : (m m' : KeptLines) (line : ℕ) → ChangesLine (λ k. k) line m m' → (j : ℕ) → kept_at m' j ≡ kept_at m j
 changes-nothing m m' line c j = go (equal_or_not j line)
   where
@@ -163,7 +163,7 @@ gives-line m m' d line x k q same s l e = record {
     placed : ArePlaced d m.lines.items
     placed = placed-same m.directory d m.lines.items same m.placed
 
--- Whatever the answer was.
+-- The lines stay at their places, whether the answer is a success or an error.
 pub placed-either : {A E : Type 0} (r : Result A E) (f g : Kept → Kept) (d : Directory) (xs xs' : List KeptLine) (line n : ℕ) → ArePlaced d xs → 0 < number_at d line → n ≡ number_at d line
     → OnOk r (ChangesPlace f (n - 1) xs xs') → OnErr r (ChangesPlace g (n - 1) xs xs') → ArePlaced d xs'
 placed-either (Ok a) f g d xs xs' line n h p e o w = placed-changed f d xs xs' line h p (subst (λ i. ChangesPlace f (i - 1) xs xs') e o)

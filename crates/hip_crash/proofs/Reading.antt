@@ -13,7 +13,7 @@ one-at-most : {A : Type 0} (o : Option A) → length (option_to_list o) ≤ 1
 one-at-most None = omega arith
 one-at-most (Some x) = omega arith
 
--- More than the stores that stand together are all of them.
+-- A count above the number of stores that are kept together includes the store that is kept apart.
 pub whole-after : (vs : List StoredValue) (o : Option StoredValue) (count front start : ℕ) (bs b1 b2 : List ℕ) → front ≡ min count (length vs) → front < count → count ≤ length (vs ++ option_to_list o)
     → b1 ≡ bytes_after (take front vs) start bs → b2 ≡ bytes_after (option_to_list o) start b1 → b2 ≡ bytes_after (take count (vs ++ option_to_list o)) start bs
 whole-after vs o count front start bs b1 b2 f lt le p q =
@@ -37,7 +37,7 @@ none-more v start place wanted bytes s ne q lt e = go (split q place lt) e
     go (inl h) e = s.none q h e
     go (inr h) e = ne (s.at ∙ ap (λ n. bytes_after (take n (later_in v)) start v.bytes) (sym h) ∙ e)
 
--- One store more.
+-- The search after one more store.
 pub search-more : (v : LineView) (start place : ℕ) (wanted bytes new : List ℕ) (d : StoredValue) → place < length v.later.now → IsSearched v start place wanted bytes → bytes ≢ wanted
     → new ≡ bytes_with (get_or v.later.now place d) start bytes → IsSearched v start (place + 1) wanted new
 search-more v start place wanted bytes new d lt s ne e = record {
@@ -45,7 +45,7 @@ search-more v start place wanted bytes new d lt s ne e = record {
   none = none-more v start place wanted bytes s ne;
 }
 
--- The store that stands apart.
+-- The search at the store that is kept apart.
 module _ (v : LineView) (start : ℕ) (wanted bytes : List ℕ) (place : ℕ) (all : place ≡ length v.later.now) (s : IsSearched v start place wanted bytes) (ne : bytes ≢ wanted) where
   pub last-none : v.last ≡ None → (q : ℕ) → q ≤ length (later_in v) → bytes_after (take q (later_in v)) start v.bytes ≢ wanted
   last-none e q le = none-more v start place wanted bytes s ne q (omega (arith, le, all, length-append v.later.now (option_to_list v.last), ap (λ o. length (option_to_list o)) e))

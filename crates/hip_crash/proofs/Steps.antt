@@ -58,7 +58,7 @@ get_there [] j h = absurd (omega (arith, h))
 get_there (l ∷ ls) zero h = (l, refl)
 get_there (l ∷ ls) (suc j) h = get_there ls j (omega (arith, h))
 
--- How many parts a line has that is kept.
+-- The number of parts of a line is the number of durable stores and of later stores that are kept of it.
 pub kept-count : (P : Program) (I : Input) (n : ℕ) (see : ℕ → Kept) → AreKeptOf I.image see (run P I n).lines → (j : ℕ) (l : Line StorePart) → slice_get (run P I n).lines j ≡ Some l → (see j).least + length (see j).later ≡ length l.parts
 kept-count P I n see h j l e =
     let k = h.are j l e in

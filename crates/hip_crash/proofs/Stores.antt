@@ -9,7 +9,7 @@ use Rattle.hip_crash.specs.declared.waiting.Waiting.{Waiting}
 use Rattle.hip_crash.specs.declared.waiting.Waiting.TheVariants as waits
 use Rattle.hip_lines.specs.Laws.ItemLaws.{equal_or_not}
 
--- The parts of a store wait in its lines from one on.
+-- The parts of a store wait in its lines from this one on.
 pub record WaitsFrom (v : StoredValue) (line : ℕ) (w : Waiting) : Type 0 where
   pub from : ℕ
   pub waiting : w ≡ waits.Store v from
@@ -49,13 +49,13 @@ module _ (v : StoredValue) (first end : ℕ) (e : first ≡ v.offset / 64) (ends
   one_more : (line j : ℕ) → j ≢ line → nat_le line j ≡ nat_le (line + 1) j
   one_more line j ne = grind (arith, nat_tests)
 
-  -- The line at which it stands is seen with the store.
+  -- The first line in which a part waits is seen with the store.
   pub seen-here : (w : Waiting) (line : ℕ) (k : Kept) → first ≤ line → line < end → WaitsFrom v line w → with_waiting w line k ≡ with_store v k
   seen-here w line k low lt f =
       ap (λ x. with_waiting x line k) f.waiting
       ∙ ap (λ b. cond b (with_store v k) k) (ap (λ b. b && nat_le f.from line) (has_line line low lt) ∙ f.same line (subst (λ i. i ≤ line) e low) ∙ is_below line line (omega arith))
 
-  -- One part more.
+  -- What is seen after one more part is taken up.
   pub seen-more : (w w' : Waiting) (line j : ℕ) (k k' : Kept) → first ≤ line → line < end → WaitsFrom v line w → w' ≡ waits.Store v (line + 1) → k' ≡ cond (j == line) (with_store v k) k
       → with_waiting w' j k' ≡ with_waiting w j k
   seen-more w w' line j k k' low lt f e' q = go (equal_or_not j line)
@@ -82,7 +82,7 @@ module _ (v : StoredValue) (first end : ℕ) (e : first ≡ v.offset / 64) (ends
           let same : k' ≡ k = q ∙ ap (λ b. cond b (with_store v k) k) s.0 in
           new ∙ ap (λ x. cond (has_bytes j v.offset v.size && nat_le (line + 1) j) (with_store v x) x) same ∙ ap (λ b. cond b (with_store v k) k) (both (has_bytes j v.offset v.size) refl s.1) ∙ sym old
 
-  -- None is left.
+  -- After the last line no part waits.
   pub seen-end : (w : Waiting) (line j : ℕ) (k : Kept) → end ≤ line → WaitsFrom v line w → k ≡ with_waiting w j k
   seen-end w line j k h f = sym (ap (λ x. with_waiting x j k) f.waiting ∙ ap (λ b. cond b (with_store v k) k) (none (has_bytes j v.offset v.size) refl))
     where

@@ -16,7 +16,7 @@ pub record IsAlike (j : ℕ) (v : StoredValue) (x : StorePart) : Type 0 where
   pub same_bytes : (b : ℕ) → LINE_SIZE * j ≤ b → b < LINE_SIZE * j + LINE_SIZE → covers x b ≡ true →
       stored_byte v b ≡ byte_of x b
 
--- As many stored values as parts, and each value gives line j the same bytes as the part at its place.
+-- There are as many stored values as parts, and each value gives line j the same bytes as the part at its place.
 abbrev pub AreAlike : ℕ → List StoredValue → List StorePart → Type 0
 AreAlike j [] [] = Unit {0}
 AreAlike j (v ∷ vs) (x ∷ xs) = IsAlike j v x × AreAlike j vs xs

@@ -19,16 +19,17 @@ pub record ChangesLine (change : Kept → Kept) (line : ℕ) (old new : KeptLine
   pub here : kept_at new line ≡ option_map change (kept_at old line)
   pub others : (j : ℕ) → j ≢ line → kept_at new j ≡ kept_at old j
 
--- This is kept now of one cache line of which nothing was kept, and nothing else is changed.
+-- This is what the new lines keep of one cache line, and nothing else is changed.
 pub record GivesLine (kept : Kept) (line : ℕ) (old new : KeptLines) : Type 0 where
   pub here : kept_at new line ≡ Some kept
   pub others : (j : ℕ) → j ≢ line → kept_at new j ≡ kept_at old j
 
--- Nothing is kept of the cache lines from one up to another.
+-- Nothing is kept of the cache lines from the first of two numbers on and before the second.
 abbrev pub NoneKept : KeptLines → ℕ → ℕ → Type 0
 NoneKept m from to = (j : ℕ) → from ≤ j → j < to → line_at m j ≡ None
 
--- The first of the cache lines from one up to another of which something is kept, if there is one.
+-- The first cache line of which something is kept, from the first of two numbers on and before the second, if there is
+-- one.
 abbrev pub IsFirstKept : KeptLines → ℕ → ℕ → Option KeptLine → Type 0
 IsFirstKept m from to None = NoneKept m from to
 IsFirstKept m from to (Some x) =

@@ -1,4 +1,4 @@
--- A log on its way: what it keeps represents the state after the steps that it noted.
+-- A log during a run: what it keeps represents the state after the steps that it noted.
 use Rattle.std.specs.Prelude.{◌≡◌, ◌^◌, ◌<◌}
 use Rattle.hip_sound.specs.Sound.{IsSound}
 use Rattle.hip_runs.specs.Ends.{longest}

@@ -9,7 +9,7 @@ use Rattle.hip_crash.specs.declared.kept_lines.KeptLines.{KeptLines}
 abbrev pub fresh : List ℕ → ℕ → Kept
 fresh image j = record { bytes = take LINE_SIZE (drop (LINE_SIZE * j) image); least = 0; later = []; flushed = 0 }
 
--- What is kept of line j; the line with its initial bytes, and no store, if nothing is.
+-- What is kept of line j; if nothing is kept, the line with its initial bytes and no stores.
 abbrev pub kept_or_fresh : List ℕ → ℕ → Option Kept → Kept
 kept_or_fresh image j None = fresh image j
 kept_or_fresh image j (Some k) = k

@@ -1,4 +1,4 @@
--- The numbers of lines that picks give, as they are looked up and found.
+-- The numbers that picks give lines, as they are looked up and found.
 use Rattle.std.specs.Prelude.{◌≡◌, ℕ, ◌≤◌, nat_eq, List, Option, Some, None, slice_get}
 use Rattle.std.specs.Map.{lookup}
 use Rattle.hip_lines.specs.Image.{IsLineImageAt}

@@ -10,8 +10,8 @@ use Rattle.hip_picks.specs.declared.pick.Pick.{Pick}
 use Rattle.hip_picks.specs.declared.pick.PickRefusal.{PickRefusal}
 use Rattle.hip_picks.specs.declared.pick.PickRefusal.TheVariants.{NoLine, Repeated, OutOfRange, NoMemory}
 
--- The least and the greatest number of first parts of a cache line that a crash may leave: its durable number, and its
--- length.
+-- The least and the greatest number of first parts of a cache line that a crash may leave: the number of its durable
+-- parts, and the number of all its parts.
 abbrev pub bounds_in : Option (Line StorePart) → Bounds
 bounds_in None = record { least = 0; most = 0 }
 bounds_in (Some l) = record { least = l.durable; most = length l.parts }
@@ -34,12 +34,12 @@ number_or least (Some upto) = upto
 abbrev pub picked : State → List Pick → ℕ → ℕ
 picked s picks j = number_or (bounds_of s j).least (number_for picks j)
 
--- How a number for a line fails, in the pick of that number: it is outside the line's bounds.
+-- How the number that a pick gives its line fails: it is outside the line's bounds.
 abbrev pub range_failure : ℕ → Bounds → ℕ → Option PickRefusal
 range_failure at bounds upto =
     cond (nat_le bounds.least upto && nat_le upto bounds.most) None (Some (OutOfRange at bounds.least bounds.most))
 
--- How a pick fails after the earlier ones, counted from 1: for a line outside the region, else for a line that an
+-- How a pick fails after earlier ones, given its number from 1: for a line outside the region, else for a line that an
 -- earlier pick names, else for a number outside the line's bounds.
 abbrev pub failure : State → List Pick → ℕ → Pick → Option PickRefusal
 failure s earlier at p =
@@ -66,7 +66,8 @@ first_failure s picks = failure_after s [] picks
 abbrev pub IsRefusal : State → List Pick → PickRefusal → Type 0
 IsRefusal s picks refusal = (refusal ≡ NoMemory) ⊎ (first_failure s picks ≡ Some refusal)
 
--- The picks give a crash image of a state: one for each cache line, ascending, none of which fails.
+-- The picks give a crash image of a state: there is one pick for each cache line, in ascending order, and none of them
+-- fails.
 pub record ArePicksOf (I : Input) (s : State) (picks : List Pick) (image : List ℕ) : Type 0 where
   pub lines : map (λ p. p.line) picks ≡ range_with_len 0 (length s.lines)
   pub fit : first_failure s picks ≡ None

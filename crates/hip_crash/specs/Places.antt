@@ -14,7 +14,7 @@ at_place xs (suc n) = slice_get xs n
 abbrev pub line_in : Directory → List KeptLine → ℕ → Option KeptLine
 line_in d xs j = at_place xs (number_at d j)
 
--- Each kept line is there, and stands at its number.
+-- Each place that the directory gives is a place of a kept line, which has the number of its cache line.
 pub record ArePlaced (d : Directory) (xs : List KeptLine) : Type 0 where
   pub within : (j : ℕ) → number_at d j ≤ length xs
   pub numbered : (j : ℕ) (x : KeptLine) → line_in d xs j ≡ Some x → x.line ≡ j

@@ -3,11 +3,11 @@ use Rattle.std.specs.Prelude.{ℕ, suc, ◌+◌, ◌-◌, Bool, cond, ◌&&◌, 
 use Rattle.hip_types.specs.Bytes.{bytes_of}
 use Rattle.hip_crash.specs.declared.values.StoredValue.{StoredValue}
 
--- Whether a stored value covers the byte at an offset of the region, and the value that it gives it.
+-- Whether a stored value covers the byte at an offset of the region.
 abbrev pub stored_covers : StoredValue → ℕ → Bool
 stored_covers v b = nat_le v.offset b && nat_lt b (v.offset + v.size)
 
--- The value of the byte at an offset that the stored value covers; the lowest byte is at its first offset.
+-- The byte that a stored value gives an offset that it covers. The value's lowest byte is at its first offset.
 abbrev pub stored_byte : StoredValue → ℕ → ℕ
 stored_byte v b = slice_index (bytes_of v.size v.value) (b - v.offset)
 

@@ -10,8 +10,8 @@ use std::alloc::Global;
 /// A line always keeps room for this many stores.
 const FEW: usize = 8;
 
-/// The bytes of a line after its durable stores, the number of these, and the later ones in order; the first of the
-/// later ones are flushed.
+/// The bytes of a line after its durable stores, the number of durable stores, and the later stores in order, of which
+/// the first ones are flushed.
 #[derive(Drop)]
 pub struct KeptLine {
     pub line: u64,

@@ -47,7 +47,7 @@ impl RegionLog {
         })
     }
 
-    /// Takes up what waits. What is seen of the lines does not change, also out of memory.
+    /// Takes up what waits. What is seen of the lines does not change, even if memory runs out.
     #[inline(always)]
     pub fn take_up(&mut self, image: &Image) -> Result<(), NoMemory>
         requires room { HasRoom self.old image.now }

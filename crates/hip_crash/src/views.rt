@@ -8,7 +8,7 @@ use crate::kept_line::put_front;
 use crate::values::{StoredValue, put_value};
 use hip_types::LINE_SIZE;
 
-/// The bytes of a line after its durable stores, the number of these, and the later ones; the last of the later ones
+/// The bytes of a line after its durable stores, the number of durable stores, and the later stores, the last of which
 /// may be kept apart.
 #[derive(Drop)]
 pub struct LineView<'a> {

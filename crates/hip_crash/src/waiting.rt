@@ -4,7 +4,7 @@ use crate::values::StoredValue;
 #[derive(Clone, Copy, Drop)]
 pub enum Waiting {
     Nothing,
-    /// The parts of a store in the lines from one on.
+    /// The parts of a store in its lines from this one on.
     Store { stored: StoredValue, from: u64 },
     /// A flush of the lines that have a byte of a range.
     Flush { offset: u64, len: u64 },

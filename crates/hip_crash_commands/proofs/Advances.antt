@@ -18,7 +18,7 @@ use Rattle.hip_runs.specs.Seen.{Seen, after_step, state_of}
 abbrev pub steps_ahead : Program → Input → ℕ → ℕ
 steps_ahead P I n = (runs_end P I).0 - n
 
--- The run has taken n steps, and before each of them it had fewer entries.
+-- The run has taken some steps, and before each of them its trace had fewer than `entry` entries.
 pub record IsBefore (P : Program) (I : Input) (entry : ℕ) (m : Seen) : Type 0 where
   pub program : m.program ≡ P
   pub input : m.input ≡ I
@@ -95,7 +95,7 @@ counts_of start m entry is =
     ap (λ (p : Program). (run p m.input m.taken).counts.entries) is.program
     ∙ ap (λ (i : Input). (run start.program i m.taken).counts.entries) is.input
 
--- The state of a log that reaches the entry is the one at it.
+-- The state of a log that reaches the entry is the state at the entry.
 pub stands : (start m : Seen) (entry : ℕ) → HasEntry start.program start.input entry → Reaches start m entry
     → StandsAt m.program m.input entry (state_of m)
 stands start m entry has r =

@@ -36,7 +36,7 @@ unpicked P I entry ps state (picks.NoLine n) at (inl e) = absurd (let z : ⊥ = 
 unpicked P I entry ps state (picks.Repeated n) at (inl e) = absurd (let z : ⊥ = cc in z)
 unpicked P I entry ps state (picks.OutOfRange n least most) at (inl e) = absurd (let z : ⊥ = cc in z)
 
--- What a log that reached the entry gives is of the run.
+-- What a log that has reached the entry gives is what the run gives there.
 pub of_run : (start m : Seen) (entry : ℕ) (ps : List Pick) (result : Result (List ℕ) (Failure ImageRefusal))
     → Reaches start m entry → PicksImage m.program m.input entry ps result
     → PicksImage start.program start.input entry ps result

@@ -17,8 +17,8 @@ pub record IsUnpicked (P : Program) (I : Input) (entry : ℕ) (picks : List Pick
   pub cause : HasNoImage P I entry picks why
   pub is : answer ≡ refusal (status_of_refusal why)
 
--- The picks give a crash image of the run at the entry. Out has the trace of the program's run that begins with it and
--- is the same input otherwise, and notes how that run has ended.
+-- The picks give a crash image of the run at the entry. Out has the trace of the program's run on the input that begins
+-- with this image and is otherwise the same, and notes how that run has ended.
 pub record HasCrashed (P : Program) (I : Input) (entry : ℕ) (picks : List Pick) (answer : Answer) : Type 0 where
   pub content : List ℕ
   pub image : HasImage P I entry picks content

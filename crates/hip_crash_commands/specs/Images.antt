@@ -40,8 +40,8 @@ pub record HasEntry (P : Program) (I : Input) (entry : ℕ) : Type 0 where
   pub some : 1 ≤ entry
   pub there : entry ≤ entries
 
--- The trace has an entry of that number, and the run stands in this state at it: after the least number of steps with
--- n entries, those before the first step among them.
+-- The trace has an entry of that number, and this is the state of the run at the entry: after the least number of steps
+-- with that many entries, including those before the first step.
 pub record StandsAt (P : Program) (I : Input) (entry : ℕ) (s : State) : Type 0 where
   pub has : HasEntry P I entry
   pub steps : ℕ
@@ -81,7 +81,7 @@ abbrev pub status_of_refusal : ImageRefusal → Status
 status_of_refusal (images.NoEntry entries) = statuses.NoEntry entries
 status_of_refusal (images.BadPick why) = statuses.BadPick why
 
--- The same, or a fault that is no refusal; picking never gives a read fault.
+-- The status that says why there is no image, or that of a fault that is no refusal. Picking never gives a read fault.
 abbrev pub status_of_image : Failure ImageRefusal → Status
 status_of_image (failures.Refused why) = status_of_refusal why
 status_of_image failures.ReadFault = statuses.ReadFault

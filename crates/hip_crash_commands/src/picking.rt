@@ -60,7 +60,7 @@ fn image_later<'a>(
     }
 }
 
-// The image that picks give, for a log that stands at an entry.
+// The image that picks give, for a log that has reached an entry.
 fn image_now(
     alloc: Global,
     log: &CrashLog<'_>,

@@ -21,7 +21,7 @@ FindsOne = (P : Program) → (I : Input) → (a b : Findings) → IsFound P I a 
 abbrev pub TracesOne : Type 0
 TracesOne = (P : Program) → (I : Input) → (es fs : List Entry) → IsTrace P I es → IsTrace P I fs → es ≡ fs
 
--- What is counted, by what there is one of.
+-- What is counted, given the trace and the findings of each of the two runs.
 abbrev counted : (P : Program) → List Entry → Findings → List Entry → Findings → Shown
 counted P es found fs after = record {
   entries = length es;

@@ -35,7 +35,7 @@ one_file text = record { name = codes "trace"; bytes = text } ∷ []
 found_there : (text : List ℕ) → file_of (one_file text) (codes "trace") ≡ Some text
 found_there text = refl
 
--- And its whole text is ahead.
+-- The whole text of the fetched file is ahead.
 pub ahead_is : (files : List NamedFile) (text : List ℕ) (new : CabinetState) → files ≡ one_file text
     → IsFirstFile files (codes "trace") new → new.rest ≡ Some text
 ahead_is files text new same h =

@@ -24,13 +24,13 @@ use std::alloc::Global;
 pub(crate) struct Shown {
     /// How many entries the trace has.
     pub entries: u128,
-    /// How many reports there are of the run.
+    /// How many reports the run has.
     pub reports: usize,
     pub plan: Plan,
     pub clones: usize,
     /// How many entries the trace of the repaired program has.
     pub rerun: u128,
-    /// How many reports there are of the repaired program's run.
+    /// How many reports the repaired program's run has.
     pub after: usize,
 }
 

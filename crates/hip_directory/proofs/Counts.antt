@@ -42,7 +42,7 @@ none-there : (n : ℕ) → (0 < n → ⊥) → n ≡ 0
 none-there zero h = refl
 none-there (suc n) h = absurd (h (omega arith))
 
--- Where no entry is set no key is.
+-- If all entries are 0, each key has the number 0.
 pub none-set : (d : Directory) (from to : ℕ) → count_set d.entries.items ≡ 0 → NoneSet d from to
 unfolding number_at number_in
 none-set d from to e j low high = none-there (slice_index d.entries.items (64 * slice_index d.groups.items (j / 64) + j % 64)) (λ p. let c = count-there d.entries.items (64 * slice_index d.groups.items (j / 64) + j % 64) p in omega (arith, c, e))

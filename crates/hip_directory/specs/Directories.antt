@@ -16,11 +16,11 @@ group_of d k = slice_index d.groups.items (k / GROUP_SIZE)
 abbrev pub HasRoom : Directory → ℕ → Type 0
 HasRoom d k = 0 < group_of d k
 
--- No key from `from` up to `to` has a number but 0.
+-- Each key that is at least `from` and below `to` has the number 0.
 abbrev pub NoneSet : Directory → ℕ → ℕ → Type 0
 NoneSet d from to = (j : ℕ) → from ≤ j → j < to → number_at d j ≡ 0
 
--- The first key from `from` up to `to` that has a number but 0, if there is one.
+-- The first key, at least `from` and below `to`, that has a number other than 0; none if there is no such key.
 abbrev pub IsFirstSet : Directory → ℕ → ℕ → Option ℕ → Type 0
 IsFirstSet d from to None = NoneSet d from to
 IsFirstSet d from to (Some k) = (from ≤ k) × (k < to) × (number_at d k ≢ 0) × NoneSet d from k

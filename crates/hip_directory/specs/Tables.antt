@@ -2,18 +2,18 @@
 use Rattle.std.specs.Prelude.{◌≡◌, ◌≢◌, ℕ, zero, suc, ◌+◌, ◌*◌, ◌/◌, ◌%◌, ◌<◌, ◌≤◌, List, [], ◌∷◌, length, slice_index}
 use Rattle.hip_directory.specs.declared.TheConstants.{GROUP_SIZE}
 
--- The entry of a key; the first group, of zeros, has the entries of all keys whose group was not made.
+-- The entry of a key. The first group, of zeros, has the entries of all keys whose group is not made.
 unfoldable pub number_in : List ℕ → List ℕ → ℕ → ℕ
 number_in groups entries k = slice_index entries (GROUP_SIZE * slice_index groups (k / GROUP_SIZE) + k % GROUP_SIZE)
 
--- The entries are whole groups; the first group is zeros, and each other group belongs to one group of keys.
+-- The entries are whole groups; the first group is zeros, and each other group belongs to at most one group of keys.
 pub record IsTable (groups entries : List ℕ) : Type 0 where
   pub whole : length entries % GROUP_SIZE ≡ 0
   pub within : (i : ℕ) → GROUP_SIZE * slice_index groups i + GROUP_SIZE ≤ length entries
   pub first : (i : ℕ) → i < GROUP_SIZE → slice_index entries i ≡ 0
   pub apart : (i j : ℕ) → i ≢ j → slice_index groups i ≢ 0 → slice_index groups i ≢ slice_index groups j
 
--- 1 for a number but 0
+-- 1 for each number other than 0, and 0 for 0.
 abbrev pub set_once : ℕ → ℕ
 set_once zero = 0
 set_once (suc n) = 1

@@ -45,7 +45,8 @@ impl Directory {
         self.entries[self.place(key)]
     }
 
-    /// Makes room for a number at the key, so that `set` takes no memory. The numbers stay, whatever the answer.
+    /// Makes room for a number at the key, so that `set` takes no memory. All numbers stay as they are, also if it
+    /// fails.
     pub fn make_room(&mut self, key: u64) -> Result<(), NoMemory>
         ensures same { (j : ℕ) → number_at self.new j ≡ number_at self.old j }
         ensures kept { (j : ℕ) → HasRoom self.old j → HasRoom self.new j }
@@ -74,8 +75,8 @@ impl Directory {
         self.entries[place] = number;
     }
 
-    /// The first key of a range that has a number other than 0, in time linear in the groups of the range; at once if
-    /// no key at all has one.
+    /// The first key of a range that has a number other than 0. The time is linear in the groups of the range, and
+    /// constant if no key at all has such a number.
     pub fn first_set(&self, from: u64, to: u64) -> Option<u64>
         requires { to < 2 ^ 63 }
         ensures { IsFirstSet self.now from to result }
@@ -123,7 +124,7 @@ impl Directory {
     }
 }
 
-// How many entries are not 0 once one of them is another number.
+// How many entries are not 0 after an entry changes from `old` to `number`.
 #[inline(always)]
 fn held_after(held: usize, old: u32, number: u32) -> usize
     requires there { 0 < old → 0 < held }

@@ -18,7 +18,7 @@ use Rattle.hip_scope.specs.declared.scope.Scope.{Scope}
 abbrev pub moves_of : Scope → Tables → List ℕ → List Move → List Phi → Type 0
 moves_of s t from ms ps = are_moves s.program.now.globals s.base (names_of s) t.constants from ms ps
 
--- Moves for phis are put into the table; no edge and no case is.
+-- Moves for phis are put into the table; the tables of edges and of cases stay the same.
 pub record Moves (s : Scope) (t u : Tables) (from : List ℕ) (ps : List Phi) : Type 0 where
   pub moves : List Move
   pub are : u.moves ≡ t.moves ++ moves
@@ -47,11 +47,11 @@ pub record LeadsTo (s : Scope) (t : Tables) (b number : ℕ) (label : List ℕ) 
   pub numbered : block_number (blocks_of s.program.now s.number) label ≡ Some target
   pub leads : Leads s t b number target
 
--- The block of that number ends with labels of blocks, and has operands for the phis of these.
+-- The source's block is the block that has the source's number in the function.
 pub record IsSource (s : Scope) (source : Source) : Type 0 where
   pub here : block_at s.program.now s.number source.number ≡ Some source.block.now
 
--- Control may go to the block of that number.
+-- The block of that number exists, and its phis have operands for control from the source.
 pub record IsTarget (s : Scope) (source : Source) (target : ℕ) : Type 0 where
   pub block : Block
   pub here : block_at s.program.now s.number target ≡ Some block

@@ -33,7 +33,7 @@ pub record HasCases (s : Scope) (t u : Tables) (source : Source) (cs : List Case
   pub makes : Makes t u (λ v. are_cases (LeadsTo s v source.number) cs ds)
   pub lead : LeadFrom s source.number source.first u
 
--- The same cases in ascending order of value; of those with the same value the first one stays the first.
+-- The same cases in ascending order of value. Of the cases with the same value, the first one stays first.
 pub record IsSorted (cs sorted : List Case) : Type 0 where
   pub ascend : IsNonDecreasingBy (λ c. c.value) sorted
   pub same : IsPermutation cs sorted

@@ -19,8 +19,8 @@ pub struct Source<'a> {
     pub first: usize,
 }
 
-/// The edge to a block that exists already, if the table by blocks names one. What the table names counts only if it is
-/// an edge from the source to that block.
+/// The number of an edge to a block that exists already, if `made` has one for this block. The number in `made` counts
+/// only if its edge leads from the source to that block.
 fn earlier(tables: &Growing, made: &Row<u32>, first: usize, target: usize) -> Option<u32>
     ensures { MatchOption result (Unit {0}) (λ number. Earlier (grown tables.now) first target number) }
 {
@@ -74,15 +74,15 @@ fn new_edge(
     Ok(number)
 }
 
-/// Keeps the number of the edge to a block, if the table by blocks has a place for it.
+/// Puts the number of the edge to a block into `made`, if `made` has a place for the block.
 fn keep(made: &mut Row<u32>, target: usize, number: u32) {
     if target < made.len() {
         made.set(target, number);
     }
 }
 
-/// The edge from a block to the one with a label. If `made` has a place for each block of the function, there is one
-/// edge from one block to another, however often it is named.
+/// The edge from a block to the block with a label. If `made` has a place for each block of the function, there is only
+/// one edge between two blocks, however often an end names its label.
 pub fn edge(
     scope: &Scope<'_, '_>,
     tables: &mut Growing,

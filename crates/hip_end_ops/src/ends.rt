@@ -89,7 +89,7 @@ fn cases_of(
     Ok(found)
 }
 
-// The cases by their values, the least first. Those with one value stay in their order.
+// The cases in ascending order of value. Cases with the same value stay in their order.
 fn sorted(cases: Row<Case>) -> Result<Row<Case>, NoMemory>
     ensures { IfOk result (λ sorted. IsSorted cases sorted) }
 {
@@ -100,7 +100,7 @@ fn sorted(cases: Row<Case>) -> Result<Row<Case>, NoMemory>
     }
 }
 
-// Puts the cases of a switch into the table by their values, so that a run finds one by halves.
+// Puts the cases of a switch into the table in ascending order of value, so that a run finds a case by binary search.
 fn put_cases(tables: &mut Growing, cases: Row<Case>) -> Result<Span, NoMemory>
     ensures { IfOk result (λ span. PutsCases (grown tables.old) (grown tables.new) cases span) }
 {

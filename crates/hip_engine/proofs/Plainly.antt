@@ -30,14 +30,14 @@ plain_here r going o here plain quiet = record {
 
 -- ---- passes
 
--- No step.
+-- A run that takes no step takes only plain steps.
 pub passes_none : (m : Seen) → PassesPlainly m 0 m
 passes_none m = record {
   is = ap (λ n. record m { taken = n }) (let e : m.taken ≡ m.taken + 0 = omega arith in e);
   plain = λ n lt. absurd (let z : ⊥ = omega (arith, lt) in z);
 }
 
--- A step more.
+-- Plain steps, and one more.
 pub passes_next : (old mid : Seen) (k : ℕ) → PassesPlainly old k mid → IsPlain mid → PassesPlainly old (k + 1) (record mid { taken = mid.taken + 1 })
 passes_next old mid k p next = record {
   is = ap (λ (m : Seen). record m { taken = m.taken + 1 }) p.is ∙ ap (λ n. record old { taken = n }) (let e : old.taken + k + 1 ≡ old.taken + (k + 1) = omega arith in e);

@@ -11,19 +11,19 @@ use Rattle.hip_engine.specs.declared.here.Here.{Here}
 use Rattle.hip_engine.specs.declared.reach.Reach.{Reach}
 use Rattle.hip_engine.specs.declared.reach.Reach.TheVariants as reaches
 
--- No event is out of reach.
+-- A step without an event is within any reach.
 pub quiet_allowed : (reach : Reach) → allows reach events.Quiet
 quiet_allowed reaches.Plain = refl
 quiet_allowed reaches.Quiet = refl
 quiet_allowed reaches.Silent = refl
 
--- None that is within reach prints or ends the run.
+-- An event within reach neither prints nor ends the run.
 pub allowed_silent : (reach : Reach) (e : Event) → allows reach e → is_silent e ≡ true
 allowed_silent reaches.Plain e a = ap is_silent a
 allowed_silent reaches.Quiet e a = ap is_silent a
 allowed_silent reaches.Silent e a = a
 
--- One of two silent events is silent.
+-- If two events are silent, a choice between them is silent.
 pub silent_either : (b : Bool) (x y : Event) → is_silent x ≡ true → is_silent y ≡ true → is_silent (cond b x y) ≡ true
 silent_either true x y p q = p
 silent_either false x y p q = q

@@ -1,7 +1,7 @@
 use hip_code::Op;
 use hip_quick::Quick;
 
-/// The next op, and the quick op that stands for it.
+/// The next op, and the quick op that represents it.
 #[derive(Clone, Copy)]
 pub struct Next<'a> {
     pub op: &'a Op,

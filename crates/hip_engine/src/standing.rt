@@ -1,6 +1,6 @@
 use hip_tree::Site;
 
-/// A call that stands: its site, and how many steps were taken before it.
+/// A call that has not returned: its site, and how many steps were taken before it.
 #[derive(Clone, Copy)]
 pub struct StandingCall {
     pub site: Site,

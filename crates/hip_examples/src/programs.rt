@@ -28,7 +28,7 @@ entry:
 }
 ";
 
-/// A function that copies, and asserts in itself what it copied.
+/// A function that copies, and itself asserts what it copied.
 pub const ASSERT_INSIDE_CALLEE: &str = "@p = global i64 0, section \".pm\"
 @q = global i64 9
 declare void @pm_assert(ptr, i64)
@@ -136,7 +136,7 @@ loop:
 }
 ";
 
-/// It reads two numbers and prints their sum.
+/// A program that reads two numbers and prints their sum.
 pub const SUM_OF_NUMBERS: &str = "declare i64 @read_i64()
 declare void @print_i64(i64)
 define i32 @main() {
@@ -195,7 +195,7 @@ done:
 }
 ";
 
-/// It stores a number 100,000 times, and flushes and fences each store.
+/// A program that stores a number 100,000 times, and flushes and fences each store.
 pub const DURABLE_STORES: &str = "@x = global i64 0, section \".pm\"
 declare void @llvm.x86.clwb(ptr)
 declare void @llvm.x86.sse.sfence()

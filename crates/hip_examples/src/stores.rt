@@ -47,7 +47,7 @@ entry:
 }
 ";
 
-/// A store with a flush and a fence of one call.
+/// A store that one call flushes and fences.
 pub const PERSIST: &str = "@x = global i64 0, section \".pm\"
 declare void @pmem_persist(ptr, i64)
 define i32 @main() {
@@ -91,7 +91,7 @@ entry:
 }
 ";
 
-/// A store in two cache lines, both of which are flushed; no fence comes.
+/// A store in two cache lines, both of which are flushed but not fenced.
 pub const BOTH_LINES_FLUSHED: &str = "@a = global [16 x i64] zeroinitializer, section \".pm\"
 declare void @llvm.x86.clwb(ptr)
 define i32 @main() {

@@ -1,5 +1,5 @@
--- The external functions that a program may declare. The flush and fence calls are LLVM's x86 intrinsics, the three
--- `pmem_` calls libpmem's; the others are this project's own.
+-- The external functions that a program may declare. The flush and fence calls are LLVM's x86 intrinsics. The three
+-- `pmem_` calls are libpmem's. The others are this project's own.
 use Rattle.std.specs.Prelude.{ℕ, ◌≡◌, ◌||◌, not, Bool, true, false, List, [], ◌∷◌, Option, Some, None, option_map, is_some, codes}
 use Rattle.std.specs.List.{find}
 use Rattle.std.specs.Str.{bytes_eq}
@@ -81,14 +81,14 @@ has_fence effects.Flush = false
 has_fence effects.Fence = true
 has_fence effects.FlushAndFence = true
 
--- It flushes cache lines.
+-- Whether the function flushes cache lines.
 abbrev pub is_flush : ExternCall → Bool
 is_flush c = has_flush (row_of c).effect
 
--- It takes a fence.
+-- Whether the function takes a fence.
 abbrev pub is_fence : ExternCall → Bool
 is_fence c = has_fence (row_of c).effect
 
--- A step is a turn unless it flushes or takes a fence.
+-- Whether a step that calls the function is a turn: it neither flushes nor takes a fence.
 abbrev pub is_turn : ExternCall → Bool
 is_turn c = not (is_flush c || is_fence c)

@@ -20,7 +20,7 @@ pub enum ExternCall {
     PmemDrain,
 }
 
-/// All of them.
+/// All external functions.
 pub const CALLS: [ExternCall; 11] = [
     ExternCall::ReadI64,
     ExternCall::PrintI64,

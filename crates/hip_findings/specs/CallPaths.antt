@@ -19,13 +19,14 @@ HasCount (Call site birth count outer) = count ≡ length outer.value + 1
 abbrev pub call_sites : List Level → List Site
 call_sites levels = map (λ l. l.call) levels
 
--- Whether the call that stands at a depth has this birth; false if there is none.
+-- Whether the standing call at a depth has this birth; false if there is no call at that depth.
 abbrev pub is_birth : ℕ → Option ℕ → Bool
 is_birth birth None = false
 is_birth birth (Some b) = nat_eq b birth
 
--- How many of the calls have returned, where the standing calls have these births: those at whose depth a call with
--- another birth stands, or none. They are the innermost ones, since each call outside of a standing one stands too.
+-- How many of the calls have returned, given the births of the standing calls. A call has returned if the standing call
+-- at its depth has another birth, or if there is none. The returned calls are the innermost ones, since each call
+-- outside of a standing call is standing too.
 abbrev pub closed_by : List ℕ → List Level → ℕ
 closed_by births [] = 0
 closed_by births (l ∷ ls) = cond (is_birth l.birth (slice_get births (length ls))) 0 (suc (closed_by births ls))

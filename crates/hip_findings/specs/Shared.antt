@@ -22,7 +22,7 @@ report_at check store =
 abbrev pub reports_of : List CheckReports → List Report
 reports_of checks = flat_map (λ c. map (report_at c.check_entry) c.stores.value) checks
 
--- The reports that are left where a check has these stores left, and these checks come after it.
+-- The reports that are left: those of the stores that the current check has left, and those of the checks after it.
 abbrev pub reports_left : ℕ → List StoreReport → List CheckReports → List Report
 reports_left check stores checks = map (report_at check) stores ++ reports_of checks
 

@@ -8,8 +8,8 @@ use std::alloc::Global;
 use std::marker::Model;
 use std::rc::Rc;
 
-/// The calls that a frame stands in, from its own outward; contracts see the list of them. The standing frames, and the
-/// stores that were made in them, share the nodes of the calls that they have in common.
+/// The calls that a frame is in, from its own call outward; contracts see the list of them. The frames of the stack,
+/// and the stores that were made in them, share the nodes of the calls that they have in common.
 #[cycle(call_path)]
 pub struct CallPath {
     link: Link,
@@ -18,7 +18,8 @@ pub struct CallPath {
 #[cycle(call_path)]
 enum Link {
     End,
-    // A call, how many steps were taken before it, how many calls stand with it, and those outside of it.
+    // A call: its site, how many steps were taken before it, the number of calls from it outward, and the calls outside
+    // of it.
     Call {
         site: Site,
         birth: u128,
@@ -79,7 +80,7 @@ impl CallPath {
         }
     }
 
-    /// One call more, inside of those of another path; `count` calls in all.
+    /// The calls of a path, and one more call inside of them; `count` calls in all.
     pub fn inside(
         alloc: Global,
         site: Site,
@@ -132,8 +133,8 @@ impl CallPath {
         }
     }
 
-    /// How many of the calls, the innermost ones, have returned, given the births of the standing calls, the outermost
-    /// one first. If calls stand, the time is linear in those that have returned.
+    /// How many of the calls have returned; these are the innermost ones. The births are those of the standing calls,
+    /// the outermost one first. If there are standing calls, the time is linear in the number of returned calls.
     #[tactic(auto, using(crate::proofs::Returned::all_returned))]
     pub fn closed(&self, births: &[u128]) -> usize
         ensures { result ≡ closed_by births.now self.now }

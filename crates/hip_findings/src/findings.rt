@@ -12,7 +12,7 @@ pub struct SharedFindings {
     marks: Marks,
 }
 
-// By hand, so that the drop is proved here and not again in each crate that lets findings go.
+// Written by hand, so that the drop is proved here and not again in each crate that drops findings.
 impl Drop for SharedFindings {
     fn drop(self) {
         let SharedFindings {
@@ -31,7 +31,7 @@ impl Model for SharedFindings {
 }
 
 impl SharedFindings {
-    /// These reports and marks.
+    /// The findings with these reports and marks.
     pub fn new(reports: SharedReports, marks: Marks) -> SharedFindings
         ensures { result ≡ record { reports = reports; marks = marks } }
     {

@@ -93,7 +93,7 @@ impl SharedReports {
     }
 }
 
-// What a check found, in the row of the check before it if that one found the same.
+// What a check found. It shares the row of the check before it if that check found the same.
 fn kept_once(
     alloc: Global,
     before: Option<&CheckReports>,

@@ -23,7 +23,7 @@ pub struct StoreReport {
 }
 
 impl StoreReport {
-    // Whether another one is the same.
+    // Whether another store report is the same.
     pub(crate) fn is_same(&self, other: &StoreReport) -> bool
         ensures { result ≡ true → self.now ≡ other.now }
     {

@@ -99,6 +99,6 @@ module _ (P : Program) where
       functions_tested 0 P.functions (λ j. ap (slice_get P.functions) (let q : j ≡ 0 + j = omega arith in q))
       ∙ walk_filtered P (λ f o. stores_outside P (blocks_of P f) o)
 
--- A site is found exactly where a direct store stands.
+-- A site is found exactly if it has a direct store.
 pub found_direct : (P : Program) (s : Site) → has_site (filter (direct P) (sites_of P)) s ≡ direct P s
 found_direct P = listed P (direct P) (λ s e. ap (stores_outside P (blocks_of P s.function)) e)

@@ -33,13 +33,13 @@ tail_ascends : (x : Site) (xs : List Site) → is_ascending (x ∷ xs) ≡ true 
 tail_ascends x [] e = refl
 tail_ascends x (y ∷ ys) e = (both_true (site_before x y) _ e).1
 
--- The first site is before each other.
+-- The first site of an ascending list is before each other site of the list.
 all_later : (x : Site) (xs : List Site) → is_ascending (x ∷ xs) ≡ true → (y : Site) → In y xs → site_before x y ≡ true
 all_later x [] e y i = absurd i
 all_later x (z ∷ zs) e y (inl same) = subst (λ (s : Site). site_before x s ≡ true) (sym same) (both_true (site_before x z) _ e).0
 all_later x (z ∷ zs) e y (inr i) = let both = both_true (site_before x z) _ e in strict_order.trans x z y both.0 (all_later z zs both.1 y i)
 
--- A site that is before all of them is none of them.
+-- A site that is before all sites of a list is not in the list.
 none_of : (xs : List Site) (s : Site) → ((y : Site) → In y xs → site_before s y ≡ true) → has_site xs s ≡ false
 none_of xs s before = by_test (has_site xs s) refl
   where
@@ -54,7 +54,7 @@ other s x before = by_test (same_site s x) refl
     by_test true e = never (site_before s s) (subst (λ (y : Site). site_before y s ≡ true) (sym (same_site_equal s x e)) before) (strict_order.apart s)
     by_test false e = e
 
--- What is left begins with the site exactly where the list has it.
+-- The rest of an ascending list, without the sites before a site, begins with that site exactly if the list has it.
 begins : (xs : List Site) (s : Site) → is_ascending xs ≡ true → begins_with (not_before s xs) s ≡ has_site xs s
 begins [] s e = refl
 begins (x ∷ xs) s e = by_test (site_before x s) refl (begins xs s (tail_ascends x xs e))
@@ -84,7 +84,7 @@ left_ascends (x ∷ xs) s e = by_test (site_before x s) (left_ascends xs s (tail
     by_test true rest = rest
     by_test false rest = e
 
--- Sites that come later are left.
+-- The rest of a list, without the sites before a site, still has all later sites.
 left_has : (xs : List Site) (s t : Site) → site_before s t ≡ true → has_site (not_before s xs) t ≡ has_site xs t
 left_has [] s t h = refl
 left_has (x ∷ xs) s t h = by_test (site_before x s) refl (left_has xs s t h)
@@ -134,7 +134,7 @@ module _ (P : Program) (callable : IsCallable P) where
       in_function None h g = absurd (let z : ⊥ = cc in z)
       in_function (Some f) h g = ap (λ o. slice_get (body_of (slice_get (blocks_in o) s.block)) s.index) h ∙ in_block (slice_get f.blocks s.block) g
 
-  -- In a sound program a call is of a defined function exactly where it is of no external one.
+  -- In a sound program a call is of a defined function exactly if it is not of an external one.
   call_stated : (s : Site) (o : Option Instr) → instr_of P s ≡ o → calls_defined o ≡ is_defined_call P o
   call_stated s (Some (Call dest ret callee args)) e = by_callee (callable.calls s.function s.block s.index dest ret callee args (body_there s (Call dest ret callee args) e))
     where
@@ -151,7 +151,7 @@ module _ (P : Program) (callable : IsCallable P) where
   calls_all [] = refl
   calls_all (x ∷ xs) = ap (λ b. b && list_all (λ s. calls_defined (instr_of P s)) xs) (call_stated x (instr_of P x) refl) ∙ ap (λ b. is_defined_call P (instr_of P x) && b) (calls_all xs)
 
-  -- The whole test passes exactly the plans that suit.
+  -- A plan that passes the whole test suits the program.
   pub passes_suits : (plan : Plan) → passes P plan ≡ true → IsSuiting P plan
   passes_suits plan e =
       let one = both_true (ascend plan && list_all (λ s. is_store (instr_of P s)) plan.flush_after && fences_pass P plan.flush_after plan.fence_after) _ e in

@@ -29,11 +29,11 @@ abbrev pub allocated : Instr → List (List ℕ)
 allocated (Alloca dest ty align) = dest ∷ []
 allocated _ = []
 
--- The registers that the `alloca` of a body assign, in their order.
+-- The registers that the `alloca` instructions of a body assign, in their order.
 abbrev pub body_allocas : List Instr → List (List ℕ)
 body_allocas is = flat_map allocated is
 
--- The registers that the `alloca` of blocks assign, in their order.
+-- The registers that the `alloca` instructions of blocks assign, in their order.
 abbrev pub alloca_names : List Block → List (List ℕ)
 alloca_names blocks = flat_map (λ b. body_allocas b.body) blocks
 
@@ -52,7 +52,8 @@ abbrev pub stores_by : List (List ℕ) → List (List ℕ) → Instr → Bool
 stores_by volatile registers (Store ty value addr align) = lies_by volatile registers addr
 stores_by volatile registers _ = false
 
--- The sites of such stores of function f, by the registers that its own `alloca` assign.
+-- The sites of the direct stores of function f, given the volatile globals. The registers are those that its own
+-- `alloca` instructions assign.
 abbrev pub direct_in_function : List (List ℕ) → ℕ → Function → List Site
 direct_in_function volatile f x =
     passing_in_blocks (stores_by volatile (met bytes_eq [] (alloca_names x.blocks))) f 0 x.blocks

@@ -16,7 +16,7 @@ abbrev pub is_before_first : Site → List Site → Bool
 is_before_first s [] = true
 is_before_first s (x ∷ xs) = site_before s x
 
--- What is left of the sites without the first ones, which are before a site.
+-- The rest of a list of sites, without the first ones that are before a site.
 abbrev pub not_before : Site → List Site → List Site
 not_before s [] = []
 not_before s (x ∷ xs) = cond (site_before x s) (not_before s xs) (x ∷ xs)

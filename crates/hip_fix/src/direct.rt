@@ -71,7 +71,7 @@ fn stores_by(volatile: &NameSet<'_>, allocated: &NameSet<'_>, instr: &Instr) -> 
     }
 }
 
-/// The test for such stores: the volatile globals, and the registers that the `alloca` instructions of one function
+/// The test for direct stores: the volatile globals, and the registers that the `alloca` instructions of one function
 /// assign.
 #[derive(Clone, Copy)]
 struct DirectTest<'a, 'g, 'r> {

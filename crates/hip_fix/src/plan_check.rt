@@ -43,7 +43,7 @@ fn is_ascending(sites: &[Site]) -> bool
     true
 }
 
-/// What is left of the sites without the first ones, which are before a site.
+/// The rest of a list of sites, without the first ones that are before a site.
 fn not_before(sites: &[Site], site: Site) -> &[Site]
     ensures { result.now ≡ test.not_before site sites.now }
 {

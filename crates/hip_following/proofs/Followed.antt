@@ -19,7 +19,7 @@ pub trace_zero : (P : Program) (I : Input) → trace P I 0 ≡ header_of I
 unfolding trace
 trace_zero P I = refl
 
--- After the header no step was taken.
+-- After the header, and before the first step, the run and the trace are in step.
 pub begins_in_step : (P : Program) (start : CabinetState) (r : ReaderState) (s : CabinetState) (begun : Begun) → HasHeader P start r s begun → IsInStep P begun.input start 0 r s begun.lockstep
 begins_in_step P start r s begun h = record {
   valid = h.valid;

@@ -27,7 +27,7 @@ pub and_on : {before middle after s t u : List ℕ} → AppendsBoth before middl
     → Appends before after (s ++ (t ++ u))
 and_on p q = and_then p.one (and_then p.two q)
 
--- From what a call gives to what follows from it, if it gives something.
+-- If a fact holds when a call succeeds, so does a fact that follows from it.
 pub on_ok : {A E : Type 0} {P Q : Type 0} (r : Result A E) → OnOk r P → (P → Q) → OnOk r Q
 on_ok (Ok x) p f = f p
 on_ok (Err e) p f = p

@@ -1,4 +1,4 @@
--- The program that a generated text is the canonical text of.
+-- The program whose canonical text is the generated text.
 use Rattle.std.specs.Prelude.{ℕ, zero, suc, ◌+◌, ◌%◌, Bool, true, false, List, [], ◌∷◌, ◌++◌, Some, None, codes}
 use Rattle.hip_types.specs.Numbers.{bits}
 use Rattle.hip_types.specs.declared.number.Scalar.TheVariants.{Int, Ptr}
@@ -27,7 +27,7 @@ use Rattle.hip_gen.specs.Kinds.{kind}
 abbrev pub array_of : ℕ → Ty
 array_of length = types.Array length (types.Int W64)
 
--- `@NAME = global [LENGTH x i64] zeroinitializer`, perhaps with `, section ".pm"`
+-- `@NAME = global [LENGTH x i64] zeroinitializer`, perhaps with `, section ".pm"`.
 abbrev pub zeroed_array : List ℕ → ℕ → Bool → GlobalVar
 zeroed_array name length persistent =
     record {
@@ -49,11 +49,11 @@ element name length index =
       indices = bits W64 0 ∷ bits W64 index ∷ [];
     })
 
--- The element of `@data` that a group stores into: the one of its number.
+-- The element of `@data` that a group stores into. Its index is the group's number.
 abbrev pub persistent_element : ℕ → ℕ → Const
 persistent_element size group = element (codes "data") size group
 
--- The element of `@temp` that a group stores into: the one of its number modulo the length.
+-- The element of `@temp` that a group stores into. Its index is the group's number modulo the length.
 abbrev pub volatile_element : ℕ → Const
 volatile_element group = element (codes "temp") VOLATILE_LENGTH (group % VOLATILE_LENGTH)
 

@@ -62,7 +62,7 @@ first_lines size =
     ++ (codes "define i32 @main() {\n"
     ++ codes "entry:\n"))))))))))
 
--- And the text after them.
+-- The text after the groups.
 abbrev pub last_lines : List ℕ
 last_lines = codes "  ret i32 0\n" ++ codes "}\n"
 

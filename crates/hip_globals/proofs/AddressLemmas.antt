@@ -11,7 +11,7 @@ later : (b : Bool) (at : ℕ) (g : GlobalVar) → at ≤ (if b then global_start
 later true at g = omega arith
 later false at g = omega arith
 
--- They end no earlier than they are laid from.
+-- Globals do not end before the place from which they are laid.
 pub end_of-ge : (persistent : Bool) (at : ℕ) (gs : List GlobalVar) → at ≤ end_of persistent at gs
 end_of-ge persistent at [] = omega arith
 end_of-ge persistent at (g ∷ gs) =
@@ -30,7 +30,7 @@ same-beq true false e = cc
 same-beq false true e = cc
 same-beq false false e = refl
 
--- The end is past what one of them ends at.
+-- Globals do not end before the first of them ends.
 pub end_of-past : (persistent : Bool) (at : ℕ) (gs : List GlobalVar) (i : ℕ) (g : GlobalVar) → i < length gs → g ≡ get_or gs i g → beq g.persistent persistent ≡ true →
     global_start at g + size_of g.ty ≤ end_of persistent at (drop i gs)
 end_of-past persistent at gs i g within is counted =
@@ -49,7 +49,7 @@ same-refl : (b : Bool) → same_truth b b ≡ true
 same-refl true = refl
 same-refl false = refl
 
--- It begins no later than they end.
+-- A global does not begin after the end of the globals of its kind.
 pub start_of-le : (persistent : Bool) (at : ℕ) (gs : List GlobalVar) (n : ℕ) → n < length gs → is_persistent gs n ≡ persistent → start_of persistent at gs n ≤ end_of persistent at gs
 start_of-le persistent at [] n within is = absurd (omega arith)
 start_of-le persistent at (g ∷ gs) zero within is =

@@ -25,7 +25,7 @@ one_longer : (before rest : List (Entry ℕ)) (e : Entry ℕ) → (before ++ e �
 one_longer before rest e = append_assoc before (e ∷ []) rest
 
 module _ {ns ms : List (List ℕ)} {vs us : List ℕ} (base start p v : ℕ) (gs : List GlobalVar) (i : ℕ) (g : GlobalVar) where
-  -- A persistent global more.
+  -- One more persistent global is laid.
   pub laid_persistent : IsLaid ns vs base start p v gs i → i < length gs → g ≡ get_or gs i g → g.persistent ≡ true → Gains ns vs ms us (address_entry g.name (global_start p g) ∷ []) → IsLaid ms us base start (global_start p g + size_of g.ty) v gs (i + 1)
   laid_persistent is within here kind gains =
       let e : Entry ℕ = address_entry g.name (global_start p g) in
@@ -57,7 +57,7 @@ module _ {ns ms : List (List ℕ)} {vs us : List ℕ} (base start p v : ℕ) (gs
       }
 
 module _ {ns : List (List ℕ)} {vs : List ℕ} (base start p v : ℕ) (gs : List GlobalVar) (i : ℕ) (g : GlobalVar) where
-  -- It ends within the end of all.
+  -- If all persistent globals end below 2 ^ 64, so does this one.
   pub persistent_within : IsLaid ns vs base start p v gs i → i < length gs → g ≡ get_or gs i g → g.persistent ≡ true → end_of true base gs < 2 ^ 64 → global_start p g + size_of g.ty < 2 ^ 64
   persistent_within is within here kind low =
       let next = global_start p g + size_of g.ty in

@@ -16,7 +16,7 @@ use Rattle.hip_globals.specs.Values.{global_address, aligned, constant_bytes}
 use Rattle.hip_globals.specs.Held.{HoldsAt, HoldsGlobals}
 use Rattle.hip_globals.proofs.InitialLemmas.{length-aligned, length_more}
 
--- What is laid goes on from the bytes so far.
+-- The whole begins with the bytes of the front.
 record GoesOn (whole front : List ℕ) : Type 0 where
   pub rest : List ℕ
   pub is : whole ≡ front ++ rest
@@ -35,7 +35,7 @@ laid_goes_on a k start so_far (g ∷ gs) =
     let more = next_front (same_truth g.persistent k) a start so_far g in
     goes_further (laid_bytes a k start next gs) so_far more.0 (subst (λ (front : List ℕ). GoesOn (laid_bytes a k start next gs) front) more.1 (laid_goes_on a k start next gs))
 
--- Bytes after others.
+-- If the whole begins with a front and then some bytes, it has these bytes after the front.
 held_past : (whole front bytes : List ℕ) → GoesOn whole (front ++ bytes) → HoldsAt whole (length front) bytes
 held_past whole front bytes g = record {
   is =

@@ -78,7 +78,7 @@ volatile_next p v g gs k kind = rw kind refl
 abbrev global_names : List GlobalVar → List (List ℕ)
 global_names gs = map (λ g. g.name) gs
 
--- What a number denotes: 0 is the first, and the others are those of the rest.
+-- The value at a number in a list is the first value for 0, and a value of the rest for any other number.
 first_or_later : (b : Bool) (all rest : ℕ → ℕ) (first : ℕ) (o : Option ℕ) → first ≡ all 0 → ((k : ℕ) → all (suc k) ≡ rest k) → (if b then Some first else option_map rest o) ≡ option_map all (cond b (Some 0) (option_map suc o))
 first_or_later true all rest first o e h = ap Some e
 first_or_later false all rest first None e h = refl
@@ -146,7 +146,7 @@ length-region P base =
     let zero_more : 0 + length (region_bytes P base) ≡ length (region_bytes P base) = omega arith in
     sym zero_more ∙ length-aligned 0 64 laid ∙ ap (λ n. next_multiple_of n 64) end
 
--- By the table and by the program.
+-- The bytes by the addresses of the table are the bytes by the addresses of the program.
 pub laid_alike : (P : Program) (base : ℕ) (table : NameTable ℕ) (gs : List GlobalVar) (persistent : Bool) (start : ℕ) → StandsFor table.names table.values (laid_entries base volatile_start gs) → gs ≡ P.globals →
     laid_bytes (address_beside table) persistent start [] gs ≡ laid_bytes (global_address P.globals base) persistent start [] P.globals
 laid_alike P base table gs persistent start stands e =

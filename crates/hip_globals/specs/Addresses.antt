@@ -1,5 +1,5 @@
--- Where globals lie: volatile ones in order from 65,536, persistent ones in order from the base of the region, each at
--- its alignment. These addresses are this project's own.
+-- The addresses of globals: the volatile ones are in order from 65,536 on, and the persistent ones in order from the
+-- base of the region on, each at a multiple of its alignment. These addresses are this project's own.
 use Rattle.std.specs.Prelude.{ℕ, zero, suc, ◌+◌, ◌%◌, ◌==◌, ◌≡◌, ◌==◌, ◌≤◌, ◌&&◌, nat_le, max, Bool, true, false, List, [], ◌∷◌, All, Option, Some, None, if◌then◌else◌}
 use Rattle.std.specs.Int.{next_multiple_of}
 use Rattle.hip_types.specs.Layout.{Fits, shape}
@@ -39,14 +39,14 @@ global_align g = with_own g.align (shape g.ty).align
 abbrev pub global_start : ℕ → GlobalVar → ℕ
 global_start at g = next_multiple_of at (global_align g)
 
--- Where these globals end that are persistent, or those that are not, if they are laid from `at` on.
+-- Where the globals of one kind, persistent or volatile, end if they are laid from `at` on.
 abbrev pub end_of : Bool → ℕ → List GlobalVar → ℕ
 end_of persistent at [] = at
 end_of persistent at (g ∷ gs) =
     end_of persistent (if same_truth g.persistent persistent then global_start at g + (shape g.ty).size else at) gs
 
--- Where the global of that number, counted from 0 among all, begins, if the persistent ones before it, or the others,
--- are laid from `at` on; where these end if no global has the number.
+-- Where the global of that number begins, counted from 0 among all globals, if the globals of its kind, persistent or
+-- volatile, are laid from `at` on. If no global has the number, it is where the globals of the kind end.
 abbrev pub start_of : Bool → ℕ → List GlobalVar → ℕ → ℕ
 start_of persistent at [] number = at
 start_of persistent at (g ∷ gs) zero = global_start at g

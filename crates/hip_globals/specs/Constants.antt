@@ -22,11 +22,11 @@ types_step (Const-F.Array items) = joined items
 types_step (Const-F.Struct items) = joined items
 types_step _ = []
 
--- Those in a constant `getelementptr`: the type that its indices enter, and then those of its base.
+-- The types in a constant `getelementptr`: the type that its indices enter, and then the types in its base.
 abbrev pub gep_types_step : ConstGep-F (List Ty) (List Ty) (List Ty) → List Ty
 gep_types_step gep = gep.ty ∷ gep.base
 
--- Those in an item of a constant list: its own type, and then those of its value.
+-- The types in an item of a constant list: its own type, and then the types in its value.
 abbrev pub item_types_step : TypedConst-F (List Ty) (List Ty) (List Ty) → List Ty
 item_types_step item = item.ty ∷ item.value
 

@@ -5,12 +5,12 @@ use Rattle.hip_tree.specs.declared.program.Program.{Program}
 use Rattle.hip_globals.specs.Addresses.{same_truth, start_of}
 use Rattle.hip_globals.specs.Values.{global_address, constant_bytes}
 
--- These bytes are at a place among others.
+-- The whole has these bytes from this place on.
 pub record HoldsAt (whole : List ℕ) (place : ℕ) (bytes : List ℕ) : Type 0 where
   pub is : take (length bytes) (drop place whole) ≡ bytes
 
--- Each global that is persistent, or that is not, has the bytes of its initialiser where it lies, counted from the
--- place of the first byte.
+-- The bytes, of which the first is at `start`, have the bytes of each initialiser at the place of its global. This
+-- holds for all globals of one kind, persistent or volatile.
 pub record HoldsGlobals (P : Program) (base : ℕ) (persistent : Bool) (start : ℕ) (bytes : List ℕ) : Type 0 where
   pub holds : (number : ℕ) (g : GlobalVar) → slice_get P.globals number ≡ Some g
       → same_truth g.persistent persistent ≡ true

@@ -8,7 +8,8 @@ use Rattle.hip_types.specs.Areas.{volatile_start}
 use Rattle.hip_globals.specs.Addresses.{global_align, same_truth}
 use Rattle.hip_globals.specs.Values.{global_address, aligned, constant_bytes}
 
--- The persistent ones, or the others, after the bytes so far, whose first byte lies at a place.
+-- The bytes so far, and after them those of the globals of one kind, persistent or volatile. The first byte is at
+-- `start`.
 abbrev pub laid_bytes : (List ℕ → ℕ) → Bool → ℕ → List ℕ → List GlobalVar → List ℕ
 laid_bytes address_of persistent start so_far [] = so_far
 laid_bytes address_of persistent start so_far (g ∷ gs) =

@@ -35,7 +35,7 @@ value_step address_of _ = 0
 
 -- ---- bytes one after another
 
--- Zeros after them up to the next multiple of the alignment, if the first byte lies at a place.
+-- The bytes, and zeros after them up to the next multiple of the alignment. The first byte is at `start`.
 abbrev pub aligned : ℕ → ℕ → List ℕ → List ℕ
 aligned start align bytes =
     bytes ++ replicate (next_multiple_of (start + length bytes) align - (start + length bytes)) 0
@@ -61,8 +61,9 @@ pub record Written : Type 0 where
   pub value : ℕ
   pub bytes : List ℕ
 
--- An array's items follow one another, and a struct's fields lie each at its alignment. Any other constant is the bytes
--- of its value, the lowest first. (LLVM, "Constants"; the order of bytes of x86-64.)
+-- The bytes of a constant. An array's items follow one another, and each field of a struct is at a multiple of its
+-- alignment. Any other constant has the bytes of its value, the lowest first. (LLVM, "Constants"; the order of bytes of
+-- x86-64.)
 abbrev bytes_step : ℕ → Const-F Written ℕ Piece → List ℕ
 bytes_step value (Const-F.Array items) = joined (map (λ p. p.bytes) items)
 bytes_step value (Const-F.Struct items) = placed [] items
@@ -80,7 +81,7 @@ gep_step gep = element_address gep.base.value gep.ty (map index_of gep.indices)
 abbrev pub item_step : TypedConst-F Written ℕ Piece → Piece
 item_step item = record { align = align_of item.ty; bytes = sized (size_of item.ty) item.value.bytes }
 
--- What a constant is, where names have these addresses.
+-- The value and the bytes of a constant, where names have these addresses.
 abbrev pub written : (List ℕ → ℕ) → Const → Written
 written address_of = fold-Const Written ℕ Piece (written_step address_of) gep_step item_step
 

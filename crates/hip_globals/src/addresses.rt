@@ -33,7 +33,7 @@ pub fn alignment(global: &GlobalVar) -> u64
     }
 }
 
-/// Where a global ends that is laid from a place on; none from 2^64 on.
+/// Where a global ends that is laid from a place on; none if the end is 2^64 or more.
 fn end_after(at: u64, global: &GlobalVar) -> Option<u64>
     requires { Fits global.now.ty }
     ensures { SomeIff result (global_start at global.now + size_of global.now.ty < 2 ^ 64)
@@ -45,7 +45,7 @@ fn end_after(at: u64, global: &GlobalVar) -> Option<u64>
     }
 }
 
-/// Where those of the globals end that are persistent, or the others; none from 2^64 on.
+/// Where the globals of one kind, persistent or volatile, end; none if the end is 2^64 or more.
 fn end_of(globals: &[GlobalVar], persistent: bool, start: u64) -> Option<u64>
     requires { OwnTypesFit globals.now }
     ensures { SomeIff result (spec.end_of persistent start globals.now < 2 ^ 64)
@@ -63,7 +63,7 @@ fn end_of(globals: &[GlobalVar], persistent: bool, start: u64) -> Option<u64>
     Some(at)
 }
 
-/// Whether the persistent globals, or the others, end at most at a limit.
+/// Whether the globals of one kind, persistent or volatile, end at the limit or before it.
 fn end_within(globals: &[GlobalVar], persistent: bool, start: u64, limit: u64) -> bool
     requires { OwnTypesFit globals.now }
     ensures { result ≡ nat_le (spec.end_of persistent start globals.now) limit }

@@ -17,7 +17,7 @@ use hip_tree::{GlobalVar, Program};
 use hip_types::{LINE_SIZE, NoMemory, VOLATILE_START, size};
 use std::alloc::Global;
 
-/// Adds the bytes of a global after those of the globals before it. The first of them lies at an address.
+/// Adds the bytes of a global after those of the globals before it. The first byte of all is at `start`.
 fn add_global(
     alloc: Global,
     bytes: &mut Image,
@@ -36,7 +36,7 @@ fn add_global(
     set_size(bytes, len, size(&global.ty))
 }
 
-/// The bytes of the persistent ones of these globals, or of the others; the first of them lies at an address.
+/// The bytes of the globals of one kind, persistent or volatile. The first byte is at `start`.
 fn laid_bytes(
     alloc: Global,
     addresses: &AddressTable<'_>,

@@ -87,7 +87,7 @@ with_flag f Nuw = record f { nuw = true }
 with_flag f Nsw = record f { nsw = true }
 with_flag f Exact = record f { exact = true }
 
--- { flag }, each one a flag of the operation; only the set counts, not the order or how often a flag comes
+-- { flag }, where each is a flag of the operation. Only the set counts, not the order or how often a flag occurs.
 unfoldable pub flags : BinaryOp → Part Fault Flags
 flags op = do
   found ← repeated (is_word_of (flag_word op)) (token (a_word_of (flag_word op)))
@@ -265,7 +265,8 @@ value_instr dest =
 unfoldable pub effect_instr : Part Fault Instr
 effect_instr = either (is_word (codes "store")) store (call None)
 
--- The cases of instr that begin by LOCAL "=" are taken together: a front that cases share is a front of each of them.
+-- The cases of instr that begin with LOCAL "=" are taken together, since a front that cases share is a front of each of
+-- them.
 unfoldable pub assigning_instr : Part Fault Instr
 assigning_instr = do
   dest ← assigned
@@ -382,7 +383,7 @@ instrs_and_end label phis = do
   body ← repeated begins_instr instr
   closing label phis body
 
--- The same after a first instruction.
+-- The rest of a block after its first instruction.
 unfoldable pub after_first : List ℕ → List Phi → Instr → Part Fault Block
 after_first label phis first = do
   body ← repeated begins_instr instr

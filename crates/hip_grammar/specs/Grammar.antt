@@ -23,7 +23,7 @@ use Rattle.hip_tree.specs.declared.instr.Operand.TheVariants as operands
 use Rattle.hip_grammar.specs.Words.{is_word, is_mark, is_local, comma, a_local, too_deep, a_word_of, width_word, width_text, scalar_word, scalar_text, type_word}
 use Rattle.hip_grammar.specs.Numbers.{a_literal, an_int_const, a_count}
 
--- This word, this mark.
+-- The token that is this word.
 abbrev pub word : List ℕ → Part Fault (Unit {0})
 word w = passing (is_word w)
 
@@ -47,11 +47,11 @@ int = token (a_word_of width_word)
 abbrev pub scalar : Part Fault Scalar
 scalar = token (a_word_of scalar_word)
 
--- The type that was there before, once more.
+-- Whether the token is the word of this integer type, where a type is written again.
 abbrev pub is_width : Width → Tok → Bool
 is_width w = is_word (width_text w)
 
--- The same for any scalar type, as before the second value of a `select`.
+-- Whether the token is the word of this scalar type, as before the second value of a `select`.
 abbrev pub is_scalar : Scalar → Tok → Bool
 is_scalar s = is_word (scalar_text s)
 
@@ -132,7 +132,7 @@ unfoldable pub pointer_within : ℕ → Part Fault Const
 pointer_within zero = pointer_by (λ inbounds. token (too_deep (byte "(")))
 pointer_within (suc n) = pointer_by (gep_inside (pointer_within n))
 
--- A constant under `ptr`, with at most `DEEPEST_NESTING` `getelementptr` in one another.
+-- A constant under `ptr`, with at most `DEEPEST_NESTING` nested `getelementptr`.
 abbrev pub pointer_const : Part Fault Const
 pointer_const = pointer_within DEEPEST_NESTING
 

@@ -1,4 +1,4 @@
--- The numbers of a text, by their places.
+-- The values of the numbers in a text, which depend on their places.
 use Rattle.std.specs.Prelude.{ℕ, ◌+◌, ◌-◌, ◌*◌, ◌^◌, ◌%◌, Bool, false, not, ◌&&◌, List, [], ◌∷◌, Option, Some, None, ◌==◌, nat_lt, nat_le, if◌then◌else◌, codes}
 use Rattle.std.specs.Str.{bytes_eq}
 use Rattle.hip_tokens.specs.Bytes.{byte}
@@ -16,7 +16,7 @@ use Rattle.hip_types.specs.Numbers.{bits}
 use Rattle.hip_types.specs.declared.limits.TheConstants.{LARGEST_ALIGNMENT, LARGEST_COUNT}
 use Rattle.hip_grammar.specs.Words.{or_no, is_word}
 
--- The value of digits after others.
+-- The value of decimal digits that follow other digits, whose value is n.
 abbrev pub digits_from : ℕ → List ℕ → ℕ
 digits_from n [] = n
 digits_from n (d ∷ ds) = digits_from (10 * n + (d - byte "0")) ds
@@ -36,11 +36,11 @@ abbrev pub or_range : {A : Type 0} → Option A → Verdict Fault A
 or_range (Some n) = Yes n
 or_range None = Because Range
 
--- n if it is below the limit, else none
+-- The number n if it is below the limit, else none.
 abbrev pub below : ℕ → ℕ → Option ℕ
 below limit n = if nat_lt n limit then Some n else None
 
--- -n modulo 2^w, for n up to 2^(w-1)
+-- -n modulo 2^w, for n up to 2^(w-1).
 abbrev pub negated : Width → ℕ → Option ℕ
 negated w n = if n == 0 then Some 0 else (if nat_le n (2 ^ (bits_of w - 1)) then Some (2 ^ bits_of w - n) else None)
 
@@ -89,11 +89,11 @@ abbrev pub a_count : Tok → Verdict Fault ℕ
 a_count (Num t) = or_range (count_of t)
 a_count _ = No
 
--- A power of two up to the largest alignment, which is one itself: its divisors.
+-- Whether n divides the largest alignment, so that it is a power of two up to it.
 abbrev pub is_alignment : ℕ → Bool
 is_alignment n = not (n == 0) && (LARGEST_ALIGNMENT % n == 0)
 
--- The alignment in bytes that a number gives; none after a `-`, and if the number is no alignment.
+-- The alignment in bytes that a number gives; none after a `-`, or if the number is no alignment.
 abbrev pub alignment_of : List ℕ → Option ℕ
 alignment_of t = if not (is_negative t) && is_alignment (magnitude t) then Some (magnitude t) else None
 

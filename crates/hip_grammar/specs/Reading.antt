@@ -13,13 +13,13 @@ use Rattle.hip_grammar.specs.Unsupported.{usual}
 abbrev pub Reads : List ℕ → Program → Type 0
 Reads bytes program = text.rule.Derives (tokens bytes) program []
 
--- The refused token is the first of `rest`, or the end of the text where `rest` is empty.
--- Up to each place before it the tokens are a front of the grammar, and with it they are none.
+-- The refused token is the first of `rest`, or the end of the text if `rest` is empty. The tokens up to each place at
+-- or before it are a front of the grammar, and no front goes further.
 pub record IsRefusedAt (ts : List At) (why : Fault) (rest : List At) : Type 0 where
   pub here : Later ts rest
   pub viable : (m : List At) → Later ts m → Later m rest → text.rule.Front ts m
   pub no_further : (m : List At) → text.rule.Front ts m → length rest ≤ length m
-  -- A reason of the token's place goes before the usual one.
+  -- A reason of the token's place takes precedence over the usual fault.
   pub own : (w : Fault) → text.rule.Refuses w ts rest → why ≡ w
   pub other : ((w : Fault) → text.rule.Refuses w ts rest → ⊥) → why ≡ usual rest
 

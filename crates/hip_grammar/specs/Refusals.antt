@@ -7,7 +7,7 @@ use Rattle.hip_grammar.specs.Reading.{IsRefusal}
 use Rattle.hip_grammar.specs.declared.refusal.ParseRefusal.{ParseRefusal}
 use Rattle.hip_grammar.specs.declared.refusal.ParseRefusal.TheVariants as refusals
 
--- Out of memory has no cause in the text.
+-- The text is refused for the fault and on the line that the refusal states. `NoMemory` states nothing of the text.
 abbrev pub IsCause : List ℕ → ParseRefusal → Type 0
 IsCause text (refusals.Syntax line) = IsRefusal text faults.Syntax line
 IsCause text (refusals.Unsupported line) = IsRefusal text faults.Unsupported line

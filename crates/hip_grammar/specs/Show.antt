@@ -36,12 +36,12 @@ use Rattle.hip_grammar.specs.Words.{width_text, scalar_text, ret_text, binary_te
 
 -- ---- lists
 
--- Each with a comma before it.
+-- The texts, each with a comma before it.
 abbrev pub after_commas : List (List ℕ) → List ℕ
 after_commas [] = []
 after_commas (t ∷ ts) = codes ", " ++ (t ++ after_commas ts)
 
--- A comma between each two.
+-- The texts, with a comma between each two.
 abbrev pub commas : List (List ℕ) → List ℕ
 commas [] = []
 commas (t ∷ ts) = t ++ after_commas ts
@@ -255,7 +255,7 @@ abbrev pub fixed_text : Bool → List ℕ
 fixed_text true = codes "constant "
 fixed_text false = codes "global "
 
--- `@x = global i64 0, section ".pm", align 8` and a line feed; no linkage is written
+-- `@x = global i64 0, section ".pm", align 8` and a line feed. No linkage is written.
 abbrev pub global_text : GlobalVar → List ℕ
 global_text g =
     codes "@" ++ (g.name ++ (codes " = " ++ (fixed_text g.fixed ++ (type_text g.ty ++ (codes " " ++ (const_text g.init

@@ -99,7 +99,7 @@ unfoldable pub spelled_pointer_within : ℕ → Const → Bool
 spelled_pointer_within zero c = spelled_pointer_level (λ gep. false) (out-Const c)
 spelled_pointer_within (suc n) c = spelled_pointer_level (spelled_gep (spelled_pointer_within n)) (out-Const c)
 
--- A constant under `ptr`, with at most `DEEPEST_NESTING` `getelementptr` in one another.
+-- A constant under `ptr`, with at most `DEEPEST_NESTING` nested `getelementptr`.
 abbrev pub spelled_pointer : Const → Bool
 spelled_pointer = spelled_pointer_within DEEPEST_NESTING
 
@@ -133,8 +133,8 @@ spelled_struct inner (Const-F.Gep gep) = false
 spelled_struct inner (Const-F.Array items) = false
 spelled_struct inner (Const-F.Struct items) = inner items
 
--- A constant under a type, by which lists may stand; that lists have the type's lengths and member types is no rule
--- of the reader.
+-- A constant under a type, by a test of its list. The reader does not require that a list has the length and the member
+-- types of the type.
 abbrev pub spelled_const_by : (List TypedConst → Bool) → Ty-F Ty → Const → Bool
 spelled_const_by inner (Ty-F.Int w) c = spelled_int w (out-Const c)
 spelled_const_by inner Ty-F.Ptr c = spelled_pointer c
@@ -212,7 +212,8 @@ spelled_memory_instr (instrs.Call dest ret callee args) =
     spelled_result dest && (is_name callee && list_all spelled_arg args)
 spelled_memory_instr _ = false
 
--- Any instruction: its names can be written, its operands stand under their types, a `select`'s condition under i1.
+-- Any instruction: its names can be written, its operands are allowed under their types, and a `select`'s condition
+-- under i1.
 abbrev pub spelled_instr : Instr → Bool
 spelled_instr (instrs.Binary dest op flags w a b) =
     is_name dest && (spelled_flags op flags && (spelled_operand (scalars.Int w) a && spelled_operand (scalars.Int w) b))
@@ -272,7 +273,7 @@ abbrev pub spelled_function : Function → Bool
 spelled_function f =
     is_name f.name && (list_all spelled_param f.params && (not_empty f.blocks && list_all spelled_block f.blocks))
 
--- The rules of each global, external function and function by itself; that names differ is no rule here.
+-- Each global, each external function and each function meets its own rules. There is no rule here that names differ.
 abbrev pub spelled_program : Program → Bool
 spelled_program p =
     list_all spelled_global p.globals && (list_all spelled_extern p.externs && list_all spelled_function p.functions)

@@ -168,7 +168,7 @@ begins_item t =
 abbrev pub no_items : Program
 no_items = record { globals = []; externs = []; functions = [] }
 
--- Each item goes to the end of its list.
+-- The item goes to the end of its list; an item that is dropped changes nothing.
 abbrev pub with_item : Program → Item → Program
 with_item p (GlobalItem g) = record p { globals = p.globals ++ g ∷ [] }
 with_item p (ExternItem e) = record p { externs = p.externs ++ e ∷ [] }

@@ -122,7 +122,7 @@ scalar_text scalars.Ptr = codes "ptr"
 abbrev pub scalar_word : List ℕ → Option Scalar
 scalar_word t = if bytes_eq t (codes "ptr") then Some scalars.Ptr else option_map (λ w. scalars.Int w) (width_word t)
 
--- `void` is no result.
+-- The word of the type of a result; `void` if there is no result.
 abbrev pub ret_text : Option Scalar → List ℕ
 ret_text None = codes "void"
 ret_text (Some s) = scalar_text s
@@ -199,7 +199,7 @@ cast_text casts.Trunc = codes "trunc"
 cast_text casts.Ptrtoint = codes "ptrtoint"
 cast_text casts.Inttoptr = codes "inttoptr"
 
--- Those from an integer type to an integer type.
+-- The conversions from an integer type to an integer type.
 abbrev pub int_casts : List CastOp
 int_casts = casts.Zext ∷ casts.Sext ∷ casts.Trunc ∷ []
 
@@ -257,7 +257,7 @@ unnamed_word t =
     else (if bytes_eq t (codes "local_unnamed_addr") then Some tt
     else None)
 
--- A word of either kind, as it may follow the `=` of a global.
+-- A word of linkage, or one for an address that is not significant, as it may follow the `=` of a global.
 abbrev pub linkage_word : List ℕ → Option (Unit {0})
 linkage_word t = if is_some (link_word t) then Some tt else unnamed_word t
 

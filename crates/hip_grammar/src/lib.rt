@@ -1,4 +1,5 @@
-//! Which text reads as which tree: the words of the grammar, and why a text is refused. The grammar itself is in `specs/`.
+//! Which text reads as which tree: the words of the grammar, and why a text is refused. The grammar itself is in
+//! `specs/`.
 #![tactic(auto)]
 
 mod fault;

@@ -76,7 +76,7 @@ pub fn scalar_word(word: &[u8]) -> Option<Scalar>
     }
 }
 
-/// The type of a result that the word names; none for `void`.
+/// The type of a result that the word names, where `void` names no result; none for any other word.
 pub fn ret_word(word: &[u8]) -> Option<Option<Scalar>>
     ensures { result ≡ ret_word word.now }
 {

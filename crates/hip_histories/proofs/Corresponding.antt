@@ -56,7 +56,7 @@ reached f first onward (suc m) k le =
 
 -- ---- the frames of matching states have the same activations
 
--- The function of this number; 0 where there is none.
+-- The number of a function; 0 if there is none.
 number_or : Option ℕ → ℕ
 number_or None = 0
 number_or (Some f) = f
@@ -195,7 +195,7 @@ valid_back P Q d I v = record {
   limit = v.limit;
 }
 
--- The activation of the original of its function.
+-- The activation with the original of its function in the function's place.
 relabelled : (ℕ → ℕ) → Activation → Activation
 relabelled original a =
     record {
@@ -212,7 +212,7 @@ unfolding relabelled
 originals o p [] = refl
 originals o p (f ∷ fs) = ap (λ xs. activation (λ f. o (p f)) f ∷ xs) (originals o p fs)
 
--- A report of the third program has one of the first, of the same store.
+-- For each report of the third program, the first program has a report of the same store.
 report_both : (P Q R : Program) (I : Input) (f g : ℕ → ℕ) (n : ℕ) (range : Range) (r : Report)
     → HasReportOf Q R I g n range r
     → ((r' : Report) → In r' (check_reports (run Q I (g n)) (Some range)) → HasReportOf P Q I f (g n) range r')

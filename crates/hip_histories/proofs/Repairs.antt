@@ -53,7 +53,7 @@ all_clean P (r ∷ rs) s I v clean =
     all_clean (repaired P r.plan r.skip) rs (repaired_is_sound P r.plan r.skip s) I (valid_again P r.plan r.skip I v)
     (stays_clean P r.plan r.skip s I v clean)
 
--- What was found after some repairs is mended by the next, and stays mended.
+-- The repair that follows some repairs mends what was found after them, and it stays mended.
 pub all_mended : (P : Program) (before : List Repair) (r : Repair) (after : List Repair) → IsSound P → (I : Input)
     → (found : Findings) → IsValid P I → IsQuiet (repaired_on P before) r.skip
     → IsFound (repaired_on P before) I found → Contains r.plan (plan_for (repaired_on P before) found)

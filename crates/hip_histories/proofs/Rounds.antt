@@ -1,4 +1,4 @@
--- What a program that does no harm has of crash histories and of whole runs.
+-- The crash histories and the whole runs of a program that does no harm.
 use Rattle.std.proofs.Common.{◌≡◌, ℕ, false, List, [], ◌∷◌, Option, length, refl, sym, ap, ap₂, ◌∙◌, subst}
 use Rattle.hip_tree.specs.declared.program.Program.{Program}
 use Rattle.hip_tree.specs.declared.program.GlobalVar.{GlobalVar}
@@ -21,7 +21,7 @@ use Rattle.hip_histories.specs.NoHarm.{Mirrors, GoesAlong, DoesNoHarm}
 use Rattle.hip_histories.specs.WholeRuns.{EndAlike}
 use Rattle.hip_histories.proofs.Corresponding.{valid_back, valid_there}
 
--- Working memory by a program's globals.
+-- Working memory, given a program's globals.
 abbrev memory_with : Input → World → List GlobalVar → Memory
 memory_with I w gs =
     record {
@@ -58,7 +58,7 @@ module _ (P Q : Program) (d : DoesNoHarm P Q) where
             (ap (λ (w : World). w.ending) (sym m.world)) rest.ended;
       }
 
-  -- The same world is the same working memory.
+  -- In the same world, both programs have the same working memory.
   same_memory : (I : Input) (w : World) → memory_of Q I w ≡ memory_of P I w
   same_memory I w = ap (memory_with I w) d.globals
 

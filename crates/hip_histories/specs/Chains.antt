@@ -52,9 +52,9 @@ pub record LastsOn (P Q : Program) (I : Input) : Type 0 where
 
 -- ---- repairs one after another
 
--- What every chain of repairs from P to Q keeps, whatever its plans: Q is sound and does no harm in the place of P. A
--- clean run stays clean, no crash history is added, a history in which no crash loses anything stays, and each run ends
--- as P's.
+-- What every chain of repairs from P to Q keeps, whatever its plans are: Q is sound and does no harm in the place of P.
+-- A clean run stays clean, no crash history is added, a history in which no crash loses anything stays a history, and
+-- each run ends as the run of P does.
 pub record KeepsProgram (P Q : Program) : Type 0 where
   pub sound : IsSound Q
   pub harmless : DoesNoHarm P Q
@@ -69,8 +69,8 @@ pub record TraceRepair : Type 0 where
   pub findings : Findings
   pub repair : Repair
 
--- The repair is made for the run of P on its input: its plan has what the run found, and the stores that its clones
--- do not flush never lie in the region.
+-- The repair is made for the run of P on its input: its plan has what the run found, and the stores that its clones do
+-- not flush never write to the region.
 pub record IsMadeFor (P : Program) (r : TraceRepair) : Type 0 where
   pub valid : IsValid P r.input
   pub found : IsFound P r.input r.findings

@@ -11,10 +11,10 @@ use Rattle.hip_histories.specs.Chains.{LastsOn}
 use Rattle.hip_histories.specs.Histories.{AddsNoHistory}
 use Rattle.hip_histories.specs.WholeRuns.{EndAlike}
 
--- On this input each byte that the repaired program checks survives a crash at the check. On every input what was
--- stored under a hoisted call survives a crash after the fence that follows the call, no byte is looser and no check
--- worse than in the program, each crash history is one of the program, and the run ends exactly as the program's. And
--- all that lasts through later repairs.
+-- On this input each byte that the repaired program checks survives a crash at the check. On every input, what was
+-- stored under a hoisted call survives a crash after the fence that follows the call, no byte becomes loose and no
+-- check is worse than in the program, each crash history is a crash history of the program, and the run ends exactly as
+-- the program's run does. All this still holds after later repairs.
 pub record IsCrashSafe (P : Program) (I : Input) (plan : Plan) (skip : Site → Bool) : Type 0 where
   pub checks : ChecksSurvive (repaired P plan skip) I
   pub calls : CoveredSurvive P (repaired P plan skip)

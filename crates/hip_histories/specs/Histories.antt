@@ -32,23 +32,23 @@ pub record IsRound (P : Program) (bytes : List ℕ) (r : Round) : Type 0 where
   pub valid : IsValid P (input_of bytes r)
   pub left : IsCrashImage (input_of bytes r) (state_of P bytes r) r.image
 
--- Crash history: the first round begins with these bytes, and each later round with the bytes that the crash before
--- it left.
+-- The rounds are a crash history: the first round begins with these bytes, and each later round begins with the bytes
+-- that the crash before it left.
 abbrev pub IsHistory : Program → List ℕ → List Round → Type 0
 IsHistory P bytes [] = Unit {0}
 IsHistory P bytes (r ∷ rs) = IsRound P bytes r × IsHistory P r.image rs
 
--- The output of a history: what each round had printed when its crash came.
+-- The output of a history: what each round has printed at its crash.
 abbrev pub outputs : Program → List ℕ → List Round → List (List ℕ)
 outputs P bytes [] = []
 outputs P bytes (r ∷ rs) = (state_of P bytes r).world.output ∷ outputs P r.image rs
 
--- How each round had ended when its crash came; none where it was still running.
+-- How each round has ended at its crash; none for a round that is still running.
 abbrev pub endings : Program → List ℕ → List Round → List (Option Ending)
 endings P bytes [] = []
 endings P bytes (r ∷ rs) = (state_of P bytes r).world.ending ∷ endings P r.image rs
 
--- The two rounds are given the same and their crashes leave the same bytes. Their numbers of steps may differ.
+-- The two rounds have the same input and their crashes leave the same bytes. Their numbers of steps may differ.
 pub record IsSameRound (r r' : Round) : Type 0 where
   pub base : r'.base ≡ r.base
   pub numbers : r'.numbers ≡ r.numbers

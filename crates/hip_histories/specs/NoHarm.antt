@@ -1,5 +1,5 @@
--- One program does no harm in the place of another. It is what `IsHarmless` says of a repair, said of two programs
--- alone without plans and clones, so that it holds across several repairs. (This project's own.)
+-- One program does no harm in the place of another. This is what `IsHarmless` says about a repair, but about two
+-- programs alone, without plans and clones, so that it holds across several repairs. (This project's own.)
 use Rattle.std.specs.Prelude.{◌≡◌, ◌⊎◌, ℕ, suc, ◌<◌, ◌≤◌, List, Some, length, map}
 use Rattle.hip_tree.specs.declared.program.Program.{Program}
 use Rattle.hip_runs.specs.Crash.{IsCrashImage}
@@ -32,9 +32,9 @@ activation original f =
       slots = extents f.slots;
     }
 
--- A state s' matches a state s: output, ending, turns, writes, numbers left and the stack's mark are the same, each
--- cache line has the same parts, the frames have the same activations one by one, but for functions in place of their
--- originals, and each crash image of s' is one of s.
+-- A state s' matches a state s: output, ending, turns, writes, the numbers that are left and the stack's mark are the
+-- same, each cache line has the same parts, the frames at the same place have the same activations if each function is
+-- replaced by its original, and each crash image of s' is a crash image of s.
 pub record Mirrors (original : ℕ → ℕ) (I : Input) (s s' : State) : Type 0 where
   pub world : s'.world ≡ s.world
   pub lines : map contents s'.lines ≡ map contents s.lines
@@ -42,9 +42,9 @@ pub record Mirrors (original : ℕ → ℕ) (I : Input) (s s' : State) : Type 0 
   pub images : (content : List ℕ) → IsCrashImage I s' content → IsCrashImage I s content
 
 -- The run of Q goes along the run of P. Each number of Q's steps corresponds to a number of P's steps, which begins
--- with 0 and stays or grows by 1 with each step of Q. The states after them match, at least as much is flushed and
--- durable in Q's, no byte is loose in Q's alone, and no check of Q is worse. Each number of P's steps corresponds to
--- one of Q's.
+-- with 0 and stays or grows by 1 with each step of Q. The states after these steps match, at least as much is flushed
+-- and durable in Q's state, no byte is loose only in Q's state, and no check of Q is worse. Each number of P's steps
+-- corresponds to a number of Q's steps.
 pub record GoesAlong (original : ℕ → ℕ) (P Q : Program) (I : Input) : Type 0 where
   pub steps_of : ℕ → ℕ
   pub first : steps_of 0 ≡ 0

@@ -1,4 +1,5 @@
-//! Laws of repaired programs over several runs with crashes between them and over several repairs, on definitions alone.
+//! Laws of repaired programs over several runs with crashes between them and over several repairs, on definitions
+//! alone.
 
 ghost use Rattle.hip_histories.specs.Chains.{AreMadeInTurn, IsMendedFor, KeepsProgram, LastsOn, Repair, StaysCovered, TraceRepair, repaired_on};
 ghost use Rattle.hip_histories.specs.CrashSafe.{IsCrashSafe};
@@ -29,25 +30,25 @@ pub fn histories_go_on()
         IsValid P (input_of r.image r) }
 {}
 
-/// A repair adds no crash history, by whatever plan: each crash history of the repaired program is also one of the program,
-/// with the same inputs, images, outputs and endings.
+/// A repair adds no crash history, whatever the plan is: each crash history of the repaired program is also a crash
+/// history of the program, with the same inputs, images, outputs and endings.
 pub fn repairs_add_no_history()
     ensures { (P : Program) → (plan : Plan) → (skip : Site → Bool) → IsSound P →
         AddsNoHistory P (repaired P plan skip) }
 {}
 
-/// A repair keeps each crash history in which no crash loses anything, by whatever plan: if each crash leaves the bytes
-/// of working memory, the history is also one of the repaired program, with the same inputs, images, outputs and
-/// endings.
+/// A repair keeps each crash history in which no crash loses anything, whatever the plan is: if each crash leaves the
+/// bytes of working memory, the history is also a crash history of the repaired program, with the same inputs, images,
+/// outputs and endings.
 pub fn repairs_keep_lossless_histories()
     ensures { (P : Program) → (plan : Plan) → (skip : Site → Bool) → IsSound P →
         KeepsLosslessHistories P (repaired P plan skip) }
 {}
 
-/// Repairs add up, by whatever plans. A program that is repaired twice has nothing to report on the input of each run
-/// that one of the two repairs was made for, and on each input on which it had nothing to report after the first
-/// repair. It does no harm in the place of the program, adds no crash history, and keeps the calls covered that the
-/// first repair hoisted.
+/// Repairs add up, whatever the plans are. A program that is repaired twice has nothing to report on the input of each
+/// run that either repair was made for, and on each input on which it had nothing to report after the first repair. It
+/// does no harm in the place of the program, adds no crash history, and keeps the calls covered that the first repair
+/// hoisted.
 pub fn repairs_add_up()
     ensures clean { (P : Program) → (first second : Plan) → (skip also : Site → Bool) → IsSound P → (I : Input) →
         IsValid P I → IsClean (repaired P first skip) I → IsClean (repaired (repaired P first skip) second also) I }
@@ -66,10 +67,10 @@ pub fn repairs_add_up()
         AddsNoHistory P (repaired (repaired P first skip) second also) }
 {}
 
-/// The same holds of any number of repairs in turn, by whatever plans: what one repair keeps, all of them keep. If each
-/// repair is made for a run of the program that the repairs before it left, the program after all of them is clean on
-/// the input of every trace so far, and the calls that any of them hoisted are covered. A repair by a plan for what was
-/// found after some repairs mends it, and all later repairs keep it mended.
+/// The same holds for any number of repairs one after another, whatever the plans are: what a single repair keeps, all
+/// of them keep. If each repair is made for a run of the program after the repairs before it, the program after all
+/// repairs is clean on the input of every trace so far, and the calls that any of the repairs hoisted are covered. A
+/// repair by a plan for what was found after some repairs mends what was found, and all later repairs keep it mended.
 pub fn chains_of_repairs_add_up()
     ensures keep { (P : Program) → (repairs : List Repair) → IsSound P → KeepsProgram P (repaired_on P repairs) }
     ensures traces { (P : Program) → (repairs : List TraceRepair) → IsSound P → AreMadeInTurn P repairs →
@@ -82,7 +83,7 @@ pub fn chains_of_repairs_add_up()
 {}
 
 /// What a repair guarantees over crashes and over later repairs, if its plan has what a run found and the stores that
-/// the clones do not flush never lie in the region.
+/// the clones do not flush never write to the region.
 pub fn repairs_are_crash_safe()
     ensures lasts { (P : Program) → (I : Input) → (plan : Plan) → (skip : Site → Bool) → (found : Findings) →
         IsSound P → IsValid P I → IsQuiet P skip → IsFound P I found → Contains plan (plan_for P found) →
@@ -97,8 +98,8 @@ pub fn runs_end_in_one_way()
     ensures { (P : Program) → (I : Input) → EndsInOneWay P I }
 {}
 
-/// A repair keeps whole runs, by whatever plan: on each valid input the repaired program's run ends exactly where the
-/// program's run ends, with the same ending, output and working memory.
+/// A repair keeps whole runs, whatever the plan is: on each valid input the run of the repaired program ends exactly
+/// where the run of the program ends, with the same ending, output and working memory.
 pub fn repairs_keep_whole_runs()
     ensures { (P : Program) → (plan : Plan) → (skip : Site → Bool) → IsSound P → (I : Input) → IsValid P I →
         EndAlike P (repaired P plan skip) I }

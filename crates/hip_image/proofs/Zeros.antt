@@ -5,7 +5,7 @@ use Rattle.std.proofs.lemmas.List.{ext_get_or, get_or-take, get_or-drop, get_or_
 below_or_not : (m n : ℕ) → (m < n) ⊎ (n ≤ m)
 below_or_not m n = grind arith
 
--- Zeros at the end do not show.
+-- Zeros at the end of a list do not change what is read at an index.
 pub index-zeros : (xs : List ℕ) (n i : ℕ) → slice_index xs i ≡ slice_index (xs ++ replicate n 0) i
 index-zeros xs n i = go (below_or_not i (length xs)) (below_or_not (i - length xs) n)
   where
@@ -14,7 +14,7 @@ index-zeros xs n i = go (below_or_not i (length xs)) (below_or_not (i - length x
     go (inr l) (inl m) = get_or_past xs i 0 l ∙ sym (get_or-append_right xs (replicate n 0) (length xs) i 0 refl l ∙ get_or-replicate n (i - length xs) 0 0 m)
     go (inr l) (inr m) = get_or_past xs i 0 l ∙ sym (get_or-append_right xs (replicate n 0) (length xs) i 0 refl l ∙ get_or_past (replicate n 0) (i - length xs) 0 (omega (arith, m, length-replicate {A = ℕ} n 0)))
 
--- A part of a list in front of zeros.
+-- 64 bytes are those of a list from `start` on, if they are a part of it and then zeros from its end on.
 pub index-front : (xs bytes : List ℕ) (start from to i : ℕ) → from ≡ min start (length xs) → to ≡ min (length xs) (from + 64)
     → ((j : ℕ) → j < length (slice_range xs from to) → slice_index bytes j ≡ slice_index (slice_range xs from to) j)
     → ((j : ℕ) → length (slice_range xs from to) ≤ j → slice_index bytes j ≡ slice_index (replicate 64 0) j)

@@ -67,7 +67,7 @@ impl Image {
         bytes_from(self.stored.as_slice(), line as usize * LINE_SIZE as usize)
     }
 
-    /// Puts a byte at the end. It refuses out of memory, and where there would be 2^64 bytes.
+    /// Puts a byte at the end. It fails if there is no memory, or if there would be 2^64 bytes.
     pub fn push(&mut self, byte: u8) -> Result<(), NoMemory>
         ensures ok { OnOk result (self.new ≡ self.old ++ byte ∷ []) }
         ensures err { OnErr result (self.new ≡ self.old) }
@@ -75,7 +75,7 @@ impl Image {
         self.extend_from_slice(&[byte])
     }
 
-    /// Puts bytes at the end. It refuses out of memory, and where there would be 2^64 bytes or more.
+    /// Puts bytes at the end. It fails if there is no memory, or if there would be 2^64 bytes or more.
     pub fn extend_from_slice(&mut self, bytes: &[u8]) -> Result<(), NoMemory>
         ensures ok { OnOk result (self.new ≡ self.old ++ bytes.now) }
         ensures err { OnErr result (self.new ≡ self.old) }
@@ -93,7 +93,7 @@ impl Image {
         Ok(())
     }
 
-    /// Puts n bytes of 0 at the end. It takes no memory, and refuses only where there would be 2^64 bytes or more.
+    /// Puts `count` bytes of 0 at the end. It takes no memory, and fails only if there would be 2^64 bytes or more.
     pub fn push_zeros(&mut self, count: usize) -> Result<(), NoMemory>
         ensures ok { OnOk result (self.new ≡ self.old ++ replicate count 0) }
         ensures err { OnErr result (self.new ≡ self.old) }
@@ -132,7 +132,7 @@ fn front_len(bytes: &[u8]) -> usize
     front
 }
 
-// Stores the zeros after the stored bytes. Out of memory, nothing changes.
+// Stores the zeros after the stored bytes. If there is no memory, nothing changes.
 fn fill(stored: &mut Vec<u8>, zeros: &mut usize) -> Result<(), NoMemory>
     requires { length stored.old.items + zeros.old < 2 ^ 64 }
     ensures ok { OnOk result ((stored.new.items ≡ stored.old.items ++ replicate zeros.old 0) × (zeros.new ≡ 0)) }
@@ -158,7 +158,7 @@ fn extend(stored: &mut Vec<u8>, bytes: &[u8]) -> Result<(), NoMemory>
     }
 }
 
-// The bytes of a cache line that begins at a place; 0 if nothing is stored.
+// The bytes of a cache line that begins at a place; a byte that is not stored is 0.
 fn bytes_from(stored: &[u8], start: usize) -> [u8; LINE_SIZE as usize]
     ensures { (i : ℕ) → i < LINE_SIZE → slice_index result i ≡ slice_index stored.now (start + i) }
 {

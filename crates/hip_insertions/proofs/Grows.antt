@@ -45,15 +45,15 @@ grown-append b xs ys =
 pub grown-none : (b : Body) → b ≡ grown b []
 grown-none b = λ i. record { instrs = sym (append-nil b.instrs) i; needed = noted-none b.needed i }
 
--- What is made, with no function more.
+-- What is made stays the same if no function is added.
 pub made-none : (m : Made) → m ≡ with_functions m [] []
 made-none m = λ i. record { functions = sym (append-nil m.functions) i; needed = noted-none m.needed i }
 
--- An instruction of the program.
+-- A body after an instruction of the program was added.
 pub grown-kept : (b : Body) (instrs : List Instr) (instr : Instr) → instrs ≡ b.instrs ++ instr ∷ [] → record b { instrs = instrs } ≡ grown b ((instr, false) ∷ [])
 grown-kept b instrs instr e = λ i. record { instrs = e i; needed = noted-none b.needed i }
 
--- Inserted calls.
+-- A body after an inserted call was added.
 pub grown-clwb : (b : Body) (instrs : List Instr) (addr : Operand) → instrs ≡ b.instrs ++ line_flush addr ∷ [] →
     record { instrs = instrs; needed = record { clwb = true; sfence = b.needed.sfence; pmem_flush = b.needed.pmem_flush } } ≡ grown b ((line_flush addr, true) ∷ [])
 grown-clwb b instrs addr e = λ i. record { instrs = e i; needed = record { clwb = or_true b.needed.clwb i; sfence = or_false b.needed.sfence i; pmem_flush = or_false b.needed.pmem_flush i } }

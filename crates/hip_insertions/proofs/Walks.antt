@@ -14,7 +14,7 @@ use Rattle.hip_insertions.specs.declared.body.Needed.{Needed}
 use Rattle.hip_insertions.specs.declared.repair.Made.{Made}
 use Rattle.hip_insertions.proofs.Grows.{grown-append, noted-append}
 
--- An item stands before the rest.
+-- The rest of a list from a place on begins with the item at the place.
 pub ahead : {A : Type 0} (xs : List A) (k : ℕ) (x d : A) → k < length xs → x ≡ get_or xs k d → x ∷ drop (k + 1) xs ≡ drop k xs
 ahead xs k x d h e = ap (λ z. z ∷ drop (k + 1) xs) e ∙ sym (drop_more xs k d h)
 

@@ -18,7 +18,7 @@ pub struct Needed {
 }
 
 impl Needed {
-    /// None so far.
+    /// No functions so far.
     pub fn none() -> Needed
         ensures { result ≡ none_needed }
     {

@@ -48,7 +48,7 @@ fn places_of<'a>(
 }
 
 impl<'a> CloneTable<'a> {
-    /// The functions of these numbers have clones of these names.
+    /// A table by which the functions of these numbers have clones of these names.
     pub fn new(
         alloc: Global,
         program: &'a Program,

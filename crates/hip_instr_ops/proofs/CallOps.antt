@@ -146,11 +146,11 @@ module _ (s : Scope) (t u v : Tables) (dest : Option (List ℕ)) (ret : Option S
         pointed = pointed;
       }
 
--- The number that the callee's name has.
+-- The number of the callee's name is the number of the function that is called.
 pub number_is : (s : Scope) (callee : List ℕ) (args : List Arg) (number : ℕ) → Describes s → (c : Calls s.program.now callee args) → number_of s.functions.now callee ≡ Some number → number ≡ c.number
 number_is s callee args number d c e = same_Some number c.number (sym e ∙ ap (λ ns. number_of ns callee) d.functions ∙ c.named)
 
--- The number that stands in a table of functions.
+-- The number at a place in a table of functions is that of the function.
 pub number_given : (P : Program) (numbers : List ℕ) (f : ℕ → ℕ) (k number found : ℕ) → k ≡ number → OfFunctions P numbers f → number < length P.functions → slice_get numbers k ≡ Some found → found ≡ f number
 number_given P numbers f k number found e o lt h = same_Some found (f number) (sym h ∙ ap (slice_get numbers) e ∙ o.at number lt)
 

@@ -21,7 +21,7 @@ use Rattle.hip_scope.specs.Known.{ArgsKnown, OperandKnown}
 use Rattle.hip_scope.specs.Scopes.{Does, names_of}
 use Rattle.hip_scope.specs.declared.scope.Scope.{Scope}
 
--- An argument that is there.
+-- The operand of each argument is known.
 pub arg_known : (names : List (List ℕ)) (args : List Arg) (k : ℕ) (x : Arg) → ArgsKnown names args → k < length args → x ≡ get_or args k x → OperandKnown names x.value
 arg_known names args k x h lt e =
     subst (λ (a : Arg). OperandKnown names a.value) (sym e) (all-at (λ a. OperandKnown names a.value) args k (get_or args k x) h (slice_get-get_or args k x lt))

@@ -30,7 +30,7 @@ module _ (s : Scope) (t : Tables) (name : List ℕ) (dest : ℕ) (ty : Ty) (x : 
   offset_is : path.offset < 2 ^ 64 → (l : Leads s ty args path) → path.offset ≡ l.whole % 2 ^ 64
   offset_is small l = sym (mod-eq_of_lt small) ∙ l.offset
 
-  -- The indices lead as far on each input whose region begins at the base.
+  -- The indices lead to the same offset and terms on each input whose region begins at the base.
   led : (l : Leads s ty args path) (terms : List Term) → path.terms ≡ terms → (I : Input) → I.base ≡ s.base → IsGep s.program.now.globals I.base (names_of s) t.constants ty args l.whole terms
   led l terms e I q =
       subst (λ ts. IsGep s.program.now.globals I.base (names_of s) t.constants ty args l.whole ts) e

@@ -178,7 +178,7 @@ rest_is_suc [] k a lt is = absurd (let q : ⊥ = omega (arith, lt) in q)
 rest_is_suc (x ∷ args) zero a lt is = ap (λ y. y ∷ args) (sym is)
 rest_is_suc (x ∷ args) (suc k) a lt is = rest_is_suc args k a (omega (arith, lt)) is
 
--- The rest begins with the index.
+-- The indices from a place on begin with the index at that place.
 pub rest_is : (args : List Arg) (k : ℕ) (a : Arg) → k < length args → a ≡ get_or args k a → drop k args ≡ a ∷ drop (k + 1) args
 rest_is args k a lt is = rw add-one (rest_is_suc args k a lt is)
 
@@ -219,7 +219,7 @@ struct_field fs x t is h = by_option (named_field fs x) refl (subst (λ u. IsSom
     by_option None e h = absurd (let q : ⊥ = cc in q)
     by_option (Some u) e h = record { ty = u; is = e }
 
--- The field of a literal's number is there.
+-- If a literal index names a field, the list has a field of that number.
 pub field_there : (fs : List Ty) (x : Operand) (number : ℕ) → IsField fs x → IsLiteral x number → (t : Ty) × (slice_get fs number ≡ Some t) × (named_field fs x ≡ Some t)
 field_there fs x number f l =
     (f.ty, ap (slice_get fs) (sym l.number_is) ∙ ap (literal_field fs) (sym (out_int l.bits)) ∙ ap (named_field fs) (sym l.is) ∙ f.is, f.is)
@@ -231,11 +231,12 @@ pub field_fits : (fs : List Ty) (number : ℕ) (t u : Ty) → t ≡ Struct fs �
 field_fits fs number t u is here fits =
     subst Fits (get_or_from_slice_get fs number u Ptr here) (Fits-Struct fs number (slice_get_within fs number u here) (subst Fits is fits))
 
--- The entered type.
+-- The type that an index of a field enters.
 pub entered_field : (fs : List Ty) (x : Operand) (t u : Ty) → t ≡ Struct fs → named_field fs x ≡ Some u → entered_by x (out-Ty t) ≡ Some u
 entered_field fs x t u is e = ap (entered_by x) (ap out-Ty is ∙ out_struct fs) ∙ e
 
--- The indices that are left enter.
+-- If the indices from a place on enter a type, the indices after that place enter the part that the first of them
+-- enters.
 pub goes_on : (args : List Arg) (k : ℕ) (a : Arg) (t u : Ty) → drop k args ≡ a ∷ drop (k + 1) args → args_enter (drop k args) t ≡ true → entered_by a.value (out-Ty t) ≡ Some u → args_enter (drop (k + 1) args) u ≡ true
 goes_on args k a t u rest h e = ap (goes_in (args_enter (drop (k + 1) args))) (sym e) ∙ ap (λ xs. args_enter xs t) (sym rest) ∙ h
 

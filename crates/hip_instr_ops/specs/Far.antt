@@ -12,7 +12,7 @@ use Rattle.hip_scope.specs.Scopes.{names_of}
 use Rattle.hip_instr_ops.specs.declared.path.Path.{Path}
 use Rattle.hip_scope.specs.declared.scope.Scope.{Scope}
 
--- A constant index steps over that number of values of a size; another index gives a term.
+-- A constant index steps over as many values of a size as it says; any other index gives a term.
 abbrev pub is_over : Scope → List ℕ → Arg → ℕ → ℕ → List Term → Type 0
 is_over s constants a size far more =
     ((index : ℕ) × IsFixed s.program.now.globals s.base a index × (far ≡ index * size) × (more ≡ []))
@@ -35,8 +35,8 @@ pub record Steps (s : Scope) (a : Arg) (size : ℕ) (old new : Path) : Type 0 wh
 abbrev pub leads : Scope → List ℕ → Ty → List Arg → ℕ → List Term → Type 0
 leads s constants t args offset terms = is_path s.program.now.globals s.base (names_of s) constants t args offset terms
 
--- An index enters a part of a type: indices that lead from the part on, lead with this one before them from the type
--- on.
+-- An index enters a part of a type: if other indices lead on from the part, this index and the others lead from the
+-- type.
 pub record Enters (s : Scope) (t : Ty) (a : Arg) (part : Ty) (old new : Path) : Type 0 where
   pub far : ℕ
   pub more : List Term
@@ -44,7 +44,8 @@ pub record Enters (s : Scope) (t : Ty) (a : Arg) (part : Ty) (old new : Path) : 
   pub on : (constants : List ℕ) (rest : List Arg) (offset : ℕ) (terms : List Term) →
       leads s constants part rest offset terms → leads s constants t (a ∷ rest) (far + offset) (more ++ terms)
 
--- The indices before number k lead to a part: if the others lead on from that part, all lead from the start.
+-- The indices before number k lead to a part: if the indices from number k on lead on from this part, all indices lead
+-- from the start.
 pub record Reaches (s : Scope) (t : Ty) (args : List Arg) (k : ℕ) (part : Ty) (path : Path) : Type 0 where
   pub whole : ℕ
   pub offset : path.offset % 2 ^ 64 ≡ whole % 2 ^ 64
@@ -52,14 +53,15 @@ pub record Reaches (s : Scope) (t : Ty) (args : List Arg) (k : ℕ) (part : Ty) 
       → leads s constants part (drop k args) offset terms →
       IsGep s.program.now.globals s.base (names_of s) constants t args (whole + offset) (path.terms ++ terms)
 
--- All indices lead to what the path has.
+-- All indices lead as far as the path says.
 pub record Leads (s : Scope) (t : Ty) (args : List Arg) (path : Path) : Type 0 where
   pub whole : ℕ
   pub offset : path.offset % 2 ^ 64 ≡ whole % 2 ^ 64
   pub is : (constants : List ℕ) →
       IsGep s.program.now.globals s.base (names_of s) constants t args whole path.terms
 
--- The op of the address to which indices lead from a base.
+-- The op gives the address at an offset from a base, plus terms: without terms, with one term of its own, or with terms
+-- in the table.
 abbrev pub is_address : Tables → Operand → ℕ → List Term → Gep → Type 0
 is_address t base offset terms (geps.Fixed b o) = (b ≡ base) × (o ≡ offset) × (terms ≡ [])
 is_address t base offset terms (geps.Scaled b index width scale o) =

@@ -31,7 +31,8 @@ pub fn result_slot(scope: &Scope<'_, '_>, dest: &Option<Name>) -> Result<Option<
     }
 }
 
-/// The operand of the argument of that number. If there is none, the function takes none, and any operand will do.
+/// The operand of the argument of that number. If there is no such argument, the function does not take one, and the
+/// result may be any operand.
 fn argument(
     scope: &Scope<'_, '_>,
     tables: &mut Growing,

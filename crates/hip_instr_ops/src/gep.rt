@@ -17,7 +17,7 @@ use hip_scope::{Growing, Scope, operand, place, slot};
 use hip_tree::Arg;
 use hip_types::{Name, NoMemory, Ty};
 
-/// An address with terms of its own in the table.
+/// An address with terms, which are put into the table.
 fn with_terms(
     tables: &mut Growing,
     base: Operand,

@@ -38,7 +38,7 @@ fn literal(scope: &Scope<'_, '_>, arg: &Arg, value: &Const) -> Result<u64, NoMem
     Ok(extend(width_of(arg.ty), number))
 }
 
-/// Steps over a number of values of a size.
+/// Steps over values of a size: as many as the index says.
 fn step_over(scope: &Scope<'_, '_>, path: &mut Path, arg: &Arg, size: u32) -> Result<(), NoMemory>
     requires scope { Describes scope.now }
     requires known { OperandKnown (names_of scope.now) arg.now.value }

@@ -84,8 +84,8 @@ fn compares(test: Comparison, negated: bool, width: Width, a: Operand, b: Operan
     }
 }
 
-/// The comparison for a predicate. One operand is greater than another if the other is less than it, and at least the
-/// other if it is not less.
+/// The comparison for a predicate. "Greater" is "less" with the operands exchanged, "at least" is "less" negated, and
+/// "at most" is "less" with the operands exchanged and negated.
 fn comparison(pred: Pred, width: Width, a: Operand, b: Operand) -> Rest
     ensures { result ≡ ops.compare_op pred width a b }
 {

@@ -1,4 +1,4 @@
--- A machine that never gets stuck: what its next step reads is there.
+-- A machine that never gets stuck: what its next step reads exists.
 use Rattle.std.specs.Prelude.{◌≡◌, ℕ, All, List, [], ◌∷◌, Some, slice_get}
 use Rattle.hip_tree.specs.declared.block.Block.{Block}
 use Rattle.hip_tree.specs.declared.block.Edge.{Edge}
@@ -37,16 +37,16 @@ pub record ReadsAssigned (P : Program) (f : Frame) : Type 0 where
       slice_get to.phis j ≡ Some p → slice_get p.edges m ≡ Some e →
       e.label ≡ label_of (block_at P f.function f.block) →
       All (IsAmong (assigned_names f.registers)) (operand_registers e.value)
-  -- Each of these phis has such an operand.
+  -- Each phi of a block that the end names has an operand for control from the frame's block.
   pub edges : (e : End) (c j : ℕ) (to : Block) (p : Phi) → end_at P f ≡ Some e
       → block_at P f.function c ≡ Some to →
       IsAmong (end_labels e) to.label → slice_get to.phis j ≡ Some p →
       IsAmong (edge_labels p.edges) (label_of (block_at P f.function f.block))
 
--- After n steps: a frame stands; each register that was assigned on the way to a frame's place has a value, except the
--- one that waits for a call's result, and only registers that this way assigns by the end of its block have one; the
--- next step reads no other register, and only values that fit their types; and it traps as unreachable only at an
--- `unreachable`. (The progress of a typed machine: Wright and Felleisen, 1994.)
+-- What is true after n steps. There is a frame. Each register that was assigned on the way to a frame's place has a
+-- value, except the register that waits for a call's result, and no other register has a value than those that this way
+-- assigns by the end of its block. The next step reads no other register, and only values that fit their types. It
+-- traps as unreachable only at an `unreachable`. (The progress of a typed machine: Wright and Felleisen, 1994.)
 pub record IsNeverStuck (P : Program) (I : Input) (n : ℕ) : Type 0 where
   pub frame : (f : Frame) × (fs : List Frame) × ((run P I n).frames ≡ f ∷ fs)
   pub frames : frames_hold (top_is_reached P) (caller_is_reached P) (main_number P) (run P I n).frames

@@ -1,4 +1,4 @@
--- The objects of a run lie apart: at most one contains an address.
+-- The objects of a run do not overlap: at most one contains an address.
 use Rattle.std.specs.Prelude.{◌≡◌, ℕ, true, List, Some, slice_get}
 use Rattle.std.specs.List.{flat_map}
 use Rattle.hip_types.specs.Layout.{shape}
@@ -14,17 +14,18 @@ use Rattle.hip_runs.specs.State.{Slot, Frame}
 abbrev pub slots_of : List Frame → List Slot
 slots_of frames = flat_map (λ f. f.slots) frames
 
--- The global of that number is there and contains the address.
+-- The global of that number exists and contains the address.
 abbrev pub GlobalHas : Program → ℕ → ℕ → GlobalVar → ℕ → Type 0
 GlobalHas P base k g a = (slice_get P.globals k ≡ Some g)
     × (range_contains (address P base k) (shape g.ty).size a ≡ true)
 
--- Block j of all frames, counted from the newest one as 0, is there and contains an address.
+-- Block j of all frames, counted from 0 for the newest one, exists and contains an address.
 abbrev pub SlotHas : List Frame → ℕ → Slot → ℕ → Type 0
 SlotHas frames j x a = (slice_get (slots_of frames) j ≡ Some x) × (range_contains x.addr x.size a ≡ true)
 
--- Two globals that contain the same address are one, and so are two blocks of these frames. No global and block contain
--- the same address. The object that an address points into is the one that contains it. (This project's own.)
+-- Two globals that contain the same address are the same global, and two blocks of these frames that contain the same
+-- address are the same block. No global and block contain the same address. The object that an address points into is
+-- the one that contains it. (This project's own.)
 pub record AreApart (P : Program) (base : ℕ) (frames : List Frame) : Type 0 where
   pub globals : (j k a : ℕ) (g h : GlobalVar) → GlobalHas P base j g a → GlobalHas P base k h a → j ≡ k
   pub slots : (j k a : ℕ) (x y : Slot) → SlotHas frames j x a → SlotHas frames k y a → j ≡ k

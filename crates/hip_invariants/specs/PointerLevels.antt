@@ -33,8 +33,8 @@ use Rattle.hip_runs.specs.Actions.{index_value}
 use Rattle.hip_runs.specs.State.{Frame}
 use Rattle.hip_invariants.specs.FrameFacts.{each_register}
 
--- How many steps of less than 64 MiB a pointer may lie past the stack's end. None, the greatest level, is for a pointer
--- of which nothing is known. (This project's own, as all of this file.)
+-- How many steps of less than 64 MiB a pointer may be past the stack's end. `None`, the greatest level, is for a
+-- pointer about which nothing is known. (This project's own, as all of this file.)
 abbrev pub PointerLevel : Type 0
 PointerLevel = Option ℕ
 
@@ -49,7 +49,8 @@ is_at_most a None = Unit {0}
 is_at_most None (Some u) = ⊥
 is_at_most (Some t) (Some u) = t ≤ u
 
--- The level after an offset: the same after 0; one more after less than 64 MiB, if the level is below 32; else none.
+-- The level after an offset: the same level after 0; one more after less than 64 MiB, if the level is below 32; else
+-- `None`.
 abbrev pub after_offset : PointerLevel → ℕ → PointerLevel
 after_offset None offset = None
 after_offset (Some t) offset =
@@ -57,17 +58,17 @@ after_offset (Some t) offset =
 
 -- ---- constants
 
--- The level of the global of a number: none if it is persistent, else 0; 0 too if the name has no number.
+-- The level of the global of a number: `None` if it is persistent, else 0. The level is 0 if the name has no number.
 abbrev pub number_level : List GlobalVar → Option ℕ → PointerLevel
 number_level globals None = Some 0
 number_level globals (Some k) = cond (is_persistent globals k) None (Some 0)
 
--- A volatile global has level 0, a persistent one none.
+-- The level of a global: 0 for a volatile one, `None` for a persistent one.
 abbrev pub global_level : List GlobalVar → List ℕ → PointerLevel
 global_level globals name = number_level globals (number_of (map (λ g. g.name) globals) name)
 
 -- The level of a constant, from the levels of names and of its `getelementptr`: 0 for `null` and `zeroinitializer`,
--- none for an integer, an array and a struct.
+-- `None` for an integer, an array and a struct.
 abbrev pub level_step : (List ℕ → PointerLevel) → Const-F PointerLevel PointerLevel PointerLevel → PointerLevel
 level_step names Const-F.Null = Some 0
 level_step names Const-F.Zero = Some 0
@@ -75,12 +76,12 @@ level_step names (Const-F.Address name) = names name
 level_step names (Const-F.Gep level) = level
 level_step names _ = None
 
--- The level of a constant `getelementptr`, from its base's: the level after its offset, which is 0 where there is no
--- such element.
+-- The level of a constant `getelementptr`, from the level of its base: the level after its offset, which is 0 if there
+-- is no such element.
 abbrev pub gep_level_step : ConstGep-F PointerLevel PointerLevel PointerLevel → PointerLevel
 gep_level_step gep = after_offset gep.base (unwrap_or (gep_of gep.ty (map index_of gep.indices)) 0)
 
--- The level of an item of an array or a struct: that of its constant; no other level depends on it.
+-- The level of an item of an array or a struct: the level of its constant. No other level depends on it.
 abbrev pub item_level_step : TypedConst-F PointerLevel PointerLevel PointerLevel → PointerLevel
 item_level_step item = item.value
 
@@ -97,29 +98,30 @@ pub record Levels : Type 0 where
   pub register : ℕ → List ℕ → PointerLevel
   pub result : ℕ → PointerLevel
 
--- The value of an index that is an integer constant or `zeroinitializer`, sign-extended to 64 bits; none of another
+-- The value of an index that is an integer constant or `zeroinitializer`, sign-extended to 64 bits; `None` for another
 -- constant.
 abbrev pub constant_index : Scalar → Const-F Const ConstGep TypedConst → Option ℕ
 constant_index ty (Const-F.Int b) = Some (index_value ty b.value)
 constant_index ty Const-F.Zero = Some (index_value ty 0)
 constant_index ty _ = None
 
--- The value of an index that is such a constant; none of a register.
+-- The value of an index that is such a constant; `None` for a register.
 abbrev pub known_index : Scalar → Operand → Option ℕ
 known_index ty (Reg name) = None
 known_index ty (Fixed c) = constant_index ty (out-Const c)
 
--- The value of an index before those of the indices after it, if all have one.
+-- The value of an index, followed by the values of the indices after it; `None` if one of them is not known.
 abbrev pub both : Option ℕ → Option (List ℕ) → Option (List ℕ)
 both (Some i) (Some is) = Some (i ∷ is)
 both _ _ = None
 
--- The values of indices that are all such constants; none where one is a register or another constant.
+-- The values of indices that are all such constants; `None` if one is a register or another constant.
 abbrev pub known_path : List Arg → Option (List ℕ)
 known_path [] = Some []
 known_path (a ∷ args) = both (known_index a.ty a.value) (known_path args)
 
--- The level after a `getelementptr` from this level: none if an index has no value, else the level after its offset.
+-- The level after a `getelementptr` from this level: `None` if the value of an index is not known, else the level after
+-- its offset.
 abbrev pub gep_level : PointerLevel → Ty → Option (List ℕ) → PointerLevel
 gep_level a ty None = None
 gep_level a ty (Some path) = after_offset a (unwrap_or (gep_of ty path) 0)
@@ -141,14 +143,14 @@ module _ (P : Program) (L : Levels) (g : ℕ) where
       is_at_most (operand_level a.value) (L.register h p.name) × args_are_at_most h ps args
   args_are_at_most h ps args = Unit {0}
 
-  -- The register that takes a number that is read has level none, and one that takes the result of a call at least the
-  -- level of that result.
+  -- A register that takes an input number has level `None`. A register that takes the result of a call has at least the
+  -- level of that result, and each parameter has at least the level of its argument.
   pub record CallIsClosed (dest : Option (List ℕ)) (callee : List ℕ) (args : List Arg) : Type 0 where
     pub read : call_of callee ≡ Some calls.ReadI64 → goes_into None dest
     pub enter : (h : ℕ) (fn : Function) → call_of callee ≡ None → function_number P callee ≡ Some h →
         slice_get P.functions h ≡ Some fn → goes_into (L.result h) dest × args_are_at_most h fn.params args
 
-  -- The register of an instruction has at least the level of its rule.
+  -- The register that an instruction assigns has at least the level that the rule of the instruction gives.
   abbrev pub instr_is_closed : Instr → Type 0
   instr_is_closed (Binary dest op flags width a b) = is_at_most None (L.register g dest)
   instr_is_closed (Compare dest pred ty a b) = is_at_most None (L.register g dest)
@@ -162,7 +164,7 @@ module _ (P : Program) (L : Levels) (g : ℕ) where
       is_at_most (gep_level (operand_level base) ty (known_path indices)) (L.register g dest)
   instr_is_closed (Call dest ret callee args) = CallIsClosed dest callee args
 
--- Each register and each result has at least the level of its rule, whatever the path that control takes.
+-- Each register and each result has at least the level that its rules give, whatever path control takes.
 pub record IsClosed (P : Program) (L : Levels) : Type 0 where
   pub instr : (g b k : ℕ) (fn : Function) (block : Block) (i : Instr) → IsBlockAt P g b fn block →
       slice_get block.body k ≡ Some i → instr_is_closed P L g i

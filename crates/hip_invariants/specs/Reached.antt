@@ -20,8 +20,8 @@ has_or_awaits rs awaited name = IsAmong (assigned_names rs) name ⊎ (awaited �
 
 -- A path from the entry block reaches the place before instruction k of block b of function g. Each register that is
 -- assigned on that path has a value, except one that waits for the result of a call. (LLVM, "well-formedness": a
--- definition dominates its uses.) No other register has a value or waits than those that the path assigns by the end
--- of the block.
+-- definition dominates its uses.) Only registers that the path assigns by the end of the block have a value or wait for
+-- one.
 pub record IsReached (P : Program) (awaited : Option (List ℕ)) (g b k : ℕ) (rs : Registers) : Type 0 where
   pub fn : Function
   pub here : slice_get P.functions g ≡ Some fn
@@ -32,15 +32,15 @@ pub record IsReached (P : Program) (awaited : Option (List ℕ)) (g b k : ℕ) (
   pub among : (name : List ℕ) → IsAmong (assigned_on fn earlier b (Before k)) name → has_or_awaits rs awaited name
   pub only : (name : List ℕ) → has_or_awaits rs awaited name → IsAmong (assigned_on fn earlier b AtEnd) name
 
--- The frame stands at the end of a block, and that end is `unreachable`.
+-- The frame is at the end of a block, and that end is `unreachable`.
 abbrev pub StandsAtUnreachable : Program → Frame → Type 0
 StandsAtUnreachable P f = (code_at P f ≡ []) × (end_at P f ≡ Some ends.Unreachable)
 
 module _ (P : Program) where
-  -- The place of the frame on top.
+  -- The place of the top frame is reached.
   abbrev pub top_is_reached : Frame → Type 0
   top_is_reached f = IsReached P None f.function f.block f.place f.registers
 
-  -- The place after the call that a frame waits for, whose result goes into a register.
+  -- The place of a frame that waits for the result of a call is reached. The result goes into a register.
   abbrev pub caller_is_reached : ℕ → Option (List ℕ) → Frame → Type 0
   caller_is_reached h dest f = IsReached P dest f.function f.block f.place f.registers

@@ -30,7 +30,7 @@ abbrev pub type_in : Option Function → List ℕ → Option (Option Scalar)
 type_in None name = None
 type_in (Some fn) name = find_register (registers_of fn) name
 
--- The type that the function of a number gives a register; none where it has no such register.
+-- The type that the function of a number gives a register; `None` if it has no such register.
 abbrev pub register_type : Program → ℕ → List ℕ → Option (Option Scalar)
 register_type P g name = type_in (slice_get P.functions g) name
 
@@ -74,7 +74,8 @@ abbrev pub CodeFits : Program → Input → ℕ → Type 0
 CodeFits P I n = (f : Frame) (arg : Option Arg) → IsTop (run P I n) f [] → end_at P f ≡ Some (ends.Ret arg) →
     returned P.globals I.base f.registers arg < modulus W32
 
--- Cutting values to their widths does not change those that fit: in comparisons, in indices and in the code of a stop.
+-- A value that fits its width does not change when it is cut to this width: in comparisons, in indices and in the code
+-- of a stop.
 pub record AreUncut : Type 0 where
   pub compared : (pred : Pred) (w : Width) (a b : ℕ) → a < modulus w → b < modulus w →
       holds pred w (bits w a).value (bits w b).value ≡ holds pred w a b

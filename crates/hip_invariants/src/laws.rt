@@ -1,4 +1,4 @@
-//! The laws of what every run keeps, on definitions alone.
+//! The laws of what is true in every run, on definitions alone.
 
 ghost use Rattle.std.specs.Prelude.{ℕ, ◌<◌, ◌^◌, List};
 ghost use Rattle.hip_tree.specs.declared.program.Program.{Program};
@@ -16,10 +16,10 @@ ghost use Rattle.hip_invariants.specs.PointerLevels.{IsClosed, Levels, Registers
 ghost use Rattle.hip_invariants.specs.StackShape.{StackIsShaped};
 ghost use Rattle.hip_invariants.specs.Types.{AreUncut, CodeFits, OperandsFit, RegistersFit};
 
-/// A run of a sound program never gets stuck, whatever its input: a frame stands; each register that the next step
-/// reads has been assigned, and so has each in a frame below, except the one that waits for its call's result; and the
-/// run traps as unreachable only at an `unreachable`. On a valid input each value that the next step reads fits its
-/// type.
+/// A run of a sound program never gets stuck, whatever its input. There is a frame. Each register that the next step
+/// reads has been assigned, and so has each register that a frame below may read, except the one that waits for its
+/// call's result. The run traps as unreachable only at an `unreachable`. On a valid input each value that the next step
+/// reads fits its type.
 pub fn sound_programs_never_get_stuck()
     ensures { (P : Program) → IsSound P → (I : Input) → (n : ℕ) → IsNeverStuck P I n }
 {}
@@ -48,14 +48,14 @@ pub fn levels_bound_registers()
         RegistersAreWithin L (run P I n).frames }
 {}
 
-/// The blocks and the marks of the frames lie in order below the stack's mark, at most 16,384 frames stand, and each
-/// but the bottom one has the call that made it, so there is one call fewer than frames.
+/// The blocks and the marks of the frames are in order below the stack's mark. There are at most 16,384 frames. Each
+/// frame except the bottom one has the call that made it, so there is one call fewer than frames.
 pub fn stack_keeps_its_shape()
     ensures { (P : Program) → (I : Input) → (n : ℕ) → StackIsShaped (run P I n) }
 {}
 
-/// At most one object contains an address: two globals have no byte in common, nor have two blocks on the stack, nor
-/// a global and a block; and the object that an address points into is the one that contains it.
+/// At most one object contains an address: no two globals have a byte in common, and neither have two blocks on the
+/// stack, or a global and a block. The object that an address points into is the one that contains it.
 pub fn objects_are_apart()
     ensures { (P : Program) → IsSound P → (I : Input) → IsValid P I → (n : ℕ)
         → AreApart P I.base (run P I n).frames }

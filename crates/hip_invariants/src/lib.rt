@@ -1,4 +1,4 @@
-//! What every run of a program keeps: a machine never gets stuck, values fit their types, and the stack keeps its
+//! What is true in every run of a program: a machine never gets stuck, values fit their types, and the stack keeps its
 //! shape.
 #![tactic(auto)]
 

@@ -1,4 +1,4 @@
--- What was read of a file, at each way that a read ends.
+-- What was read of a file, for each way in which a read ends.
 use Rattle.std.proofs.Common.{ℕ, ◌+◌, ◌≡◌, ◌≤◌, ◌<◌, inr, List, [], ◌++◌, length, drop, take, Option, Some, None, option_map, Result, Ok, Err, sym, subst, ap, ◌∙◌, arith, append_assoc, append-nil, length-append}
 use Rattle.std.proofs.Math.Seq.{drop-append_seam}
 use Rattle.std.proofs.lemmas.List.{length-take-le}
@@ -108,7 +108,7 @@ too_much old mid new name limit f r = record {
     by_files None t = tt
     by_files (Some fs) t = file fs t
 
--- What is read after the fetch answers for the whole.
+-- The answer of reading the rest after the fetch is the answer of reading the whole file.
 pub read_on : (old mid new : CabinetState) (name : List ℕ) (limit : ℕ) (r : Result (List ℕ) ReadRefusal) → IsFetched old mid name → HasReadRest mid new limit r → HasRead old new name limit r
 read_on old mid new name limit (Ok bytes) f r = whole old mid new name limit bytes f r
 read_on old mid new name limit (Err refusals.Missing) f r = absurd r

@@ -8,8 +8,8 @@ use Rattle.hip_io.specs.declared.cabinet.Fetched.TheVariants as fetched
 use Rattle.hip_io.specs.declared.cabinet.Taken.{Taken}
 use Rattle.hip_io.specs.declared.cabinet.Taken.TheVariants as taken
 
--- Whether a file is current is always known. The files, and the name and the rest of the current one, may be known;
--- they are None where they are not. Fetches, misses and faults are counted.
+-- Whether a file is current is always known. The files, and the name and the rest of the current file, are None if they
+-- are not known. Fetches, misses and faults are counted.
 pub record CabinetState : Type 0 where
   pub files : Option (List NamedFile)
   pub is_current : Bool
@@ -19,7 +19,7 @@ pub record CabinetState : Type 0 where
   pub misses : ℕ
   pub faults : ℕ
 
--- Where the files are known and one is current, so are its name and its rest.
+-- If the files are known and one is current, its name and its rest are known.
 abbrev pub IsStated : CabinetState → Type 0
 IsStated s = IfSome s.files (λ files. s.is_current ≡ true → (is_some s.name ≡ true) × (is_some s.rest ≡ true))
 
@@ -28,7 +28,7 @@ abbrev pub file_of : List NamedFile → List ℕ → Option (List ℕ)
 file_of [] name = None
 file_of (file ∷ files) name = if bytes_eq file.name name then Some file.bytes else file_of files name
 
--- Where the files are known, so are the name and the rest of the one that was fetched.
+-- The name of the current file is known to be this one, and its rest to be all bytes of the first file of that name.
 pub record IsFirstFile (files : List NamedFile) (name : List ℕ) (new : CabinetState) : Type 0 where
   pub bytes : List ℕ
   pub found : file_of files name ≡ Some bytes
@@ -45,7 +45,7 @@ pub record IsFetched (old new : CabinetState) (name : List ℕ) : Type 0 where
   pub named : IfSome new.name (λ n. n ≡ name)
   pub stated : IfSome old.files (λ files. IsFirstFile files name new)
 
--- No file has the name, if the files are known; none is current.
+-- No file is current. If the files are known, none of them has the name.
 pub record IsMissed (old new : CabinetState) (name : List ℕ) : Type 0 where
   pub files : new.files ≡ old.files
   pub fetches : new.fetches ≡ counted old.fetches
@@ -100,7 +100,7 @@ pub record HasFailedTake (old new : CabinetState) : Type 0 where
   pub rose : Rose old.faults new.faults
   pub rest : new.rest ≡ old.rest
 
--- What a `take` does, by its answer; the buffer is the one after it.
+-- What a `take` does, by its answer. The buffer is the one after the call.
 abbrev pub HasTaken : CabinetState → CabinetState → List ℕ → Taken → Type 0
 HasTaken old new buffer (taken.Got n) = HasGot old new buffer n
 HasTaken old new buffer taken.End = IsAtEnd old new

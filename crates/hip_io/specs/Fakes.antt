@@ -57,7 +57,7 @@ pub record MemBytes : Type 0 where
 abbrev pub mem_sink_state : MemBytes → SinkState
 mem_sink_state m = record { bytes = Some m.bytes; faults = m.faults }
 
--- The file that the code of a cabinet has open, which it keeps as the file's number and how many of its bytes were
+-- The file that is open in a cabinet. The code keeps it as the file's number and the number of its bytes that were
 -- taken.
 abbrev pub open_file : List NamedFile → Option Place → Option OpenFile
 open_file files place =

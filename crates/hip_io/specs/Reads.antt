@@ -72,7 +72,7 @@ pub record HasFailedRead (old new : CabinetState) (name : List ℕ) (limit : ℕ
   pub rose : Rose old.faults new.faults
   pub begun : (new.is_current ≡ false) ⊎ HasBegun old new name limit
 
--- No memory was left: the named file is current and was read in part, and no fault was counted.
+-- Memory ran out: the named file is current and was read in part, and no fault was counted.
 pub record HasReadPart (old new : CabinetState) (name : List ℕ) (limit : ℕ) : Type 0 where
   pub files : new.files ≡ old.files
   pub fetches : new.fetches ≡ counted old.fetches
@@ -94,7 +94,7 @@ pub record HasTakenRest (old new : CabinetState) (limit : ℕ) (bytes : List ℕ
   pub fits : length bytes ≤ limit
   pub ended : IfSome new.rest (λ rest. rest ≡ [])
 
--- More than the limit was taken.
+-- One byte more than the limit was taken, and nothing failed.
 pub record HasTakenTooMuch (old new : CabinetState) (limit : ℕ) : Type 0 where
   pub bytes : List ℕ
   pub taken : HasTakenAll old new bytes
@@ -113,12 +113,12 @@ pub record HasFailedRest (old new : CabinetState) (limit : ℕ) : Type 0 where
   pub later : old.faults ≤ new.faults
   pub rose : Rose old.faults new.faults
 
--- No memory was left: at most one byte more than the limit was taken, and no fault was counted.
+-- Memory ran out: at most one byte more than the limit was taken, and no fault was counted.
 pub record HasStopped (old new : CabinetState) (limit : ℕ) : Type 0 where
   pub part : HasTakenPart old new limit
   pub faults : new.faults ≡ old.faults
 
--- What reading the rest of the current file does, by its answer, which is never that no file has the name.
+-- What reading the rest of the current file does, by its answer. The answer is never `Missing`.
 abbrev pub HasReadRest : CabinetState → CabinetState → ℕ → Result (List ℕ) ReadRefusal → Type 0
 HasReadRest old new limit (Ok bytes) = HasTakenRest old new limit bytes
 HasReadRest old new limit (Err refusals.Missing) = ⊥

@@ -42,7 +42,7 @@ impl Model for FailingCabinet {
 }
 
 impl FailingCabinet {
-    /// No file is current in it, whichever is current in `inner`.
+    /// A cabinet of the files of `inner`. No file is current, even if one is current in `inner`.
     pub fn new(inner: MemCabinet, name: Name, at: FailAt) -> FailingCabinet
         ensures { result ≡ record {
           inner = record inner { current = None };

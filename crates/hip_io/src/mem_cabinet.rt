@@ -41,7 +41,7 @@ impl Model for MemCabinet {
 }
 
 impl MemCabinet {
-    /// Gives at most `chunk` bytes at a time.
+    /// A cabinet of these files that gives at most `chunk` bytes at a time.
     pub fn new(files: Row<NamedFile>, chunk: usize) -> MemCabinet
         requires { 1 ≤ chunk }
         ensures { result ≡ record { files = files; chunk = chunk; current = None; fetches = 0; misses = 0 } }
@@ -125,7 +125,7 @@ impl Cabinet for MemCabinet {
     }
 }
 
-/// What was not yet taken.
+/// The bytes that are not taken yet.
 fn rest_of(files: &Row<NamedFile>, place: Place) -> &[u8]
     requires { IsSome (open_file files.now (Some place)) }
     ensures rest { option_map (λ file. file.rest) (open_file files.now (Some place)) ≡ Some result.now }
@@ -141,7 +141,7 @@ fn rest_of(files: &Row<NamedFile>, place: Place) -> &[u8]
     }
 }
 
-/// Copies the first bytes, at most `most`, as many as there are and fit.
+/// Copies as many of the first bytes into the buffer as it can hold, but at most `most`, and answers how many.
 fn copy_some(bytes: &[u8], most: usize, buf: &mut [u8]) -> usize
     ensures count { result ≡ min most (min (length bytes.now) (length buf.old)) }
     ensures length { length buf.new ≡ length buf.old }

@@ -27,7 +27,7 @@ impl Model for MemSink {
 }
 
 impl MemSink {
-    /// Takes the memory for all its bytes at once.
+    /// An empty sink with room for that many bytes. It takes all its memory at once.
     pub fn new(alloc: Global, room: u64) -> Result<MemSink, NoMemory>
         ensures { IfOk result (λ s. s ≡ record { bytes = []; room = room; faults = 0 }) }
     {
@@ -68,7 +68,7 @@ impl Sink for MemSink {
 
     ghost held = { λ s. 0 };
 
-    /// Takes no memory. The bytes that fit are kept.
+    /// Appends the bytes that fit. It takes no memory.
     fn put(&mut self, bytes: &[u8]) -> Put
         ensures put { HasPut (mem_sink_state self.old) (mem_sink_state self.new) bytes.now result }
         ensures fits { (result ≡ Put.Done) ↔ (length bytes.now ≤ self.old.room) }
@@ -84,7 +84,7 @@ impl Sink for MemSink {
         self.faults = self.faults.saturating_add(1);
         Put::Failed
     }
-    /// Holds nothing back.
+    /// Does nothing, since this sink holds nothing back.
     fn deliver(&mut self) -> Put
         ensures nothing { HasPut (mem_sink_state self.old) (mem_sink_state self.new) [] result }
         ensures works { result ≡ Put.Done }

@@ -22,7 +22,7 @@ pub trait Sink {
 
     ghost state: { Self → SinkState };
 
-    // how many bytes at the end of those that it was given are not out yet
+    // How many of the last bytes that it was given a sink still holds back.
     ghost held: { Self → ℕ };
 
     /// Appends the piece. After `Failed` a prefix of it was appended.

@@ -52,7 +52,7 @@ use Rattle.hip_levels.proofs.RuleMembers.{rule_case}
 -- ---- a register that an `alloca` assigns
 
 module _ (P : Program) (sound : Passes P) (g : ℕ) (q : List ℕ) (all : allocates_in (blocks_of P g) q ≡ true) where
-  -- A rule for the register is the one of the `alloca`.
+  -- If the rule is for the register, its bound is level 0, as that of the `alloca`.
   abbrev IsLowThere : Rule → Type 0
   IsLowThere r = r.variable ≡ Register g q → r.least ≡ low
 
@@ -62,7 +62,7 @@ module _ (P : Program) (sound : Passes P) (g : ℕ) (q : List ℕ) (all : alloca
   blocks_are : (h b : ℕ) (fn : Function) (block : Block) → IsBlockAt P h b fn block → slice_get (blocks_of P h) b ≡ Some block
   blocks_are h b fn block at = subst (λ (o : Option Function). slice_get (blocks_in o) b ≡ Some block) (sym at.function) at.block_is
 
-  -- A rule of an instruction other than an `alloca`.
+  -- An instruction other than an `alloca` has no rule for the register.
   not_here : (h b k : ℕ) (fn : Function) (block : Block) (i : Instr) → IsBlockAt P h b fn block → slice_get block.body k ≡ Some i →
       (name : List ℕ) → is_among (names_of_instr i) name ≡ true → allocates name i ≡ false → (least : Bound) → Register h name ≡ Register g q → least ≡ low
   not_here h b k fn block i at e name among other least same =
@@ -178,7 +178,7 @@ module _ (P : Program) (sound : Passes P) (g : ℕ) (q : List ℕ) (all : alloca
       met r i true e = subst (λ least. is_at_most (bound_in (lowered A) least) (Some 0)) (sym (low_alone r i (sym (same_variable_is (Register g q) r.variable e)))) (omega arith)
       met r i false e = at_most_next _ _ _ (bound_more (lowered A) A (lowered_below A) r.least) (closed.met r i)
 
-  -- So the least one has level 0 there.
+  -- The least assignment has level 0 at the register.
   pub stack_register_low : is_some (after_offset (least_levels P (Register g q)) 0) ≡ true
   stack_register_low = go (least_levels P (Register g q)) (subst (is_at_most (least_levels P (Register g q))) is ((program_is_least P).below (lowered (least_levels P)) (lowered_closed (least_levels P) (program_is_least P).closed) (Register g q)))
     where

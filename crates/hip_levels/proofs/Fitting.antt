@@ -1,4 +1,4 @@
--- In a sound program the types fit that rules speak of.
+-- In a sound program the types that rules use fit.
 use Rattle.std.proofs.Common.{◌≡◌, ℕ, suc, List, [], ◌∷◌, ◌++◌, Some, None, slice_get, refl}
 use Rattle.std.specs.Prelude.{All}
 use Rattle.hip_types.specs.Layout.{Fits}
@@ -72,7 +72,7 @@ end_fits (ends.CondBr test first second) h = tt
 end_fits (ends.Switch width value other cases) h = tt
 end_fits ends.Unreachable h = tt
 
--- What holds of each item, from what holds of each.
+-- If Q implies R, and Q holds of each item, then R does.
 mapped : {A : Type 0} (Q R : A → Type 0) → ((x : A) → Q x → R x) → (xs : List A) → All Q xs → All R xs
 mapped {A} Q R f [] h = All-nil R
 mapped {A} Q R f (x ∷ xs) h = All-cons R x xs (f x (All-head Q x xs h)) (mapped Q R f xs (All-tail Q x xs h))

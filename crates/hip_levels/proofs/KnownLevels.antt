@@ -1,4 +1,4 @@
--- The levels that the rules of a program know are levels.
+-- The known levels in the rules of a program are levels.
 use Rattle.std.proofs.Common.{◌≡◌, ⊎_elim, inl, inr, ℕ, Bool, true, false, cond, List, [], ◌∷◌, Option, Some, None, sym, ap, subst, arith}
 use Rattle.std.specs.Prelude.{unwrap_or, map, slice_get}
 use Rattle.hip_types.specs.Layout.{gep_of}
@@ -96,7 +96,7 @@ module _ (P : Program) where
   element_knows g (Reg name) ty (Some path) = tt
   element_knows g (Fixed c) ty (Some path) = past_is_level _ _ (const_is_level P.globals c)
 
-  -- The only rule of a list.
+  -- The known level in the only rule of a list is a level.
   only : (r s : Rule) → knows_level r.least → In s (r ∷ []) → KnowsLevel s
   only r s h (inl e) = subst KnowsLevel (sym e) (record { is = h })
   only r s h (inr i) = absurd i

@@ -10,7 +10,7 @@ use Rattle.hip_levels.proofs.LevelOrder.{at_most_same, at_most_next, at_most_bot
 
 -- ---- the levels that rules know
 
--- A level that is known is one.
+-- A known level of a bound is a level.
 abbrev pub knows_level : Bound → Type 0
 knows_level (Known a) = is_level a
 knows_level (AtOffset offset v) = Unit {0}
@@ -51,7 +51,7 @@ raised_below r A B met below v = go (same_variable r.variable v) refl
     go true e = greater_least (A v) _ (B v) (below v) (at_most_next _ _ _ (bound_more A B below r.least) (subst (λ w. is_at_most (bound_in B r.least) (B w)) (same_variable_is r.variable v e) met))
     go false e = below v
 
--- Where a rule is met nothing is raised.
+-- A rule that is met raises nothing.
 greater_same : (a b : PointerLevel) → is_at_most b a → greater a b ≡ a
 greater_same a b h = at_most_both _ _ (greater_least a b a (at_most_same a) h) (greater_first a b)
 
@@ -221,6 +221,6 @@ module _ (all : List Rule) (known : (r : Rule) → In r all → KnowsLevel r) wh
     below = λ B closed v. after_below B closed (suc (33 * length all)) v;
   })
 
-  -- There is one.
+  -- There is only one least closed assignment.
   pub least_is_one : (A B : Assignment) → IsLeast all A → IsLeast all B → (v : Variable) → A v ≡ B v
   least_is_one A B a b v = at_most_both (A v) (B v) (a.below B b.closed v) (b.below A a.closed v)

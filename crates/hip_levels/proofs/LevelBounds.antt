@@ -81,7 +81,7 @@ module _ (P : Program) (s : IsSound P) (I : Input) (A : Assignment) where
 
   -- ---- instructions
 
-  -- A value within the bound of a rule for a register.
+  -- A value within the bound of a rule for a register is within the register's level.
   ruled : (g : ℕ) (dest : List ℕ) (least : Bound) (v : ℕ) → IsMet A (rule P g dest least) → within_level (bound_in A least) v → IsWithin A g dest v
   ruled g dest least v met m = record { is = within_higher (bound_in A least) (A (Register g dest)) v met m }
 
@@ -142,7 +142,7 @@ module _ (P : Program) (s : IsSound P) (I : Input) (A : Assignment) where
   -- ---- runs
 
   module _ (closed : IsClosedUnder (level_rules P) A) where
-    -- In each frame at each step.
+    -- In each frame at each step the values are within the levels.
     levels_hold : (n : ℕ) → values_in_frames (IsWithin A) (ResultIsWithin A) (run P I n).frames
     levels_hold =
         fact_holds (IsWithin A) (ResultIsWithin A) P I

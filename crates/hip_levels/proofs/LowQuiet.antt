@@ -104,6 +104,6 @@ module _ (P : Program) (A : Assignment) (sound : IsSound P) (closed : IsClosedUn
         go (Some x) q = λ t. t
         go None q = subst (λ (gs : List Frame). ¬ stores_in_region (event_on_frames P I (run P I n).world gs)) (sym e) (code_quiet n f fs (record { going = q; frames = e }) (code_at P f) refl at)
 
--- The stores whose address has a level are quiet, whatever closed assignment gives the levels.
+-- The stores that are low by a closed assignment are quiet.
 pub low_quiet : (P : Program) (A : Assignment) → IsSound P → IsClosedUnder (level_rules P) A → IsQuiet P (λ (s : Site). stores_low P A s.function (instr_of P s))
 low_quiet P A sound closed I valid n f fs e at = step_quiet P A sound closed I valid n f fs e at

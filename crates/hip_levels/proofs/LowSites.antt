@@ -22,6 +22,6 @@ pub low_by_least : (P : Program) (A : Assignment) → IsLeast (level_rules P) A 
 low_by_least P A least =
     ap (low_by P) (fun_ext (λ v. least_is_one (level_rules P) (rules_know P) A (least_levels P) least (program_is_least P) v))
 
--- A site is found exactly where a low store stands.
+-- A site is found exactly if it has a low store.
 pub found_low : (P : Program) (s : Site) → has_site (filter (low_stores P) (sites_of P)) s ≡ low_stores P s
 found_low P = listed P (low_stores P) (λ s e. ap (stores_low P (least_levels P) s.function) e)

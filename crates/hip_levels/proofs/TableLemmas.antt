@@ -46,7 +46,7 @@ get_within [] k v e = cc
 get_within (x ∷ vs) zero v e = omega arith
 get_within (x ∷ vs) (suc k) v e = let rest = get_within vs k v e in omega arith
 
--- One more variable.
+-- The variables after one more.
 abbrev pub added : List Variable → Variable → List Variable
 added vs v = met same_variable vs (v ∷ [])
 
@@ -92,7 +92,7 @@ pub named_grown : (vs ws : List Variable) → Grows vs ws → (rs : List numbere
 named_grown vs ws g [] w = refl
 named_grown vs ws g (r ∷ rs) w = λ i. (rule_kept vs ws g r (w.each r (inl refl))).1 i ∷ named_grown vs ws g rs (record { each = λ s m. w.each s (inr m) }) i
 
--- A rule is added at the end.
+-- A table stays a table if a rule is added at its end.
 pub table_next : (vs : List Variable) (rs : List numbered_rule.Rule) (r : numbered_rule.Rule) → IsTable vs rs → IsWithin (length vs) r → IsTable vs (rs ++ r ∷ [])
 table_next vs rs r t w = record {
   distinct = t.distinct;
@@ -134,7 +134,7 @@ later_distinct : (x : Variable) (vs : List Variable) → IsDistinct same_variabl
 unfolding IsDistinct
 later_distinct x vs d = d.1
 
--- The variable of a number has the level beside it.
+-- The variable of a number has the level at that number.
 level_there : (vs : List Variable) (levels : List ℕ) (k : ℕ) → IsDistinct same_variable vs → length levels ≡ length vs → k < length vs → level_in vs levels (variable_at vs k) ≡ level_of (at levels k)
 level_there [] levels k d same lt = absurd (omega arith)
 level_there (x ∷ vs) [] k d same lt = absurd (omega arith)
@@ -182,7 +182,7 @@ rank_past (Some t) offset h = go (nat_eq offset 0) (nat_lt offset 67108864) (nat
 -- ---- the levels that a table ends with
 
 module _ (vs : List Variable) (rs : List numbered_rule.Rule) (levels : List ℕ) (t : IsTable vs rs) (long : length levels ≡ length vs) (below : IsBelowAll rs levels) (met : AreMetBy (at levels) rs) where
-  -- A bound comes to the level of what it comes to in numbers.
+  -- A bound means the level whose number it means in numbers.
   bound_is : (l : numbered_least.Least) → LeastIsWithin (length vs) l → bound_in (level_in vs levels) (least_named vs l) ≡ level_of (reached levels l)
   bound_is (numbered.Known level) w = refl
   bound_is (numbered.AtOffset offset k) w =
@@ -250,7 +250,7 @@ low_number : (b : Bool) (n : ℕ) → is_some {T = ℕ} (cond b (Some n) None) �
 low_number true n = refl
 low_number false n = refl
 
--- Whether the level beside a number is low; it is where there is none.
+-- Whether the level of a number is low; true if there is no number.
 abbrev pub low_beside : Option ℕ → Bool
 low_beside None = true
 low_beside (Some n) = nat_lt n 33

@@ -13,7 +13,7 @@ is_level (Some t) = t ≤ 32
 abbrev pub IsMet : Assignment → Rule → Type 0
 IsMet A r = is_at_most (bound_in A r.least) (A r.variable)
 
--- An assignment is closed under rules if it meets each of them.
+-- An assignment is closed under rules if it gives each variable a level and meets each rule.
 pub record IsClosedUnder (rs : List Rule) (A : Assignment) : Type 0 where
   pub levels : (v : Variable) → is_level (A v)
   pub met : (r : Rule) → In r rs → IsMet A r
@@ -44,11 +44,12 @@ unfoldable pub round : List Rule → Assignment → Assignment
 round [] A = A
 round (r ∷ rs) A = round rs (raised r A)
 
--- n rounds, one after another, the first of them on this assignment
+-- The assignment after n rounds, the first of which is on this assignment.
 unfoldable pub rounds : ℕ → List Rule → Assignment → Assignment
 rounds zero rs A = A
 rounds (suc n) rs A = round rs (rounds n rs A)
 
--- The levels after 33 rounds for each rule. No rule raises any further, since a variable rises at most 33 times.
+-- The levels after 33 rounds for each rule, and one more. No rule raises a variable any further, since a variable rises
+-- at most 33 times.
 unfoldable pub least_of : List Rule → Assignment
 least_of rs = rounds (suc (33 * length rs)) rs lowest

@@ -30,7 +30,7 @@ persistence_level _ = Some 0
 abbrev pub level_beside : NameTable Bool → List ℕ → PointerLevel
 level_beside table name = persistence_level (value_beside table.names table.values name)
 
--- The level of a constant, and of an element, where names have these levels.
+-- The level of a constant, if names have these levels.
 abbrev pub level_with : (List ℕ → PointerLevel) → Const → PointerLevel
 level_with names = fold-Const PointerLevel PointerLevel PointerLevel (level_step names) gep_level_step item_level_step
 

@@ -15,7 +15,7 @@ abbrev pub reached_by : (ℕ → ℕ) → Least → ℕ
 reached_by levels (least.Known level) = level
 reached_by levels (least.AtOffset offset variable) = offset_rank (levels variable) offset
 
--- The levels of a table.
+-- The level that a table gives a variable.
 abbrev pub at : List ℕ → ℕ → ℕ
 at levels k = slice_index levels k
 

@@ -41,12 +41,12 @@ module _ (P : Program) (g : ℕ) where
   abbrev pub rule : List ℕ → Bound → Rule
   rule name least = record { variable = Register g name; least = least }
 
-  -- The register that the result of a call goes into, if any.
+  -- The rule for the register that the result of a call goes into, if there is one.
   abbrev pub rule_for_result : Option (List ℕ) → Bound → List Rule
   rule_for_result None least = []
   rule_for_result (Some name) least = rule name least ∷ []
 
-  -- A parameter: the level of its argument, at each call of its function.
+  -- The rules of a call's arguments: each parameter has at least the level of its argument.
   abbrev pub argument_rules : ℕ → List Param → List Arg → List Rule
   argument_rules h [] args = []
   argument_rules h (p ∷ ps) [] = []
@@ -63,7 +63,8 @@ module _ (P : Program) (g : ℕ) where
   entry_rules dest args None = []
   entry_rules dest args (Some h) = rules_into dest args h (slice_get P.functions h)
 
-  -- A call: the level of its function's result, and the levels of its arguments. An external function gives no pointer.
+  -- The rules of a call: its register has the level of the function's result, and the parameters have the levels of the
+  -- arguments. An external function gives no pointer.
   abbrev pub call_rules : Option (List ℕ) → List ℕ → List Arg → Option ExternCall → List Rule
   call_rules dest callee args (Some call) = rule_for_result dest free
   call_rules dest callee args None = entry_rules dest args (function_number P callee)
@@ -80,11 +81,11 @@ module _ (P : Program) (g : ℕ) where
   instr_rules (Compare dest pred ty a b) = rule dest free ∷ []
   instr_rules (Store ty value addr align) = []
 
-  -- A phi: the level of each of its values.
+  -- The rules of a phi: its register has at least the level of each of its values.
   abbrev pub phi_rules : Phi → List Rule
   phi_rules p = map (λ e. rule p.dest (operand_bound e.value)) p.edges
 
-  -- The result of a function: the level of what each `ret` returns.
+  -- The rule of a `ret`: the function's result has at least the level of the value that it returns.
   abbrev pub end_rules : End → List Rule
   end_rules (ends.Ret (Some a)) = record { variable = Result g; least = operand_bound a.value } ∷ []
   end_rules _ = []

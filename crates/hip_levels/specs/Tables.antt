@@ -1,4 +1,5 @@
--- Rules and levels in tables: variables by numbers, levels as numbers, 0 to 32, and 33 for Free.
+-- Rules and levels in tables: variables are given by their numbers, and levels are numbers from 0 to 32, or 33 for
+-- Free.
 use Rattle.std.specs.Prelude.{ℕ, ◌≡◌, ◌<◌, ◌≤◌, cond, nat_lt, List, [], ◌∷◌, length, Some, None, unwrap_or, slice_get}
 use Rattle.std.specs.List.{IsDistinct}
 use Rattle.hip_invariants.specs.PointerLevels.{PointerLevel}
@@ -16,17 +17,17 @@ use Rattle.hip_levels.specs.declared.variables.Variable.TheVariants as variables
 abbrev pub level_of : ℕ → PointerLevel
 level_of n = cond (nat_lt n 33) (Some n) None
 
--- The variable that a variable of the code is.
+-- The variable that a variable of the code stands for.
 abbrev pub variable_of : held.Variable → Variable
 variable_of (variables.Register g name) = Register g name.now
 variable_of (variables.Result g) = Result g
 
--- The bound that a bound of the code is; a known level is given by its number, and is Free from 33 on.
+-- The bound that a bound of the code stands for. A known level is given by its number, and is Free from 33 on.
 abbrev pub bound_of : held_bound.Bound → Bound
 bound_of (bounds.Known level) = Known (level_of level)
 bound_of (bounds.AtOffset offset variable) = AtOffset offset (variable_of variable)
 
--- A known level is a level's number.
+-- A known level is at most 33, the number of Free.
 abbrev pub IsSmall : held_bound.Bound → Type 0
 IsSmall (bounds.Known level) = level ≤ 33
 IsSmall (bounds.AtOffset offset variable) = Unit {0}
@@ -35,12 +36,12 @@ IsSmall (bounds.AtOffset offset variable) = Unit {0}
 abbrev pub variable_at : List Variable → ℕ → Variable
 variable_at vs k = unwrap_or (slice_get vs k) (Result 0)
 
--- The bound that a bound over numbers is, where the variables have these numbers.
+-- The bound that a bound over numbers stands for, if the variables have these numbers.
 abbrev pub least_named : List Variable → numbered_least.Least → Bound
 least_named vs (numbered.Known level) = Known (level_of level)
 least_named vs (numbered.AtOffset offset k) = AtOffset offset (variable_at vs k)
 
--- The rule that a rule over numbers is.
+-- The rule that a rule over numbers stands for.
 abbrev pub named : List Variable → numbered_rule.Rule → Rule
 named vs r = record { variable = variable_at vs r.variable; least = least_named vs r.least }
 
@@ -49,7 +50,7 @@ pub record IsTable (vs : List Variable) (rs : List numbered_rule.Rule) : Type 0 
   pub distinct : IsDistinct same_variable vs
   pub within : AreWithin (length vs) rs
 
--- More variables have numbers: those that had one have it still.
+-- More variables have numbers; those that had one keep it.
 pub record Grows (old new : List Variable) : Type 0 where
   pub kept : (k : ℕ) → k < length old → (k < length new) × (variable_at new k ≡ variable_at old k)
   pub distinct : IsDistinct same_variable old → IsDistinct same_variable new

@@ -31,7 +31,7 @@ pub struct Scope<'p> {
 }
 
 impl<'p> Scope<'p> {
-    /// The time is linear in the globals and functions.
+    /// A scope of a program. The time is linear in the globals and functions.
     pub fn new(alloc: Global, program: &'p Program) -> Result<Scope<'p>, NoMemory>
         ensures describes { IfOk result (λ scope. Describes scope) }
         ensures program { IfOk result (λ scope. scope.program.now ≡ program.now) }

@@ -23,7 +23,7 @@ pub fn low_stores_are_quiet()
     ensures { (P : Program) → IsSound P → IsQuiet P (low_stores P) }
 {}
 
-/// The stores whose address is a register assigned by `alloca`, or the name of a volatile global, are among them.
+/// The stores whose address is a register assigned by `alloca`, or the name of a volatile global, are low.
 pub fn direct_stores_are_low()
     ensures { (P : Program) → IsSound P → (s : Site) → direct P s ≡ true → low_stores P s ≡ true }
 {}

@@ -61,7 +61,7 @@ fn stores_low(
     }
 }
 
-/// The test for such stores of a function.
+/// The test for low stores of a function.
 #[derive(Clone, Copy)]
 struct LowTest<'a, 'b, 'p, 'q> {
     scope: &'a Scope<'p>,

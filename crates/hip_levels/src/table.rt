@@ -86,7 +86,7 @@ impl<'p> RuleTable<'p> {
     }
 }
 
-/// The levels of variables. Contracts see the list of both.
+/// Variables and their levels. Contracts see the list of both.
 #[derive(Drop)]
 pub struct LevelTable<'p> {
     variables: VariableSet<'p>,

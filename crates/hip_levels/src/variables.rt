@@ -22,7 +22,7 @@ pub enum Bound<'p> {
     AtOffset(u64, Variable<'p>),
 }
 
-/// Variables that differ, numbered from 0 in the order in which they were inserted.
+/// Distinct variables, numbered from 0 in the order in which they were inserted.
 #[derive(Drop)]
 pub struct VariableSet<'p> {
     variables: IndexSet<Variable<'p>>,

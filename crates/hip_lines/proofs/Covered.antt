@@ -4,7 +4,7 @@ use Rattle.std.proofs.lemmas.Bool.Decides.{nat_tests}
 use Rattle.hip_lines.specs.declared.part.Part.{Part}
 use Rattle.hip_lines.specs.Parts.{part_covers}
 
--- A byte of a part's line is one of those between two places of the line exactly where the part covers it.
+-- A byte of a part's line is between the part's two offsets in the line exactly if the part covers it.
 pub covered_place : (p : Part) (line b : ℕ) → p.offset / 64 ≡ line → b / 64 ≡ line → (nat_le (p.offset % 64) (b % 64) && nat_lt (b % 64) (p.offset % 64 + p.size)) ≡ part_covers p b
 covered_place p line b e f = go (cases (p.offset % 64) (b % 64)) (cases p.offset b) (cases' (b % 64) (p.offset % 64 + p.size)) (cases' b (p.offset + p.size))
   where

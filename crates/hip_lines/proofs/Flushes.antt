@@ -32,7 +32,7 @@ start o n m = record {
     off : (j : ℕ) → (has_bytes j o n && nat_lt j (o / 64)) ≡ false
     off j = grind (arith, nat_tests)
 
--- Where the lines from `next` up to `line` have no queue.
+-- A line of the range below `line + 1` is below `next`, or is one of the lines from `next` up to `line`.
 test_at : (o n next line j : ℕ) → next ≤ line → ((has_bytes j o n && nat_lt j next) ≡ (has_bytes j o n && nat_lt j (line + 1))) ⊎ ((next ≤ j) × (j ≤ line))
 test_at o n next line j h = grind (arith, nat_tests)
 
@@ -96,7 +96,7 @@ one_more o n next line changed old m m' q ql p f s c b differs same changed' ce 
     kept true e g = absurd (let h = ap (λ d. cond d true changed) e in let z : ⊥ = cc in z)
     kept false e g = λ j. same e j ∙ f.keeps (sym (ap (λ d. cond d true changed) e) ∙ g) j
 
--- The range is done where no queue from `next` on lies below its end.
+-- The whole range is flushed if no line of the range from `next` on has a queue.
 pub done : (o n next : ℕ) (changed : Bool) (old m : Queues) → 0 < n → Flushed o n next changed old m → ((j : ℕ) → next ≤ j → j < (o + n - 1) / 64 + 1 → queue_at m j ≡ None) → FlushesLines o n old m
 done o n next changed old m p f h = record {
   pending = λ j. at j (reach j);

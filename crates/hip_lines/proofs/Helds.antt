@@ -1,4 +1,4 @@
--- What calls on the queues are for the lines of a region.
+-- What the calls on the queues do to the lines of a region.
 use Rattle.std.proofs.Common.{◌≡◌, ◌≢◌, ◌⊎◌, inl, inr, ℕ, ◌/◌, ◌<◌, Bool, true, false, cond, nat_lt, ◌||◌, rules, List, [], ◌∷◌, length, Option, Some, None, IsSome, OnErr, Result, Ok, Err, refl, sym, ap, ◌∙◌, subst, arith}
 use Rattle.std.proofs.lemmas.Bool.Decides.{nat_tests}
 use Rattle.std.specs.List.{list_any, IsDistinct}
@@ -65,11 +65,11 @@ pub lines-at : (n k : ℕ) (m m' : Queues) → k < n → lines_of n m' ≡ lines
 unfolding lines_of
 lines-at n k m m' h e = table_at (pending_at m) (pending_at m') n k h e
 
--- The list stays right where no line's parts change.
+-- The list stays right if the parts of no line change.
 pub listed-same : (lines lines' : List ℕ) (m m' : Queues) → lines' ≡ lines → ((j : ℕ) → pending_at m' j ≡ pending_at m j) → ListsFlushed lines m → ListsFlushed lines' m'
 listed-same lines lines' m m' e h l = subst (λ (xs : List ℕ). ListsFlushed xs m') (sym e) (record { distinct = l.distinct; listed = λ j. l.listed j ∙ ap (λ (w : Pending Part). nat_lt 0 w.flushed) (sym (h j)) })
 
--- With no line in it no line holds a flushed part.
+-- If the list is empty, no line holds a flushed part.
 pub none_listed : (m : Queues) → ListsFlushed [] m → (j : ℕ) → pending_at m j ≡ pending_fenced (pending_at m j)
 none_listed m l j = ap (λ k. record { parts = (pending_at m j).parts; flushed = k }) z ∙ ap (λ k. pending_fenced (record { parts = (pending_at m j).parts; flushed = k })) (sym z)
   where
@@ -123,6 +123,6 @@ pub lines-flushed_all : (o k n : ℕ) (m m' : Queues) → FlushesLines o k m m' 
 unfolding lines_of
 lines-flushed_all o k n m m' f = table_changed (λ _ w. pending_flushed w) o k (pending_at m) (pending_at m') f.pending 0 n
 
--- A line that changed is a line of the region.
+-- If the parts of some line change, the list of the lines of the region changes.
 pub some-changes : (n : ℕ) (m m' : Queues) → ChangesSome m m' → AreBelow n m → lines_of n m' ≡ lines_of n m → ⊥
 some-changes n m m' c b e = c.differs (lines-at n c.line m m' (b c.line c.there) e)

@@ -16,7 +16,7 @@ pub record MadeRoom (first line : ℕ) (old new : Queues) : Type 0 where
   pub room : (j : ℕ) → first ≤ j → j < line → HasRoomAt new j
   pub below : (n : ℕ) → line ≤ n → AreBelow n old → AreBelow n new
 
--- The parts of a store in the lines below `line` were taken up.
+-- The parts of a store in the lines below `line` were added.
 pub record TookUp (o n tag line : ℕ) (old new : Queues) : Type 0 where
   pub pending : (j : ℕ) → pending_at new j ≡ cond (has_bytes j o n && nat_lt j line) (pending_with (part_in o n tag j) (pending_at old j)) (pending_at old j)
   pub room : (j : ℕ) → line ≤ j → queue_at new j ≡ queue_at old j
@@ -85,7 +85,7 @@ pending-of m j q e = ap pending_by (sym e)
 pub some-of : (m : Queues) (j : ℕ) (q : Queue) → Some q ≡ queue_at m j → IsSome (queue_at m j)
 some-of m j q e = subst IsSome e refl
 
--- Where a line's queue has nothing flushed.
+-- If nothing in a line's queue is flushed, the line has no flushed parts.
 pub first-flush : (m : Queues) (j : ℕ) (q : Queue) → Some q ≡ queue_at m j → (pending_in q).flushed ≡ 0 → (pending_at m j).flushed ≡ 0
 first-flush m j q e z = ap (λ (w : Pending Part). w.flushed) (pending-of m j q e) ∙ z
 
@@ -97,7 +97,7 @@ flushed-some m m' j q e h z ne =
     positive : (n k : ℕ) → n ≡ k → k ≢ 0 → 0 < n
     positive n k e ne = omega (arith, e, ne)
 
--- Where all are flushed already.
+-- If all parts of a line are flushed already, a flush changes nothing.
 pub flushed-already : (m : Queues) (j : ℕ) (q : Queue) → Some q ≡ queue_at m j → (pending_in q).flushed ≡ length (pending_in q).parts → ChangesLine pending_flushed j m m
 flushed-already m j q e f = record {
   here = p ∙ ap (λ n. record { parts = (pending_in q).parts; flushed = n }) f ∙ sym (ap pending_flushed p);
@@ -109,7 +109,7 @@ flushed-already m j q e f = record {
     p : pending_at m j ≡ pending_in q
     p = pending-of m j q e
 
--- Where not all were flushed.
+-- If not all parts of a line are flushed, a flush changes them.
 pub flushed-differs : (m m' : Queues) (j : ℕ) (q : Queue) → Some q ≡ queue_at m j → ChangesLine pending_flushed j m m' → (pending_in q).flushed ≢ length (pending_in q).parts → pending_at m' j ≢ pending_at m j
 flushed-differs m m' j q e c ne same =
     let p = pending-of m j q e in

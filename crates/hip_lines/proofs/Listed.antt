@@ -56,7 +56,7 @@ found_at m j s =
     let t = there m.directory m.queues.items j m.placed (has-place m.directory m.queues.items j s) in
     found m.queues.items (number_at m.directory j - 1) j t.0 t.1 t.3
 
--- Lines of which each has a queue are at most as many as there are queues.
+-- If each line of a list has a queue, there are at most as many lines in the list as there are queues.
 few_lines : (lines : List ℕ) (m : Queues) → IsDistinct (eq_by_cmp nat_cmp) lines → ((q : ℕ) → list_any (eq_by_cmp nat_cmp q) lines ≡ true → IsSome (queue_at m q)) → length lines ≤ count_of m
 unfolding count_of
 few_lines lines m d h = omega (arith, length-by_line m.queues.items, length-le_from_keys (eq_by_cmp_equiv nat_cmp_total) lines (by_line m.queues.items) d (λ q e. found_at m q (h q e)))

@@ -40,7 +40,7 @@ loose_of-skip m (suc k) o (suc n) h none =
     ∙ loose_of-skip m k (suc o) n (omega arith) (λ b from to. none b (omega arith) (omega arith))
     ∙ ap (λ i. loose_of m i (n - k)) z ∙ ap (λ i. loose_of m (o + suc k) i) y
 
--- The bytes before a stop, none of which is loose.
+-- Bytes before a stop may be skipped if none of them is loose.
 pub loose_of-skip_to : (m : Queues) (at stop end : ℕ) → at ≤ stop → stop ≤ end → ((b : ℕ) → at ≤ b → b < stop → loose_in (pending_at m (b / 64)) b ≡ None) → loose_of m at (end - at) ≡ loose_of m stop (end - stop)
 loose_of-skip_to m at stop end h k none =
     let z : at + (stop - at) ≡ stop = omega arith in
@@ -55,7 +55,7 @@ none_without m b e = ap (λ o. loose_in (pending_by o) b) e
 in_queue : (m : Queues) (b : ℕ) (q : Queue) → queue_at m q.line ≡ Some q → b / 64 ≡ q.line → pending_at m (b / 64) ≡ pending_in q
 in_queue m b q e f = ap (pending_at m) f ∙ ap pending_by e
 
--- What a search in the queue of a line says of all bytes from where it stands.
+-- A search in the queue of a line that finds nothing shows that no byte from `at` up to `stop` is loose.
 before : (m : Queues) (at end stop : ℕ) (q : Queue) → IsNextQueue m at (lines_to end) (Some q) → stop ≤ 64 * q.line + 64 → NoneLoose (pending_in q) (max at (q.line * 64)) stop → (b : ℕ) → at ≤ b → b < stop → loose_in (pending_at m (b / 64)) b ≡ None
 before m at end stop q h s none b from to = go (split b)
   where
@@ -89,7 +89,7 @@ rest-found m at end from stop q f c h s =
 pub next_queue-found : (m : Queues) (at end from stop : ℕ) (q : Queue) (f : LooseByte) → Searches at end from stop q → IsNextQueue m at (lines_to end) (Some q) → IsFirstLoose (pending_in q) from stop (Some f) → IsNextQueue m (f.offset + 1) (lines_to end) (Some q)
 next_queue-found m at end from stop q f c h s = (h.0, omega (arith, c.stop_is, s.1), h.2, λ j low high. h.3 j (omega (arith, c.from_is, s.0)) high)
 
--- Nothing was found, and the search goes on at the next line.
+-- If nothing is found, the search continues at the next line.
 none_before : (m : Queues) (at end from stop : ℕ) (q : Queue) → Searches at end from stop q → IsNextQueue m at (lines_to end) (Some q) → IsFirstLoose (pending_in q) from stop None → (b : ℕ) → at ≤ b → b < stop → loose_in (pending_at m (b / 64)) b ≡ None
 none_before m at end from stop q c h s b low high = before m at end stop q h (omega (arith, c.stop_is)) (subst (λ i. NoneLoose (pending_in q) i stop) c.from_is s) b low high
 
@@ -100,7 +100,7 @@ pub next_queue-from : (m : Queues) (at end from stop : ℕ) (q : Queue) (o : Opt
 next_queue-from m at end from stop q None c h ne = λ j low high. h j (omega (arith, c.stop_is, low)) high
 next_queue-from m at end from stop q (Some r) c h ne = (h.0, omega (arith, c.stop_is, h.1), h.2, λ j low high. h.3 j (omega (arith, c.stop_is)) high)
 
--- The number of lines that are left falls.
+-- Each step lowers the number of lines that are left.
 pub lines_fall : (m : Queues) (to : ℕ) (q : Queue) (o : Option Queue) → q.line < to → IsQueueFrom m (q.line + 1) to o → lines_left to o < lines_left to (Some q)
 lines_fall m to q None lt h = omega (arith, lt)
 lines_fall m to q (Some r) lt h = omega (arith, lt, h.1)
@@ -126,7 +126,7 @@ rest-no_queue m at end None h n = go (split at end)
     go (inl le) = let z : end - end ≡ 0 = omega arith in loose_of-skip_to m at end end le (omega arith) (λ b from to. none_without m b (h (b / 64) (omega arith) (omega (arith, to)))) ∙ ap (loose_of m end) z
     go (inr gt) = let z : end - at ≡ 0 = omega arith in ap (loose_of m at) z
 
--- What an iterator over a list makes of one item.
+-- An iterator over a list makes progress when it gives one item.
 pub goes_on : (xs ys : List LooseByte) (f : LooseByte) → xs ≡ f ∷ ys → MakesProgress {S = List LooseByte} {A = LooseByte} (λ _. Unit {0}) (item_count {S = List LooseByte} {A = LooseByte} (λ s. s)) xs (Some f) ys
 goes_on xs ys f e = record { on = λ _. (tt, tt, omega (arith, ap length e)); keeps = tt; rests = λ _. tt }
 

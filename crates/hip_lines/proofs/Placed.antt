@@ -124,7 +124,7 @@ module _ (f : Pending Part → Pending Part) (d : Directory) (qs qs' : List Queu
           ap (λ (y : Queue). y.line) (some_same q r.0 (sym e ∙ ap (λ i. queue_in d qs' i) x.1 ∙ r.1)) ∙ r.2 ∙ sym x.1
       go j q e (inr x) = h.numbered j q (sym (other-queue j x.1) ∙ e)
 
--- The same of the lines.
+-- If the queue at the place of a line changes, that line changes.
 pub changes-line : (f : Pending Part → Pending Part) (m m' : Queues) (line : ℕ) → m'.directory ≡ m.directory → 0 < number_at m.directory line → ChangesPlace f (number_at m.directory line - 1) m.queues.items m'.queues.items → ChangesLine f line m m'
 unfolding queue_at count_of
 changes-line f m m' line d p c = record {
@@ -144,7 +144,7 @@ changes-line f m m' line d p c = record {
     below n b j s (inl x) = subst (λ i. i < n) (sym x.1) (b line (subst IsSome (sym (there m.directory m.queues.items line m.placed p).2) refl))
     below n b j s (inr x) = b j (subst IsSome (others j x.1) s)
 
--- Room that one queue keeps, and room that it gets.
+-- If a change of the queue at a line's place keeps the pending parts, the line has room if that queue has room.
 module _ (m m' : Queues) (line : ℕ) (d : m'.directory ≡ m.directory) (p : 0 < number_at m.directory line) (n : ℕ) (e : n ≡ number_at m.directory line) (c : ChangesPlace (λ w. w) (n - 1) m.queues.items m'.queues.items) where
   old_there : (q : Queue) × (slice_get m.queues.items (n - 1) ≡ Some q) × (queue_in m.directory m.queues.items line ≡ Some q)
   old_there = let t = there m.directory m.queues.items line m.placed p in (t.0, ap (λ k. slice_get m.queues.items (k - 1)) e ∙ t.1, t.2)
@@ -200,7 +200,7 @@ module _ (d d' : Directory) (qs : List Queue) (line : ℕ) (s : (j : ℕ) → nu
       numbered j q e (inl x) = absurd (none_some q (queue_in d' qs j) (no-place d' qs j x.1) e)
       numbered j q e (inr x) = h.numbered j q (sym (ap (at_place qs) x.1) ∙ e)
 
--- A fence after which nothing is left.
+-- If a fence leaves no part of a line, the line may give its queue back.
 pub fenced-away : (m m' : Queues) (qs : List Queue) (line : ℕ) → m'.queues.items ≡ qs → 0 < number_at m.directory line → ChangesPlace pending_fenced (number_at m.directory line - 1) m.queues.items qs → ((r : Queue) → slice_get qs (number_at m.directory line - 1) ≡ Some r → pending_in r ≡ none_pending) → ((j : ℕ) → number_at m'.directory j ≡ cond (j == line) 0 (number_at m.directory j)) → ChangesLine pending_fenced line m m'
 unfolding queue_at count_of
 fenced-away m m' qs line e p c empty s = record {
@@ -235,7 +235,7 @@ placed-unused d place qs qs' free k h = record { within = λ j. omega (arith, h.
 pub unused-end : (d : Directory) (qs : List Queue) → ArePlaced d qs → (j : ℕ) → number_at d j ≢ length qs + 1
 unused-end d qs h j e = omega (arith, e, h.within j)
 
--- No line has a queue whose line has another.
+-- A place is free if the line of its queue has another place.
 pub unused-checked : (d : Directory) (qs : List Queue) (place : ℕ) (q : Queue) → ArePlaced d qs → slice_get qs place ≡ Some q → number_at d q.line ≢ place + 1 → (j : ℕ) → number_at d j ≢ place + 1
 unused-checked d qs place q h e ne j f =
     let i : 0 < number_at d j = omega (arith, f) in

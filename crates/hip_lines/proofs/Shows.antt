@@ -19,7 +19,7 @@ lt_false m n h = grind (arith, nat_tests)
 lt_suc : (m n : ℕ) → nat_lt (suc m) (suc n) ≡ nat_lt m n
 lt_suc m n = grind (arith, nat_tests)
 
--- What is shown once all parts are flushed, and once the flushed ones are durable.
+-- What is shown after all parts are flushed.
 abbrev as_flushed : ℕ × Bool → ℕ × Bool
 as_flushed s = (s.0, true)
 
@@ -196,7 +196,7 @@ module _ (tags : List ℕ) (flushed : ℕ) (numbers : List ℕ) (line : ℕ) (w 
       parts_end : 0 ≡ length w'.parts → w.flushed ≡ length w.parts
       parts_end z = omega (arith, z, ap (λ (v : Pending Part). length v.parts) x, length-drop w.flushed w.parts, h.ordered)
 
-  -- Whether all parts are flushed, some are, and none is pending.
+  -- If there are no tags, no part is pending.
   pub none-left : tags ≡ [] → w ≡ none_pending
   none-left t =
       let f : flushed ≡ 0 = omega (arith, within, ap length t) in

@@ -32,7 +32,7 @@ module _ {A : Type 0} where
   some_same : (x y : A) → Some x ≡ Some y → x ≡ y
   some_same x y e = cc
 
-  -- Equal lists have equal values at each line that is there.
+  -- Equal lists have equal values at each of their places.
   pub table_at : (g g' : ℕ → A) (n k : ℕ) → k < n → table_from g' 0 n ≡ table_from g 0 n → g' k ≡ g k
   table_at g g' n k h e =
       let z : 0 + k ≡ k = omega arith in

@@ -21,8 +21,8 @@ module _ {P : Type 0} (covers : P → ℕ → Bool) (value : P → ℕ → ℕ) 
   abbrev pub IsLineImage : List ℕ → List ℕ → ℕ → Line P → Type 0
   IsLineImage first r j l = (q : ℕ) × IsLineImageAt first r j l q
 
-  -- A crash leaves, for each line by itself, the initial bytes changed by some first parts of its list, all durable
-  -- ones among them.
+  -- A possible content after a crash: each line, independently of the others, has its initial bytes changed by some
+  -- first parts of its list, which include all durable parts.
   pub record IsImage (first : List ℕ) (ls : List (Line P)) (r : List ℕ) : Type 0 where
     pub whole : length r ≡ length first
     pub lines : (j : ℕ) (l : Line P) → slice_get ls j ≡ Some l → IsLineImage first r j l
@@ -32,7 +32,7 @@ module _ {P : Type 0} (covers : P → ℕ → Bool) (value : P → ℕ → ℕ) 
   parts_of None = []
   parts_of (Some l) = l.parts
 
-  -- The content that a pick gives, from byte b on: in each line that many of its parts.
+  -- The content that a pick gives, from byte b on: each line has as many of its first parts as the pick gives for it.
   abbrev pub image_from : List (Line P) → (ℕ → ℕ) → ℕ → List ℕ → List ℕ
   image_from ls pick b [] = []
   image_from ls pick b (x ∷ xs) =

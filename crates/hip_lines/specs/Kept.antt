@@ -26,7 +26,7 @@ abbrev pub pending_by : Option Queue → Pending Part
 pending_by None = none_pending
 pending_by (Some q) = pending_in q
 
--- The pending parts of line j, none where it has no queue.
+-- The pending parts of line j. A line without a queue has none.
 abbrev pub pending_at : Queues → ℕ → Pending Part
 pending_at m j = pending_by (queue_at m j)
 
@@ -44,7 +44,7 @@ abbrev pub HasRoomFor : Queues → Option (ℕ × ℕ) → Type 0
 HasRoomFor m None = Unit {0}
 HasRoomFor m (Some (o, n)) = (j : ℕ) → has_bytes j o n ≡ true → HasRoomAt m j
 
--- The lines that have a queue lie below line n.
+-- Every line that has a queue is below line n.
 abbrev pub AreBelow : ℕ → Queues → Type 0
 AreBelow n m = (j : ℕ) → IsSome (queue_at m j) → j < n
 
@@ -74,8 +74,8 @@ RelistsFlushed lines news m = ListsFlushed news.items m × (vec_capacity news �
 abbrev pub KeepsList : Vec ℕ Global → Vec ℕ Global → Queues → Queues → Type 0
 KeepsList lines news old new = (news.items ≡ lines.items) × (HasSpare lines old → HasSpare news new)
 
--- Only room was made: what is pending stays, and so do the room that there was and the list of the lines that hold
--- flushed parts. A new queue is that of a line that begins before byte `end`.
+-- Only room was made: the pending parts stay, and so do the existing room and the list of the lines that hold flushed
+-- parts. A new queue is that of a line that begins before byte `end`.
 pub record MakesRoom (end : ℕ) (lines news : Vec ℕ Global) (old new : Queues) : Type 0 where
   pub same : (j : ℕ) → pending_at new j ≡ pending_at old j
   pub kept : (j : ℕ) → HasRoomAt old j → HasRoomAt new j

@@ -14,12 +14,12 @@ pub record Line (P : Type 0) : Type 0 where
   pub flushed : ℕ
   pub durable : ℕ
 
--- The durable number is at most the flushed one, and that at most the number of parts.
+-- The durable number is at most the flushed number, and the flushed number is at most the number of parts.
 pub record IsOrdered {P : Type 0} (l : Line P) : Type 0 where
   pub durable : l.durable ≤ l.flushed
   pub flushed : l.flushed ≤ length l.parts
 
--- The same for each line.
+-- Each line of a list is ordered.
 abbrev pub AreOrdered : {P : Type 0} → List (Line P) → Type 0
 AreOrdered [] = Unit {0}
 AreOrdered (l ∷ ls) = IsOrdered l × AreOrdered ls
@@ -28,16 +28,16 @@ AreOrdered (l ∷ ls) = IsOrdered l × AreOrdered ls
 abbrev pub fresh_line : {P : Type 0} → Line P
 fresh_line = record { parts = []; flushed = 0; durable = 0 }
 
--- After a store, whose part becomes the last one; both numbers stay.
+-- The line after a store, whose part becomes the last one. Both numbers stay.
 abbrev pub with_part : {P : Type 0} → P → Line P → Line P
 with_part x l = record { parts = l.parts ++ x ∷ []; flushed = l.flushed; durable = l.durable }
 
--- After a flush: all its parts are flushed. (Intel's manual, CLWB and CLFLUSHOPT; that CLFLUSH waits for a fence too
--- is this project's choice.)
+-- The line after a flush: all its parts are flushed. (Intel's manual, CLWB and CLFLUSHOPT; that CLFLUSH waits for a
+-- fence too is this project's choice.)
 abbrev pub flushed_line : {P : Type 0} → Line P → Line P
 flushed_line l = record { parts = l.parts; flushed = length l.parts; durable = l.durable }
 
--- After a fence: all flushed parts are durable. (Intel's manual, SFENCE.)
+-- The line after a fence: all flushed parts are durable. (Intel's manual, SFENCE.)
 abbrev pub fenced_line : {P : Type 0} → Line P → Line P
 fenced_line l = record { parts = l.parts; flushed = l.flushed; durable = l.flushed }
 
@@ -67,15 +67,15 @@ change_from f o n j (l ∷ ls) = cond (has_bytes j o n) (f j l) l ∷ change_fro
 abbrev pub change_range : {L : Type 0} → (ℕ → L → L) → ℕ → ℕ → List L → List L
 change_range f o n ls = change_from f o n 0 ls
 
--- After a store of n bytes at offset o, whose part in line j is `part j`.
+-- The lines after a store of n bytes at offset o, whose part in line j is `part j`.
 abbrev pub stored : {P : Type 0} → (ℕ → P) → ℕ → ℕ → List (Line P) → List (Line P)
 stored part o n ls = change_range (λ j l. with_part (part j) l) o n ls
 
--- After a flush of the n bytes at offset o.
+-- The lines after a flush of the n bytes at offset o.
 abbrev pub flushed : {P : Type 0} → ℕ → ℕ → List (Line P) → List (Line P)
 flushed o n ls = change_range (λ _ l. flushed_line l) o n ls
 
--- After a fence.
+-- The lines after a fence.
 abbrev pub fenced : {P : Type 0} → List (Line P) → List (Line P)
 fenced ls = map fenced_line ls
 

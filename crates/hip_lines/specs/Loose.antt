@@ -3,7 +3,7 @@ use Rattle.std.specs.Prelude.{◌≡◌, ℕ, suc, ◌<◌, ◌≤◌, Bool, tru
 use Rattle.hip_lines.specs.Line.{Line}
 
 module _ {P : Type 0} (covers : P → ℕ → Bool) where
-  -- x stands at place k and covers byte b, and no later part covers it.
+  -- Part x is at place k and covers byte b, and no later part covers it.
   pub record IsLastOver (ps : List P) (b k : ℕ) (x : P) : Type 0 where
     pub at : slice_get ps k ≡ Some x
     pub over : covers x b ≡ true
@@ -14,11 +14,11 @@ module _ {P : Type 0} (covers : P → ℕ → Bool) where
     pub last_over : IsLastOver l.parts b k x
     pub not_durable : l.durable ≤ k
 
-  -- A byte is loose where some part covers it and the last such part is not durable.
+  -- A byte is loose if some part covers it and the last part that covers it is not durable.
   abbrev pub IsLoose : Line P → ℕ → Type 0
   IsLoose l b = (k : ℕ) × (x : P) × IsLooseBy l b k x
 
-  -- The later of two finds; the places of the second are counted from one place on.
+  -- The later of two search results. The place in the second result is counted from place 1 of the whole list.
   abbrev pub later : Option (ℕ × P) → Option (ℕ × P) → Option (ℕ × P)
   later first None = first
   later first (Some (k, x)) = Some (suc k, x)

@@ -38,7 +38,7 @@ IsQueueFrom m from to None = NoQueues m from to
 IsQueueFrom m from to (Some q) = (queue_at m q.line ≡ Some q) × (from ≤ q.line) × (q.line < to)
     × NoQueues m from q.line
 
--- The queue of the line with the byte at which a search stands, or of the next line below `to` that has a queue.
+-- The queue of the line of byte `at`, where a search continues, or of the next line below `to` that has a queue.
 abbrev pub IsNextQueue : Queues → ℕ → ℕ → Option Queue → Type 0
 IsNextQueue m at to None = NoQueues m (at / LINE_SIZE) to
 IsNextQueue m at to (Some q) =

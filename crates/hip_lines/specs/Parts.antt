@@ -12,7 +12,7 @@ pub record Held : Type 0 where
   pub lines : List (Pending Part)
   pub room : Option (ℕ × ℕ)
 
--- A store of n bytes at offset o has 1 to 8 bytes, and lies in these lines.
+-- A store of n bytes at offset o has 1 to 8 bytes, all in these lines.
 abbrev pub LiesIn : List (Pending Part) → ℕ → ℕ → Type 0
 LiesIn ws o n = (0 < n) × (n ≤ 8) × (o + n ≤ LINE_SIZE * length ws)
 
@@ -36,7 +36,7 @@ pending_flushed_all o n ws = change_range (λ _ w. pending_flushed w) o n ws
 abbrev pub pending_fenced_all : List (Pending Part) → List (Pending Part)
 pending_fenced_all ws = map pending_fenced ws
 
--- n lines without pending parts
+-- A list of n lines without pending parts.
 unfoldable pub none_pending_all : ℕ → List (Pending Part)
 none_pending_all n = replicate n none_pending
 
@@ -48,7 +48,7 @@ loose_by w b f = record { offset = b; tag = f.1.tag; flushed = nat_lt f.0 w.flus
 abbrev pub loose_in : Pending Part → ℕ → Option LooseByte
 loose_in w b = option_map (loose_by w b) (last_over part_covers b w.parts)
 
--- The same by all lines of a region; none after the last line.
+-- The loose byte at offset b, by the line of a region that has it; `None` after the last line.
 abbrev pub loose_at : List (Pending Part) → ℕ → Option LooseByte
 loose_at ws b = option_and_then (λ w. loose_in w b) (slice_get ws (b / LINE_SIZE))
 

@@ -1,5 +1,5 @@
--- What is kept of a line once durable parts are let go: the parts from the durable number on, and how many of these are
--- flushed.
+-- What is kept of a line when its durable parts are removed: the parts from the durable number on, and how many of
+-- these are flushed.
 use Rattle.std.specs.Prelude.{ℕ, ◌-◌, List, [], ◌∷◌, ◌++◌, length, drop}
 use Rattle.hip_lines.specs.Line.{Line}
 
@@ -17,14 +17,14 @@ pending_of l = record { parts = drop l.durable l.parts; flushed = l.flushed - l.
 abbrev pub none_pending : {P : Type 0} → Pending P
 none_pending = record { parts = []; flushed = 0 }
 
--- After a store, whose part becomes the last one; the number of flushed ones stays.
+-- The pending parts after a store, whose part becomes the last one. The number of flushed parts stays.
 abbrev pub pending_with : {P : Type 0} → P → Pending P → Pending P
 pending_with x w = record { parts = w.parts ++ x ∷ []; flushed = w.flushed }
 
--- After a flush of the line: all pending parts are flushed.
+-- The pending parts after a flush of the line: all are flushed.
 abbrev pub pending_flushed : {P : Type 0} → Pending P → Pending P
 pending_flushed w = record { parts = w.parts; flushed = length w.parts }
 
--- After a fence: the flushed parts are durable and are let go, and none of the others is flushed.
+-- The pending parts after a fence: the flushed parts are durable and are removed, and none of the others is flushed.
 abbrev pub pending_fenced : {P : Type 0} → Pending P → Pending P
 pending_fenced w = record { parts = drop w.flushed w.parts; flushed = 0 }

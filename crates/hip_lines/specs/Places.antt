@@ -7,7 +7,7 @@ use Rattle.hip_lines.specs.declared.queue.Queue.{Queue}
 use Rattle.hip_lines.specs.Pending.{Pending, none_pending}
 use Rattle.hip_lines.specs.Queues.{pending_in, HasRoom}
 
--- The queue at a place, counted from 1; at 0 there is none.
+-- The queue at a place, counted from 1. There is no queue at place 0.
 abbrev pub at_place : List Queue → ℕ → Option Queue
 at_place qs zero = None
 at_place qs (suc n) = slice_get qs n
@@ -16,7 +16,7 @@ at_place qs (suc n) = slice_get qs n
 abbrev pub queue_in : Directory → List Queue → ℕ → Option Queue
 queue_in d qs j = at_place qs (number_at d j)
 
--- Each queue that the directory gives a line is there, and has the line's number.
+-- Each queue that the directory gives for a line exists, and has the line's number.
 pub record ArePlaced (d : Directory) (qs : List Queue) : Type 0 where
   pub within : (j : ℕ) → number_at d j ≤ length qs
   pub numbered : (j : ℕ) (q : Queue) → queue_in d qs j ≡ Some q → q.line ≡ j
@@ -34,7 +34,7 @@ pub record ChangesPlace (change : Pending Part → Pending Part) (place : ℕ) (
   pub here : (q : Queue) → slice_get old place ≡ Some q → (r : Queue) × (slice_get new place ≡ Some r)
       × (r.line ≡ q.line) × (pending_in r ≡ change (pending_in q))
 
--- At a place, counted from 0, stands an empty queue of line `number` that has room for a part.
+-- The queue at a place, counted from 0, is an empty queue of line `number` that has room for a part.
 pub record IsFreshAt (number place : ℕ) (qs : List Queue) : Type 0 where
   pub queue : Queue
   pub at : slice_get qs place ≡ Some queue
@@ -42,7 +42,7 @@ pub record IsFreshAt (number place : ℕ) (qs : List Queue) : Type 0 where
   pub empty : pending_in queue ≡ none_pending
   pub room : HasRoom queue
 
--- An empty queue with room is at a place, counted from 1, that no line has.
+-- At a place, counted from 1, there is an empty queue with room, and no line has this place.
 pub record IsFresh (d : Directory) (number place : ℕ) (qs : List Queue) : Type 0 where
   pub some : 0 < place
   pub free : (j : ℕ) → number_at d j ≢ place

@@ -14,14 +14,14 @@ shown_by flushed f = (f.1.tag, nat_lt f.0 flushed)
 abbrev pub shown : Pending Part → ℕ → Option (ℕ × Bool)
 shown w b = option_map (shown_by w.flushed) (last_over part_covers b w.parts)
 
--- What the kept tag of a number, counted from 1, shows, where the first `flushed` tags are flushed; nothing for 0.
+-- What a kept tag shows, by its number, counted from 1, if the first `flushed` tags are flushed; `None` for number 0.
 abbrev pub kept_at : List ℕ → ℕ → ℕ → Option (ℕ × Bool)
 kept_at tags flushed zero = None
 kept_at tags flushed (suc k) = Some (slice_index tags k, nat_lt k flushed)
 
 -- The kept tags of a line, of which the first `flushed` are flushed, and for each byte the number of the tag that it
--- shows. Each byte shows the same as by all pending parts of the line. Some part is flushed exactly if some tag is, and
--- all parts are exactly if all tags are.
+-- shows. Each byte shows what it shows by all pending parts of the line. Some part is flushed exactly if some tag is.
+-- All parts are flushed exactly if all tags are.
 pub record Shows (tags : List ℕ) (flushed : ℕ) (numbers : List ℕ) (line : ℕ) (w : Pending Part) : Type 0 where
   pub bytes : (b : ℕ) → b / LINE_SIZE ≡ line
       → kept_at tags flushed (slice_index numbers (b % LINE_SIZE)) ≡ shown w b
@@ -31,7 +31,7 @@ pub record Shows (tags : List ℕ) (flushed : ℕ) (numbers : List ℕ) (line : 
   pub not_all : w.flushed ≡ length w.parts → flushed ≡ length tags
   pub ordered : w.flushed ≤ length w.parts
 
--- Each number is that of a tag, or 0.
+-- Each number is the number of a tag, or 0.
 abbrev pub AreNumbers : ℕ → List ℕ → Type 0
 AreNumbers count numbers = (i : ℕ) → slice_index numbers i ≤ count
 

@@ -7,13 +7,14 @@ use Rattle.hip_types.specs.declared.areas.TheConstants.{LINE_SIZE}
 abbrev pub AreBlank : List ℕ → Type 0
 AreBlank uses = (length uses ≡ 256) × (count_set uses ≡ 0)
 
--- The numbers of the first n bytes are noted as used, and at most n more than before.
+-- The numbers of the first n bytes are noted as used. At most n numbers are newly noted.
 pub record AreNoted (numbers : List ℕ) (n : ℕ) (old new : List ℕ) : Type 0 where
   pub size : length new ≡ length old
   pub bytes : (i : ℕ) → i < n → 0 < slice_index new (slice_index numbers i)
   pub few : count_set new ≤ count_set old + n
 
--- The used numbers: those of the bytes of a line, 0, `flushed` and `last`; at most three more than the line has bytes.
+-- The used numbers include those of the bytes of a line, 0, `flushed` and `last`. There are at most three more than the
+-- line has bytes.
 pub record AreUses (numbers : List ℕ) (flushed last : ℕ) (uses : List ℕ) : Type 0 where
   pub size : length uses ≡ 256
   pub line : length numbers ≡ LINE_SIZE

@@ -9,7 +9,7 @@ ghost use Rattle.hip_lines.specs.Pending.{Pending, none_pending};
 use crate::part::Part;
 use std::marker::Model;
 
-/// The pending parts of a line, all of them.
+/// All pending parts of a line.
 #[derive(Drop)]
 pub struct History {
     pub ghost pending: { Pending Part },

@@ -89,7 +89,7 @@ fn is_room_for(room: Option<(u64, u32)>, offset: u64, size: u32) -> bool
     }
 }
 
-/// Takes up the parts of a store in the room that was made for them.
+/// Adds the parts of a store, in the room that was made for them.
 pub fn push_in(queues: &mut Queues, offset: u64, size: u32, tag: u128)
     requires some { 0 < size }
     requires fits { offset + size < 2 ^ 64 - LINE_SIZE }
@@ -122,7 +122,7 @@ fn part_at(offset: u64, size: u32, tag: u128, line: u64) -> Part
     }
 }
 
-/// Flushes a line, and answers whether that changed it.
+/// Flushes a line, and returns whether that changed it.
 pub fn flush_at(queues: &mut Queues, flushed: &mut Vec<u64>, line: u64) -> bool
     requires listed { ListsWithSpare flushed.old queues.old }
     ensures changes { ChangesLine pending_flushed line queues.old queues.new }
@@ -144,7 +144,8 @@ pub fn flush_at(queues: &mut Queues, flushed: &mut Vec<u64>, line: u64) -> bool
     true
 }
 
-/// Flushes the lines of a range, in time linear in those that have a queue, and answers whether that changed one.
+/// Flushes the lines of a range, in time linear in the number of those that have a queue, and returns whether that
+/// changed a line.
 pub fn flush_in(queues: &mut Queues, flushed: &mut Vec<u64>, offset: u64, len: u64) -> bool
     requires range { IsRange offset len }
     requires listed { ListsWithSpare flushed.old queues.old }
@@ -166,7 +167,7 @@ pub fn flush_in(queues: &mut Queues, flushed: &mut Vec<u64>, offset: u64, len: u
     changed
 }
 
-/// Lets the flushed parts of all lines go.
+/// Removes the flushed parts of all lines.
 pub fn fence_in(queues: &mut Queues, flushed: &[u64])
     requires { ListsFlushed flushed.now queues.old }
     ensures pending { (j : ℕ) → pending_at queues.new j ≡ pending_fenced (pending_at queues.old j) }

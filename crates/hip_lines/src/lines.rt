@@ -48,7 +48,7 @@ impl Lines {
         })
     }
 
-    /// Makes room for the parts of a store, so that `note_store` of it takes no memory.
+    /// Makes room for the parts of a store, so that `note_store` of this store allocates no memory.
     pub fn make_room(&mut self, offset: u64, size: u32) -> Result<(), NoMemory>
         requires { LiesIn self.old.lines offset size }
         ensures lines { self.new.lines ≡ self.old.lines }
@@ -61,7 +61,7 @@ impl Lines {
         Ok(())
     }
 
-    /// Notes the parts of a store, both or neither, each at the end of its line.
+    /// Notes the one or two parts of a store, each at the end of its line. If this fails, it notes no part.
     pub fn note_store(&mut self, offset: u64, size: u32, tag: u128) -> Result<(), NoMemory>
         requires { LiesIn self.old.lines offset size }
         ensures ok { OnOk result (self.new.lines ≡ pending_stored offset size tag self.old.lines) }

@@ -12,7 +12,7 @@ use std::marker::Model;
 #[derive(Drop)]
 pub struct NotDurable<'a> {
     queues: &'a Queues,
-    // The queue of the line in which `at` lies, or of the next line that has one.
+    // The queue of the line that contains `at`, or of the next line that has one.
     queue: Option<&'a Queue>,
     at: u64,
     end: u64,

@@ -33,8 +33,8 @@ fn fill_bytes(numbers: &mut [u8], from: usize, size: usize, number: u8)
     numbers[from..from + size].fill(number);
 }
 
-/// Lets the first tags go. The numbers of the others become lower by as many, and 0 becomes the number of those that
-/// are gone.
+/// Removes the first `count` tags. The number of each byte becomes lower by `count`; a number of a removed tag becomes
+/// 0.
 #[inline(always)]
 pub fn let_go(tags: &mut Vec<u128>, numbers: &mut [u8; LINE_SIZE as usize], count: usize)
     requires count { count ≤ length tags.old.items }
@@ -62,7 +62,7 @@ fn drop_front(tags: &mut Vec<u128>, count: usize)
     tags.truncate(kept);
 }
 
-// Lowers each number by another, down to 0.
+// Lowers each number by `by`, down to 0.
 fn lower(numbers: &mut [u8], by: u8)
     ensures len { length numbers.new ≡ length numbers.old }
     ensures numbers { (i : ℕ) → slice_index numbers.new i ≡ slice_index numbers.old i - by }
@@ -97,7 +97,7 @@ fn note_bytes(uses: &mut [u8], numbers: &[u8])
     }
 }
 
-/// Lets go the tags that have no use, and gives each of the others its new number.
+/// Removes the tags that have no use, and gives each of the others its new number.
 pub fn keep_used(news: &mut [u8], tags: &mut Vec<u128>)
     requires size { length news.old ≡ 256 }
     requires few { length tags.old.items < 256 }
@@ -109,7 +109,7 @@ pub fn keep_used(news: &mut [u8], tags: &mut Vec<u128>)
     tags.truncate(kept);
 }
 
-// Moves the tags that have a use to the front, in their order, gives each its new number, and answers how many there
+// Moves the tags that have a use to the front, in their order, gives each its new number, and returns how many there
 // are.
 fn renumber(news: &mut [u8], tags: &mut [u128]) -> usize
     requires size { length news.old ≡ 256 }
@@ -131,7 +131,7 @@ fn renumber(news: &mut [u8], tags: &mut [u128]) -> usize
     kept
 }
 
-/// Gives each byte the new number of its number.
+/// Replaces the number of each byte by the new one.
 pub fn renumber_bytes(numbers: &mut [u8], news: &[u8])
     requires { length news.now ≡ 256 }
     ensures len { length numbers.new ≡ length numbers.old }

@@ -8,8 +8,8 @@ use crate::part::{LooseByte, Part};
 use hip_types::{LINE_SIZE, NoMemory};
 use std::alloc::Global;
 
-/// The pending parts of one line. Of each part that a byte of the line still shows, its tag is kept. The other parts
-/// are let go from time to time, so a line has memory for few parts however many stores there are.
+/// The pending parts of one line. Of each part that a byte of the line still shows, the queue keeps the tag. It removes
+/// the other parts from time to time, so a line needs memory for only a few parts, however many stores there are.
 #[derive(Drop)]
 pub struct Queue {
     pub line: u64,
@@ -26,7 +26,7 @@ pub struct Queue {
 }
 
 impl Queue {
-    // The most tags that are kept without a look at which of them a byte shows.
+    // The most tags that a queue keeps before it checks which of them a byte shows.
     const FEW: usize = 32;
 
     ghost use Rattle.hip_lines.specs.Pending.{none_pending, pending_with, pending_flushed, pending_fenced};
@@ -47,7 +47,7 @@ impl Queue {
         }
     }
 
-    /// Begins anew with another line, and with the room that there is.
+    /// Makes this the empty queue of another line. The room stays.
     pub fn restart(&mut self, line: u64)
         ensures line { self.new.line ≡ line }
         ensures pending { pending_in self.new ≡ none_pending }
@@ -86,7 +86,7 @@ impl Queue {
         self.tags.is_empty()
     }
 
-    /// Makes room for one more part. The parts stay, whatever the answer.
+    /// Makes room for one more part. The parts stay, whether or not this succeeds.
     #[inline(always)]
     pub fn make_room(&mut self) -> Result<(), NoMemory>
         ensures line { self.new.line ≡ self.old.line }
@@ -100,8 +100,7 @@ impl Queue {
         self.grow()
     }
 
-    // Makes room for one more tag, and for as many as there are if memory allows it. It gives false if there is no
-    // room.
+    // Makes room for one more tag, and for as many as there are if memory allows it.
     #[inline(never)]
     fn grow(&mut self) -> Result<(), NoMemory>
         ensures line { self.new.line ≡ self.old.line }
@@ -109,14 +108,14 @@ impl Queue {
         ensures ok { OnOk result (HasRoom self.new) }
     {
         self.keep_few();
-        if reserve_half(&mut self.tags) {
+        if double_room(&mut self.tags) {
             Ok(())
         } else {
             Err(NoMemory)
         }
     }
 
-    // Lets go what no byte shows, if there are many tags.
+    // Removes the tags that no byte shows, if there are many tags.
     fn keep_few(&mut self)
         ensures line { self.new.line ≡ self.old.line }
         ensures history { self.new.history ≡ self.old.history }
@@ -127,7 +126,7 @@ impl Queue {
         }
     }
 
-    // Lets go the tags that no byte shows, except the last one and the last flushed one.
+    // Removes the tags that no byte shows, except the last one and the last flushed one.
     fn keep_shown(&mut self)
         ensures line { self.new.line ≡ self.old.line }
         ensures history { self.new.history ≡ self.old.history }
@@ -141,7 +140,7 @@ impl Queue {
         renumber_bytes(&mut self.numbers, &news);
     }
 
-    /// Takes up a part of the line, in the room that was made for it.
+    /// Adds a part of the line, in the room that was made for it.
     #[inline(always)]
     pub fn push(&mut self, part: Part)
         requires room { HasRoom self.old }
@@ -169,7 +168,7 @@ impl Queue {
         self.history = history;
     }
 
-    /// Lets the flushed parts go, which are durable now.
+    /// Removes the flushed parts, which are now durable.
     #[inline(always)]
     pub fn fence(&mut self)
         ensures line { self.new.line ≡ self.old.line }
@@ -181,7 +180,7 @@ impl Queue {
         self.history = history;
     }
 
-    /// The first loose byte from an offset up to another, both of the line.
+    /// The first loose byte from one offset up to another. Both offsets are in the line.
     pub fn first_loose(&self, from: u64, to: u64) -> Option<LooseByte>
         requires line { LINE_SIZE * self.now.line ≤ from }
         requires end { to ≤ LINE_SIZE * self.now.line + LINE_SIZE }
@@ -213,8 +212,8 @@ impl Queue {
     }
 }
 
-// Makes room for one more tag, and for half as many as there are if memory allows it; false if there is no room.
-fn reserve_half(tags: &mut Vec<u128>) -> bool
+// Makes room for one more tag, and for as many as there are if memory allows it. Returns false if there is no room.
+fn double_room(tags: &mut Vec<u128>) -> bool
     ensures same { tags.new.items ≡ tags.old.items }
     ensures room { result ≡ true → vec_len tags.new < vec_capacity tags.new }
 {

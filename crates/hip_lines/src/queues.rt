@@ -99,7 +99,7 @@ impl Queues {
         Ok(())
     }
 
-    /// Makes room for one more part of a line that has a queue. The parts stay, whatever the answer.
+    /// Makes room for one more part of a line that has a queue. The parts stay, whether or not this succeeds.
     #[inline]
     pub fn make_room(&mut self, line: u64) -> Result<(), NoMemory>
         requires { IsSome (queue_at self.old line) }
@@ -133,7 +133,7 @@ impl Queues {
         flush_at(&mut self.queues, place);
     }
 
-    /// Lets the flushed parts of a line go, and gives its queue back if nothing is left.
+    /// Removes the flushed parts of a line, and gives its queue back if nothing is left.
     #[inline]
     pub fn fence(&mut self, line: u64)
         ensures { ChangesLine pending_fenced line self.old self.new }
@@ -182,7 +182,7 @@ fn flush_at(queues: &mut Vec<Queue>, place: usize)
     queue.flush();
 }
 
-// Lets the flushed parts of a queue go, and answers whether nothing is left.
+// Removes the flushed parts of a queue, and returns whether nothing is left.
 fn fence_at(queues: &mut Vec<Queue>, place: usize) -> bool
     requires { place < length queues.old.items }
     ensures changes { ChangesPlace pending_fenced place queues.old.items queues.new.items }
@@ -237,7 +237,7 @@ fn is_free(directory: &Directory, queues: &[Queue], place: u32) -> bool
     }
 }
 
-// Begins the queue at a place anew.
+// Makes the queue at a place the empty queue of a line, with room for one part.
 fn reuse(queues: &mut Vec<Queue>, place: u32, line: u64) -> Result<u32, NoMemory>
     requires { place < length queues.old.items }
     ensures kept { KeepsOthers place queues.old.items queues.new.items }

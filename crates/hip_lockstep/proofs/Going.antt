@@ -12,7 +12,7 @@ use Rattle.hip_runs.specs.declared.input.Input.{Input}
 use Rattle.hip_invariants.specs.Bounds.{IsBounded}
 use Rattle.hip_runs.specs.Seen.{Seen, after_step, state_of}
 
--- A machine that goes on.
+-- A machine whose run of the program on the input has not ended.
 pub record IsGoing (P : Program) (I : Input) (m : Seen) : Type 0 where
   pub program : m.program ≡ P
   pub input : m.input ≡ I
@@ -54,7 +54,7 @@ pub stated_by : (P : Program) (I : Input) →
 stated_by P I output ending ends bounded = record { output = output P I; ending = ending P I; ends = ends P I; bounded = bounded P I }
 
 module _ {P : Program} {I : Input} {m : Seen} (stated : IsStated P I) (is : IsGoing P I m) where
-  -- What the event of the next step says.
+  -- The event of the machine's next step is that of the run's step.
   pub here : (e : Event) → e ≡ event m.program m.input (state_of m) → event P I (run P I m.taken) ≡ e
   here e stated_of = ap (λ (p : Program). event p I (run p I m.taken)) (sym is.program) ∙ ap (λ (i : Input). event m.program i (run m.program i m.taken)) (sym is.input) ∙ sym stated_of
 
@@ -66,7 +66,7 @@ module _ {P : Program} {I : Input} {m : Seen} (stated : IsStated P I) (is : IsGo
       ap (λ o. record { program = m.program; input = m.input; taken = cond (is_some o) m.taken (suc m.taken) })
       (ap (λ (p : Program). (run p m.input m.taken).world.ending) is.program ∙ ap (λ (i : Input). (run P i m.taken).world.ending) is.input ∙ is.going)
 
-  -- One step more was taken.
+  -- The machine has taken one more step.
   pub taken_next : (after_step m).taken ≡ suc m.taken
   taken_next = ap (λ (x : Seen). x.taken) going_on
 
@@ -79,7 +79,7 @@ module _ {P : Program} {I : Input} {m : Seen} (stated : IsStated P I) (is : IsGo
       let within = (stated.bounded (suc m.taken)).steps in
       subst (λ next. steps_ahead P I next.taken < steps_ahead P I m.taken) (sym going_on) (omega (arith, counted, within))
 
-  -- The step ended the run.
+  -- If the event ends the run, the machine has ended after the step.
   pub over_now : (e : Event) (ending : Ending) → event P I (run P I m.taken) ≡ e → ending_by e ≡ Some ending → has_ended (state_of (after_step m)) ≡ true
   over_now e ending at ends =
       ap (λ (p : Program). has_ended (run p m.input (after_step m).taken)) is.program
@@ -102,6 +102,6 @@ starts_going : (P : Program) (I : Input) → (run P I 0).world.ending ≡ None
 unfolding run
 starts_going P I = refl
 
--- Before the first step.
+-- Before the first step a machine goes on.
 pub starts : (P : Program) (I : Input) → IsGoing P I (record { program = P; input = I; taken = 0 })
 starts P I = record { program = refl; input = refl; going = starts_going P I }

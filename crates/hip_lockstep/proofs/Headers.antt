@@ -1,4 +1,4 @@
--- The lines of what stands before a run's first step.
+-- The lines that a trace has before the first step of its run.
 use Rattle.std.proofs.Common.{◌≡◌, ℕ, ℤ, zero, suc, ◌+◌, ◌*◌, ◌-◌, ◌/◌, ◌<◌, ◌≤◌, Bool, true, false, List, [], ◌∷◌, ◌++◌, length, map, take, drop, get_or, refl, sym, ap, ◌∙◌, subst, arith, append-nil, append_assoc, length-append, drop-cons}
 use Rattle.std.specs.Prelude.{Result, Ok, Err, if◌then◌else◌}
 use Rattle.std.proofs.lemmas.Grind.{flat_map-append}
@@ -31,7 +31,7 @@ one_image addr line len q =
     ap (λ (l : List ℕ). (if some_byte l then Image addr l ∷ [] else []) ++ []) (take_all 64 line (omega (arith, len)))
     ∙ ap (λ (b : Bool). (if b then Image addr line ∷ [] else []) ++ []) q
 
--- At most one for each cache line.
+-- There is at most one IMAGE entry for each cache line.
 images_few : (n addr : ℕ) (bytes : List ℕ) → length (image_entries n addr bytes) ≤ n
 images_few zero addr bytes = omega arith
 images_few (suc n) addr bytes = go (some_byte (take 64 bytes)) (images_few n (addr + 64) (drop 64 bytes))
@@ -102,7 +102,7 @@ take_twice (suc n) (x ∷ xs) = ap (λ ys. x ∷ ys) (take_twice n xs)
 abbrev entry_here : ℕ → List ℕ → List Entry
 entry_here addr bytes = if some_byte bytes then Image addr bytes ∷ [] else []
 
--- The next cache line.
+-- The entries from a cache line on are that of the line, if it has one, and those from the next line on.
 next_lines : (base : ℕ) (image : List ℕ) (line : ℕ) → line < length image / 64 → image_entries (length image / 64 - line) (base + 64 * line) (drop (64 * line) image) ≡ image_entries 1 (base + 64 * line) (take 64 (drop (64 * line) image)) ++ image_entries (length image / 64 - (line + 1)) (base + 64 * (line + 1)) (drop (64 * (line + 1)) image)
 next_lines base image line lt =
     let count : length image / 64 - line ≡ suc (length image / 64 - (line + 1)) = omega (arith, lt) in

@@ -26,7 +26,7 @@ use Rattle.hip_lockstep.specs.declared.refusal.ReplayRefusal.TheVariants as refu
 use Rattle.hip_lockstep.specs.declared.steps.Lockstep.{Lockstep}
 
 module _ {e : Event} {r : ReaderState} {s : CabinetState} {at : Lockstep} (P : Program) (I : Input) (start : CabinetState) (n : ℕ) (is : IsInStep P I start n r s at) (here : event P I (run P I n) ≡ e) where
-  -- A step without an entry.
+  -- After a step without an entry the run and the trace are still in step.
   pub silent : entry_of_event e ≡ None → IsInStep P I start (suc n) r s at
   silent q =
       let same : trace P I (suc n) ≡ trace P I n = trace_after P I n e is.going here ∙ ap (λ o. trace P I n ++ entry_list o) q ∙ append-nil (trace P I n) in
@@ -38,7 +38,7 @@ module _ {e : Event} {r : ReaderState} {s : CabinetState} {at : Lockstep} (P : P
         header = is.header;
       }
 
-  -- The step's entry is another one.
+  -- If the step's entry is not the one that was read, the trace is refused.
   pub differs : (made : Entry) → entry_of_event e ≡ Some made → (made ≡ at.next → ⊥) → Refuses P r start s (refusals.Misfit (at.entries + 1) Differs)
   differs made q other =
       let step : trace P I (suc n) ≡ trace P I n ++ made ∷ [] = trace_after P I n e is.going here ∙ ap (λ o. trace P I n ++ entry_list o) q in

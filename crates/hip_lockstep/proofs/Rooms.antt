@@ -1,4 +1,4 @@
--- The number of entries of a run, with some more, is one of 128 bits.
+-- The number of entries of a run fits 128 bits, with room for some more.
 use Rattle.std.proofs.Common.{◌≡◌, ℕ, suc, ◌+◌, ◌*◌, ◌^◌, ◌<◌, ◌≤◌, length, arith}
 use Rattle.std.proofs.lemmas.Nat.{mul-le}
 use Rattle.hip_tree.specs.declared.program.Program.{Program}
@@ -25,7 +25,7 @@ module _ (P : Program) (I : Input) (sound : IsSound P) (valid : IsValid P I) (sh
       let product : suc I.limit * suc (longest P) ≤ suc (2 ^ 40) * 2 ^ 64 = mul-le (suc I.limit) (suc (longest P)) (suc (2 ^ 40)) (2 ^ 64) (omega (arith, limit)) (omega (arith, short)) in
       omega (arith, entries, steps, header, product, numbers, image, region)
 
-  -- The number of entries after n steps.
+  -- The number of entries after n steps, plus 2, fits 128 bits.
   pub room : (n count : ℕ) → count ≡ length (trace P I n) → count + 2 < 2 ^ 128
   room n count same =
       let few = entries_few n in
@@ -41,7 +41,7 @@ within P I sound valid =
     omega (arith, high, image, region)
 
 module _ (P : Program) (I : Input) (sound : IsSound P) (valid : IsValid P I) (bounded : (n : ℕ) → IsBounded P I n) where
-  -- The number of entries before the first step.
+  -- There are at most 2^64 entries before the first step.
   pub header_small : (count : ℕ) → count ≡ length (header_of I) → count ≤ 2 ^ 64
   header_small count same =
       let b = (bounded 0).header in

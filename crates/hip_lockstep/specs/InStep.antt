@@ -38,7 +38,7 @@ pub record HasFollowed (P : Program) (I : Input) (start : CabinetState) (n : ℕ
   pub stated : IfSome start.rest (λ bytes. IsTraceOf P bytes I)
   pub left : IfSome s.rest (λ rest. rest ≡ [])
 
--- What holds after one step more, by the result.
+-- What holds after one more step, by the result.
 abbrev pub FollowsStep : Program → Input → CabinetState → ℕ → ReaderState → CabinetState → Lockstep
     → Result (Option Ending) ReplayRefusal → Type 0
 FollowsStep P I start n r s at (Ok None) = IsInStep P I start (suc n) r s at

@@ -46,7 +46,7 @@ KeepsEntry count r r' s s' kept (Err refusal) = ReadsEntry count r r' s s' (Err 
 abbrev pub HasMore : ReaderState → ReaderState → CabinetState → CabinetState → Type 0
 HasMore r r' s s' = (e : Entry) × HasNext r r' s s' e
 
--- The file's end after `count` entries, or the cause why it is not there.
+-- The end of the file after `count` entries, or the cause why the file does not end there.
 abbrev pub ReadsEnd : ℕ → ReaderState → ReaderState → CabinetState → CabinetState
     → Result (Unit {0}) ReplayRefusal
     → Type 0

@@ -20,7 +20,7 @@ pub record StopsAtEnd (text : List ℕ) (entries : List Entry) (left : List ℕ)
   pub last : List (Option Entry)
   pub front : stated entries ≡ spelled false text ++ last
 
--- Whole pieces were taken off the front of a file, which spell these entries; the rest is ahead.
+-- Whole pieces, which spell these entries, were taken off the front of a file; the rest is ahead.
 pub record IsRead (bytes : List ℕ) (entries : List Entry) (ahead : Option (List ℕ)) : Type 0 where
   pub text : List ℕ
   pub left : List ℕ

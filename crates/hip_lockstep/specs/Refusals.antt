@@ -10,7 +10,8 @@ use Rattle.hip_trace.specs.Reads.{ReaderState, IsReading}
 use Rattle.hip_lockstep.specs.declared.refusal.ReplayRefusal.{ReplayRefusal}
 use Rattle.hip_lockstep.specs.declared.refusal.ReplayRefusal.TheVariants as refusals
 
--- How many texts of entries the reader has begun, where an entry is the first that does not fit: none after that one.
+-- The number of entries whose text the reader has begun, given the number of the first entry that does not fit. The
+-- reader has begun no entry after that one.
 abbrev pub begun_at : MisfitKind → ℕ → ℕ
 begun_at Early entry = entry - 1
 begun_at Malformed entry = entry

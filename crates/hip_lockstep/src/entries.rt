@@ -11,7 +11,7 @@ use hip_io::{Sink, WriteFault};
 use hip_runs::{Ending, Event, TrapKind};
 use hip_trace::{Entry, TrapWord, Usual, write_entry, write_usual};
 
-/// How the run has ended in a step with this event, if it has.
+/// The ending of the run, if a step with this event ends it.
 #[inline(always)]
 pub fn ending_of(event: Event) -> Option<Ending>
     ensures { result ≡ ending_by event }

@@ -66,7 +66,7 @@ pub(crate) fn read_next<C: Cabinet>(
     Ok(())
 }
 
-// Whether nothing was read after n entries.
+// Success if nothing was read after n entries, else the refusal.
 fn ended(count: u128, next: Result<Option<Entry>, TraceRefusal>) -> Result<(), ReplayRefusal>
     requires { count + 1 < 2 ^ 128 }
     ensures { EndsHere count next result }

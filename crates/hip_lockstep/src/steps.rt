@@ -15,7 +15,7 @@ use hip_run_traces::MisfitKind;
 use hip_runs::{Ending, Event};
 use hip_trace::{KeptEntry, Reader, Usual};
 
-/// How many entries of a trace are those of the steps that were taken, and the entry that was read after them.
+/// How many entries of a trace match the run so far, and the entry that was read after them.
 #[derive(Drop)]
 pub struct Lockstep {
     pub next: KeptEntry,

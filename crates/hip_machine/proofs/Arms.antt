@@ -179,7 +179,7 @@ finishes_bottom {old} {new} mid v e none still is stop = record {
 blocks_left : (blocks new : List Slot) (count : ℕ) (g : Frame) (gs : List Frame) (own : List Slot) → blocks ≡ blocks_of (g ∷ gs) ++ own → count ≡ length (blocks_of (g ∷ gs)) → new ≡ take count blocks → new ≡ blocks_of (g ∷ gs)
 blocks_left blocks new count g gs own are below is = is ∙ ap (λ n. take n blocks) below ∙ ap (λ bs. take (length (blocks_of (g ∷ gs))) bs) are ∙ take-append_seam (blocks_of (g ∷ gs)) own
 
--- The marks of frames lie in the stack.
+-- The marks of frames are in the stack.
 low_mark : (mark : ℕ) (fs : List Frame) → lie_in_order mark fs → stack_start ≤ mark
 low_mark mark [] h = h
 low_mark mark (f ∷ fs) h = let a = low_mark f.mark fs h.1 in let b = lower f.mark mark f.slots h.0 in omega (arith, a, b)
@@ -190,7 +190,7 @@ mark_is_low {mark} {f} {fs} h = low_mark f.mark fs h.in_order.1
 pub mark_is_high : {mark : ℕ} {f : Frame} {fs : List Frame} → HasShape mark (f ∷ fs) → f.mark ≤ mark
 mark_is_high {mark} {f} {fs} h = lower f.mark mark f.slots h.in_order.0
 
--- The frame of the caller is on top again, whatever it says of the call.
+-- The frame of the caller is on top again, whatever it keeps about the call.
 pub finishes_call : {old new : Core} (mid : Core) (v : ℕ) (caller : Activation) (unused : ℕ) → old.saved.items ≡ mid.saved.items ++ caller ∷ [] →
     new ≡ record old { saved = mid.saved; top = record caller { left = unused }; slots = new.slots; blocks = new.blocks; storage = new.storage; taken = old.taken + 1; turns = old.turns + 1 } →
     new.slots.items ≡ with_result caller.base old.top.dest v old.slots.items → new.blocks ≡ take old.top.blocks old.blocks → new.storage ≡ after_pop old.top.mark old.storage → Does old new events.Quiet true (λ m. Returns v)

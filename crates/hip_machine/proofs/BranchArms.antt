@@ -26,7 +26,7 @@ use Rattle.hip_machine.specs.Stands.{Stands, Stepped}
 use Rattle.hip_machine.proofs.Arms.{counted_next, turn_next}
 use Rattle.hip_machine.proofs.Slots.{kept_put, saved_kept}
 
--- The edge that stands there is the one that is within.
+-- The moves of the edge are in the table, and what they read and write is there.
 pub record EdgeIs (n : Numbers) (edge : Edge) : Type 0 where
   pub span : HasSpan edge.moves n.tables.moves
   pub read : AreRead n (entries_of edge.moves n.tables.moves)
@@ -41,7 +41,7 @@ case_within n v (x ∷ cs) other c w =
     go true later = c.at 0 x refl
     go false later = later
 
--- The first case whose value is not below the one that is looked for decides.
+-- The first case whose value is not below the value that is looked for is the one that decides.
 pub case_found : (v : ℕ) (cs : List Case) (other i : ℕ) → IsNonDecreasingBy (λ c. c.value) cs
     → ((k : ℕ) (d : Case) → k < i → k < length cs → ltb (get_or cs k d).value v ≡ true)
     → ((k : ℕ) (d : Case) → i ≤ k → k < length cs → ltb (get_or cs k d).value v ≡ false)

@@ -60,7 +60,7 @@ pub result_goes : (names : List (List ℕ)) (slot : Option ℕ) → result_place
 result_goes names None r = tt
 result_goes names (Some slot) r = r
 
--- Past 16,384 frames.
+-- A call that would make more than 16,384 frames traps.
 pub acts_too_deep : {code : Code} {old new : Core} {e : Event} {call : Call} → MOST_FRAMES - 1 ≤ length old.saved.items → Does old new e true (λ m. Traps trap_kinds.Depth) → Acts code old new e (ops.Control (controls.Call call))
 acts_too_deep {code} {old} {new} {e} {call} many d = record {
   acts = λ m b placed past.
@@ -70,7 +70,7 @@ acts_too_deep {code} {old} {new} {e} {call} many d = record {
       subst (λ t. Stepped m.program m.input new e (acted m true (cond t calls (Traps trap_kinds.Depth))) (seen_of m (cond t calls (Traps trap_kinds.Depth)))) (sym deep) (d.does m b);
 }
 
--- The frame of a call, in slots after those of its caller, whatever it says of a call of its own.
+-- The frame of a call is in slots after those of its caller, whatever the frame keeps about a call of its own.
 pub acts_call : {code : Code} {old new : Core} {call : Call} (unused : ℕ) (longer : List ℕ) (mid : Core) → length old.saved.items < MOST_FRAMES - 1 →
     IsLonger old.slots.items longer → old.top.base + call.frame + call.size ≤ length longer →
     mid.saved.items ≡ old.saved.items ++ record old.top { place = old.top.place + 1; left = old.taken } ∷ [] →
@@ -137,7 +137,7 @@ acts_call {code} {old} {new} {call} unused longer mid few l room pushed made is 
       });
 }
 
--- The same from the core after the arguments were read.
+-- A call does its action, from the core after the arguments were read.
 pub acts_call_from : {code : Code} {old new : Core} {call : Call} (read : Core) (longer : List ℕ) (kept mid : Core) (ms : List Move) → length old.saved.items < MOST_FRAMES - 1 →
     read ≡ record old { values = read.values } → ms ≡ entries_of call.arguments code.moves.items → read.values.items ≡ map (λ m. operand_value (numbers_of code old) m.value) ms →
     IsLonger read.slots.items longer → read.top.base + call.frame + call.size ≤ length longer →

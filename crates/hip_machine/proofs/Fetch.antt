@@ -44,7 +44,7 @@ uncut m new e turn x d cut =
     subst (λ b. Stepped m.program m.input new e (cond b (stop Cut m.world (m.top ∷ m.rest) m.lines m.after) (acted m turn x)) (cond b (events.End Cut) (seen_of m x))) (sym cut) d
 
 module _ {I : Input} {code : Code} {old new : Core} {e : Event} {o : Op} where
-  -- What holds on any input.
+  -- An op that acts on any input acts on this one.
   pub on_input : Acts code old new e o → ActsOn I code old new e o
   on_input a = record { acts = λ m same b placed past. a.acts m b placed past }
 
@@ -58,7 +58,7 @@ module _ {I : Input} {code : Code} {old new : Core} {e : Event} {o : Op} where
         uncut m new e (op_turn o) (action_here code old o m) (a.acts m same b placed past) (ap₂ (λ t n. t && not n) t allowed);
   }
 
-  -- What is no turn is never cut.
+  -- A step that is not a turn is never cut.
   pub carries_still : op_turn o ≡ false → Acts code old new e o → Carries I code old new e o
   carries_still t a = record {
     carries = λ m same b placed past.

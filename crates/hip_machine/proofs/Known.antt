@@ -31,7 +31,7 @@ assigned_is (r ∷ rs) name (inr h) = go (bytes_eq r.0 name) (assigned_is rs nam
     go true e = refl
     go false e = e
 
--- A register that has a value is one of those that have one.
+-- A register that has a value is among the registers that have one.
 pub among_assigned : (rs : Registers) (name : List ℕ) → is_assigned rs name ≡ true → IsAmong (assigned_names rs) name
 among_assigned [] name e = cc
 among_assigned (r ∷ rs) name e = go (bytes_eq r.0 name) refl e (λ q. among_assigned rs name q)
@@ -79,7 +79,7 @@ module _ (rs : Registers) where
   pub all_known : (us : List Use) → All HasValue (used_registers us) → AreKnown rs us
   all_known us h = record { all = uses_known us h }
 
--- The operands of phis.
+-- The operands of phis have values.
 pub phis_known : (P : Program) (f : Frame) → ReadsAssigned P f → code_at P f ≡ [] → KnowsPhis P f.function f.block f.registers
 phis_known P f r done = record {
   phis = λ c j m to p e at phi edge label. operand_known f.registers e.value (r.phis c j m to p e done at phi edge label);

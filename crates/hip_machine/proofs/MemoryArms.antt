@@ -74,7 +74,7 @@ width_few W64 = omega arith
 abbrev pub point_of : Moment → Bool → Point
 point_of m turn = record { world = m.world; frame = m.top; frames = m.rest; lines = m.lines; before = m.before; after = m.after; turn = turn }
 
--- The turns after a step in a turn or in none.
+-- The number of turns after a step that is a turn or not.
 abbrev pub turns_after : Bool → ℕ → ℕ
 turns_after true n = n + 1
 turns_after false n = n
@@ -110,7 +110,7 @@ stands_next {old} {new} {m} turn st w is b past t e l h = let s = b.stands in su
   storage = h;
 })
 
--- An action that leaves all registers.
+-- The action leaves all registers as they are.
 abbrev pub leaves : Action → Type 0
 leaves (Stores a bytes) = Unit {0}
 leaves (Flushes a n) = Unit {0}
@@ -148,14 +148,14 @@ passes {old} {new} {turn} {e} {m} {action} done st ok d is b past = subst (λ x.
 
 -- ---- traps
 
--- What is refused leaves the storage as it was.
+-- If the storage refuses an action and stays as it is, the step is the trap of this action.
 pub refused : {old new : Core} {e : Event} {m : Moment} {action : Action} (st : Contents) (kind : TrapKind) → st ≡ old.storage → Does (record old { storage = st }) new e true (λ m. Traps kind) → action ≡ Traps kind → Before old m →
     Stepped m.program m.input new e (acted m true action) (seen_of m action)
 refused {old} {new} {e} {m} {action} st kind same d is b =
     let here = subst (λ (x : Contents). Does (record old { storage = x }) new e true (λ m. Traps kind)) same d in
     subst (λ x. Stepped m.program m.input new e (acted m true x) (seen_of m x)) (sym is) (here.does m b)
 
--- The same in no turn.
+-- If the storage refuses an action that is not a turn and stays as it is, the run ends in the trap of this action.
 pub halts : {old new : Core} {e : Event} {x : Moment → Action} (st : Contents) (kind : TrapKind) → st ≡ old.storage → ((m : Moment) → Before old m → x m ≡ Traps kind) → e ≡ events.End (Trap kind) →
     new ≡ record old { storage = st; ending = Some (Trap kind); taken = old.taken + 1 } → DoesNext old new e false x
 unfolding perform
@@ -242,7 +242,7 @@ mark_rises {x} {st} {block} {size} {align} p =
     let is = ap (λ (y : Contents). mark_of y.areas) p.contents in
     omega (arith, above, new, is)
 
--- A block that is taken back.
+-- A block that is made and then removed leaves the storage as it is.
 pub taken_back : {x st : Contents} {block size align : ℕ} → HasPushed x st block size align → after_pop (mark_of x.areas) st ≡ x
 taken_back {x} {st} {block} {size} {align} p =
     let short : length x.areas.stack ≡ mark_of x.areas - stack_start = omega arith in

@@ -65,7 +65,7 @@ module _ {code : Code} {c : Core} where
         stated v (subst (stores_at (numbers_of code c) v) same names.is) ∙ ap (λ j. option_map (value_of P.globals I.base rs) (slice_get (addr ∷ []) j)) (sym first);
   }
 
--- As many arguments as parameters.
+-- A call has as many arguments as its callee has parameters, so it passes the values of all its arguments.
 enough : (P : Program) (n : Numbers) (callee : List ℕ) (ret : Option Scalar) (args : List Arg) (vs : List ℕ) (call : op_call.Call) → IsSound P → call_of callee ≡ None → length vs ≡ length args → CallsFunction P callee ret args ⊎ CallsExtern callee ret args →
     IsCallWith P n callee vs call → calls_with n vs (ops.Control (controls.Call call))
 enough P n callee ret args vs call s defined long (inl f) w =
@@ -86,7 +86,7 @@ called_with P n callee ret args vs (ops.Value dest value) s defined long agrees 
 called_with P n callee ret args vs (ops.Memory memory) s defined long agrees w = absurd w
 
 module _ {code : Code} {c : Core} {dest : Option (List ℕ)} {ret : Option Scalar} {callee : List ℕ} {args : List Arg} {k : ℕ} where
-  -- No such pointer.
+  -- There is no pointer of that number among the arguments.
   pub tells_call_none : slice_get (flat_map pointer_arg args) k ≡ None → TellsPointer code c (Call dest ret callee args) k None
   tells_call_none none = record { tells = λ P I rs op sound here names agrees. go P I rs (is_some (function_number P callee)) }
     where

@@ -48,7 +48,7 @@ persists {old} {new} {e} a n x is = record { does = λ m b past. passes {turn = 
 pub fences : {old new : Core} → new ≡ record old { top = record old.top { place = old.top.place + 1 }; taken = old.taken + 1 } → DoesNext old new events.Fence false (λ m. Fences)
 fences {old} {new} is = record { does = λ m b past. passes {turn = false} Fences old.storage tt (fence_done (point_of m false) b.stands.storage) is b past }
 
--- A range with a byte that is not valid.
+-- A flush of a range with a byte that is not valid ends the run.
 pub range_halts : {old new : Core} {e : Event} (a n : ℕ) (kind : TrapKind) (go : Action) → range_trap old.storage a n ≡ Some kind → e ≡ events.End (Trap kind) →
     new ≡ record old { ending = Some (Trap kind); taken = old.taken + 1 } → DoesNext old new e false (λ m. flushing m.program m.input m.world a n go)
 range_halts {old} {new} {e} a n kind go trapped event stops = halts old.storage kind refl (λ m b. (range_refused (point_of m false) b.stands.storage {new = old.storage} a n kind go trapped refl).is) event stops

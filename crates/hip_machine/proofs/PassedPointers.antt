@@ -61,7 +61,7 @@ one_passed args vs old new all i a below is so_far added =
     ∙ ap (λ n. old ++ (pointer_passed a.ty (slice_get vs i) ++ pointers_among (drop n args) (drop n vs))) (add-one i)
     ∙ ap (λ xs. old ++ xs) (sym (among_rest args vs i a below is)) ∙ so_far
 
--- Where the values are those of the arguments.
+-- The values of the pointers among the arguments, where the values are those of the arguments.
 among_are : (args : List Arg) (f : Operand → ℕ) → pointers_among args (map (λ (a : Arg). f a.value) args) ≡ map f (flat_map pointer_arg args)
 among_are [] f = refl
 among_are (a ∷ args) f = go a.ty a.value _ _ (among_are args f)

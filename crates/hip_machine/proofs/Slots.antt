@@ -27,7 +27,7 @@ pub not_empty : (xs : List Activation) (x : Activation) → xs ++ x ∷ [] ≡ [
 not_empty [] x e = cc
 not_empty (y ∷ xs) x e = cc
 
--- Slots that change only from a place on.
+-- The slots before a place keep their numbers.
 pub record AreKept (from : ℕ) (old new : List ℕ) : Type 0 where
   pub longer : length old ≤ length new
   pub kept : (i : ℕ) → i < from → i < length old → slice_index new i ≡ slice_index old i
@@ -61,7 +61,7 @@ kept_result from base v (Some slot) xs h = kept_set from xs (base + slot) v (ome
 pub all_before : (names : List (List ℕ)) (rs : Registers) (base : ℕ) → EndsBefore names rs base (base + length names)
 all_before names rs base = record { at = λ name slot q a. let t = slot_within names name slot q in omega (arith, t) }
 
--- A frame whose values lie before that place.
+-- If the values of a frame are before the place, the frame stays the same.
 pub holds_kept : (names : List (List ℕ)) (base : ℕ) (rs : Registers) (from : ℕ) (old new : List ℕ) → EndsBefore names rs base from → AreKept from old new → HoldsFrame names old base rs → HoldsFrame names new base rs
 holds_kept names base rs from old new before k h = record {
   room = (let a = h.room in let b = k.longer in omega (arith, a, b));
@@ -94,7 +94,7 @@ are_kept P from old new k base slot name level saved (g ∷ gs) le a =
       are_kept P from old new k a.1.base a.1.dest g.dest g.level a.0 gs (omega (arith, lower, le)) a.4,
     )
 
--- Frames below a base, where only slots from it on change.
+-- Frames below a base stay the same, if only slots from the base on change.
 pub saved_kept : {P : Program} {from : ℕ} {old new : List ℕ} {base : ℕ} {slot : Option ℕ} {name : Option (List ℕ)} {level : Option Level} {saved : List Activation} {fs : List Frame} → base ≤ from → AreKept from old new →
     AreSaved P old base slot name level saved fs → AreSaved P new base slot name level saved fs
 saved_kept {P} {from} {old} {new} {base} {slot} {name} {level} {saved} {fs} le k s = record { are = are_kept P from old new k base slot name level saved fs le s.are }
@@ -132,7 +132,7 @@ saved_length {P} {slots} {base} {slot} {name} {level} {saved} {fs} s = go base s
     go b o n l xs [] a = ap length a
     go b o n l xs (g ∷ gs) a = ap length a.2 ∙ length-append a.0 (a.1 ∷ []) ∙ add-one (length a.0) ∙ ap suc (go a.1.base a.1.dest g.dest g.level a.0 gs a.4)
 
--- A frame stands below exactly where one is kept.
+-- If no activation is kept, there is no frame below.
 pub no_frames : {P : Program} {slots : List ℕ} {base : ℕ} {slot : Option ℕ} {name : Option (List ℕ)} {level : Option Level} {saved : List Activation} {fs : List Frame} → AreSaved P slots base slot name level saved fs → saved ≡ [] → fs ≡ []
 no_frames {P} {slots} {base} {slot} {name} {level} {saved} {fs} s none = go fs s.are
   where

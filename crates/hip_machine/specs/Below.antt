@@ -9,8 +9,8 @@ use Rattle.hip_machine.specs.declared.core_parts.Activation.{Activation}
 use Rattle.hip_machine.specs.Blocks.{blocks_of}
 use Rattle.hip_machine.specs.Placed.{placed_at}
 
--- The instruction before a frame's place is the call that made the frame above it, before which this many steps were
--- taken.
+-- The instruction before a frame's place is the call that made the frame above it, and this many steps were taken
+-- before that call.
 pub record IsCallOf (g : Frame) (birth : ℕ) (level : Option Level) : Type 0 where
   pub index : ℕ
   pub past : g.place ≡ suc index
@@ -24,9 +24,9 @@ pub record EndsBefore (names : List (List ℕ)) (rs : Registers) (base place : �
   pub at : (name : List ℕ) (slot : ℕ) → number_of names name ≡ Some slot → is_assigned rs name ≡ true
       → base + slot < place
 
--- What is kept of a frame g with the frames gs below it. The slots of its registers that have a value end before the
--- base of the frame above it, which may use the others. That frame was made by a call of g, whose result goes to a
--- register.
+-- What an activation keeps of a frame g with the frames gs below it. The slots of the registers of g that have a value
+-- end before the base of the frame above g, which may use the slots from there on. The frame above was made by a call
+-- of g, and its result goes to a register of g.
 pub record IsSaved (P : Program) (slots : List ℕ) (base : ℕ) (slot : Option ℕ) (name : Option (List ℕ))
     (level : Option Level) (x : Activation) (g : Frame) (gs : List Frame) : Type 0 where
   pub placed : placed_at P x g
@@ -38,7 +38,8 @@ pub record IsSaved (P : Program) (slots : List ℕ) (base : ℕ) (slot : Option 
   pub blocks : x.blocks ≡ length (blocks_of gs)
   pub call : IsCallOf g x.left level
 
--- Each of the frames, from the top one down, is kept by the last activation that is left; no activation is left over.
+-- The last activations keep the frames, from the top one down, one activation for each frame; no activation is left
+-- over.
 abbrev pub are_saved : Program → List ℕ → ℕ → Option ℕ → Option (List ℕ) → Option Level
     → List Activation →
     List Frame → Type 0
@@ -47,7 +48,7 @@ are_saved P slots base slot name level saved (g ∷ gs) =
     (rest : List Activation) × (x : Activation) × (saved ≡ rest ++ x ∷ [])
     × IsSaved P slots base slot name level x g gs × are_saved P slots x.base x.dest g.dest g.level rest gs
 
--- The activations keep these frames: those below a frame whose slots begin at a base, that a call made, and whose
+-- The activations keep the frames below a frame that a call made. The slots of this frame begin at a base, and its
 -- result goes to a register.
 pub record AreSaved (P : Program) (slots : List ℕ) (base : ℕ) (slot : Option ℕ) (name : Option (List ℕ))
     (level : Option Level) (saved : List Activation) (fs : List Frame) : Type 0 where

@@ -1,12 +1,12 @@
--- Where a frame stands in the code.
+-- The place of a frame in the code.
 use Rattle.std.specs.Prelude.{◌≡◌, ℕ}
 use Rattle.hip_tree.specs.declared.program.Program.{Program}
 use Rattle.hip_runs.specs.State.{Frame}
 use Rattle.hip_code.specs.Entries.{StandsAt, entry}
 use Rattle.hip_machine.specs.declared.core_parts.Activation.{Activation}
 
--- The place is that of place k in block b of function g, `first` is the place of the block's first op, and i and j are
--- g and b.
+-- The place is that of instruction k (or of the end) in block b of function g, `first` is the place of the block's
+-- first op, and i and j are the numbers g and b.
 pub record IsPlaced (P : Program) (place first i j g b k : ℕ) : Type 0 where
   pub stands : StandsAt P place g b k
   pub begins : first ≡ entry P g b

@@ -8,7 +8,7 @@ put_values base [] vs xs = xs
 put_values base (m ∷ ms) [] xs = xs
 put_values base (m ∷ ms) (v ∷ vs) xs = slice_set (put_values base ms vs xs) (base + m.dest) v
 
--- The slots after a result, which may go nowhere.
+-- The slots after a result was put into its slot; unchanged if the result goes nowhere.
 abbrev pub with_result : ℕ → Option ℕ → ℕ → List ℕ → List ℕ
 with_result base None v xs = xs
 with_result base (Some slot) v xs = slice_set xs (base + slot) v

@@ -2,10 +2,10 @@
 use Rattle.std.specs.Prelude.{◌+◌, ◌<◌, ◌^◌}
 use Rattle.hip_machine.specs.declared.core_parts.Core.{Core}
 
--- One step more and one place further do not overflow.
+-- The counts have room for one more step, and the place for one more op.
 abbrev pub HasRoom : Core → Type 0
 HasRoom c = (c.taken + 1 < 2 ^ 128) × (c.top.place + 1 < 2 ^ 64)
 
--- Nor does one turn more.
+-- The counts have room for one more step that is a turn.
 abbrev pub HasTurn : Core → Type 0
 HasTurn c = (c.taken + 1 < 2 ^ 128) × (c.top.place + 1 < 2 ^ 64) × (c.turns + 1 < 2 ^ 64)

@@ -26,8 +26,8 @@ pub record Stands (P : Program) (I : Input) (c : Core) (w : World) (f : Frame) (
   pub blocks : HoldsBlocks c.blocks c.top.blocks f.slots fs
   pub storage : HoldsRun P I c.storage w.writes w.mark
 
--- The parts represent a state with these frames, the top one first, after n steps; no parts represent one without a
--- frame.
+-- The parts represent a state with these frames, the top one first, after n steps. Without a frame, no parts represent
+-- it.
 abbrev pub StandsOn : Program → Input → Core → World → List Frame → ℕ → Type 0
 StandsOn P I c w [] n = ⊥
 StandsOn P I c w (f ∷ fs) n = Stands P I c w f fs n

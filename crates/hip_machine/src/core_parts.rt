@@ -8,9 +8,9 @@ use hip_storage::Storage;
 use hip_tree::Site;
 
 /// A frame of a call: the place of its next op, and that of the first op of its block; the place of its first slot; the
-/// stack's mark at its call, and how many blocks stood on the stack then; the numbers of its function and of its block;
-/// the slot of its caller that its result goes to; and, while it waits for a call that it made, how many steps were taken
-/// before that call.
+/// stack's mark at its call, and the number of blocks on the stack at that time; the numbers of its function and of its
+/// block; the slot of its caller that its result goes to; and, while it waits for a call that it made, the number of
+/// steps taken before that call.
 #[derive(Clone, Copy, Drop)]
 pub struct Activation {
     pub place: usize,
@@ -91,7 +91,7 @@ impl Core {
         self.turns += 1;
     }
 
-    /// The next op, in a turn.
+    /// Goes to the next op, in a turn.
     #[inline(always)]
     pub fn pass(&mut self)
         requires room { HasTurn self.old }
@@ -106,7 +106,7 @@ impl Core {
         self.turns += 1;
     }
 
-    /// The next op, in no turn.
+    /// Goes to the next op, without a turn.
     #[inline(always)]
     pub fn move_on(&mut self)
         requires room { HasRoom self.old }

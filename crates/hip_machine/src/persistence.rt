@@ -12,7 +12,7 @@ use crate::values::read_here;
 use hip_code::{Code, Persistence};
 use hip_runs::{Ending, Event, TrapKind};
 
-// The run ends in a trap, in no turn.
+// Ends the run in a trap, without a turn.
 fn halt(core: &mut Core, kind: TrapKind) -> Event
     requires { core.old.taken + 1 < 2 ^ 128 }
     ensures event { result ≡ Event.End (Ending.Trap kind) }
@@ -95,7 +95,7 @@ fn range(core: &mut Core, addr: u64, size: u64, fence: bool) -> Event
     }
 }
 
-/// A flush or a fence, in no turn.
+/// A flush or a fence, which takes no turn.
 pub fn persistence(core: &mut Core, code: &Code, persistence: Persistence) -> Event
     requires room { HasRoom core.old }
     requires within { PersistenceWithin (numbers_of code.now core.old) persistence }

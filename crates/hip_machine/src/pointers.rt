@@ -89,7 +89,7 @@ fn argument_of(core: &Core, code: &Code, op: Op, place: usize) -> Option<u64>
     }
 }
 
-/// The value of the pointer operand of that number, of the instruction whose op stands at the machine's place.
+/// The value of the pointer operand of that number, of the instruction at the machine's place.
 pub fn pointer_here(core: &Core, code: &Code, instr: &Instr, operand: usize) -> Option<u64>
     requires { IsReady code.now core.now }
     ensures { TellsPointer code.now core.now instr.now operand result }
@@ -197,7 +197,7 @@ fn pointers_in(
     }
 }
 
-/// The values of all pointer operands of the instruction whose op stands at the machine's place, in their order.
+/// The values of all pointer operands of the instruction at the machine's place, in their order.
 pub fn pointers_here(
     alloc: Global,
     core: &Core,

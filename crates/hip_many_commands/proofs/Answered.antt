@@ -1,4 +1,4 @@
--- What came of many traces, as answers of `many`.
+-- What loading many traces gives, as answers of `many`.
 use Rattle.std.proofs.Common.{◌≡◌, ℕ, false, List, length, Option, Err, inl, inr, refl, sym, ap, ◌∙◌, subst}
 use Rattle.std.proofs.lemmas.List.{length-map}
 use Rattle.std.specs.List.{All}
@@ -79,7 +79,7 @@ module _ {old mid new : CabinetState} {p : List ℕ} {names : List (List ℕ)} (
       }))))) kept line
   untraced s failures.NoMemory h kept line = answers.ran_out s (met_then met h) kept line
 
-  -- A command on the runs that were loaded.
+  -- The answer of a command on the runs that were loaded.
   pub answered : (s : Sinks) (status : Status) (asked : AllAsked) (h : HasAskedAll P names mid new asked)
       → AnswersOnRun (HasRepairedMany P h.runs) false s status
       → HasAnswered (ManyAnswers old new p names) false old new s status
@@ -93,7 +93,7 @@ module _ {old mid new : CabinetState} {p : List ℕ} {names : List (List ℕ)} (
         texts = texts;
       }))))) (on_run old new (met_then met h.met))
 
--- As many runs as names.
+-- There are as many runs as names.
 pub many_runs : (files : Option (List NamedFile)) (P : Program) (names : List (List ℕ)) (runs : List TracedRun)
     → AreRunsOf files P names runs → length names ≡ length runs
 many_runs files P names runs are =

@@ -18,7 +18,7 @@ use Rattle.hip_runs.specs.declared.input.Input.{Input}
 use Rattle.hip_runs.specs.declared.report.Findings.{Findings}
 use Rattle.hip_sound.specs.Sound.{IsSound}
 
--- What a repair by a plan does that has what a run found.
+-- What a repair does if its plan has what a run found.
 abbrev pub PlansCure : Type 0
 PlansCure =
     (P : Program) (I : Input) (plan : Plan) (skip : Site → Bool) (found : Findings) → IsSound P → IsValid P I
@@ -27,7 +27,7 @@ PlansCure =
 module _ (cure : PlansCure) (files : Option (List NamedFile)) (P : Program) (sound : IsSound P)
     (quiet : IsQuiet P (direct P)) (all : List Plan) (plan : Plan)
     (contains : (part : Plan) → In part all → Contains plan part) where
-  -- On the input of each run whose plan is among all.
+  -- The repair cures each run whose plan is among all plans.
   each_cured : (rs : List TracedRun) → ((part : Plan) → In part (plans_of P rs) → In part all)
       → All (IsRunOf files P) rs → All (λ r. IsCuredBy P r.input plan (direct P)) rs
   each_cured [] within h = All-nil (λ r. IsCuredBy P r.input plan (direct P))

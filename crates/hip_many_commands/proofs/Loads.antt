@@ -24,12 +24,12 @@ pub record HasAskedSome (P : Program) (names : List (List ℕ)) (start : Cabinet
   pub runs : List TracedRun
   pub are : AreRunsOf start.files P (take count names) runs
   pub met : HasMet false false start now
-  -- n fetches more are count + n from the start
+  -- After n more fetches there are count + n fetches from the start.
   pub fetches : (n : ℕ) (later : CabinetState) → CountsFetches n now later → CountsFetches (count + n) start later
   pub plans_are : plans ≡ plans_of P runs
   pub reports_are : reports ≡ reports_of runs
 
--- Before the first trace.
+-- Nothing is asked for before the first trace.
 pub asked_none : (P : Program) (names : List (List ℕ)) (start : CabinetState) → HasAskedSome P names start 0 [] 0 start
 asked_none P names start = record {
   runs = [];
@@ -65,7 +65,7 @@ runs_more files P names runs r are is = record {
 module _ {P : Program} {names : List (List ℕ)} {start mid : CabinetState} {count : ℕ} {plans : List Plan} {reports : ℕ}
     (some : HasAskedSome P names start count plans reports mid) (name : List ℕ) (within : count < length names)
     (is : name ≡ get_or names count name) where
-  -- The first names and this one.
+  -- The first `count` names and this one are the first `count + 1` names.
   front : take (count + 1) names ≡ take count names ++ name ∷ []
   front =
       subst (λ (n : List ℕ). take (count + 1) names ≡ take count names ++ n ∷ []) (sym is)
@@ -95,7 +95,7 @@ module _ {P : Program} {names : List (List ℕ)} {start mid : CabinetState} {cou
         omega (arith, more, first, one);
   }
 
-  -- It comes after the runs.
+  -- The name comes after those of the runs.
   pub after_runs : (number : ℕ) → number ≡ count + 1 → IsAfterRuns start.files P names number name
   after_runs number same = record {
     before = take count names;

@@ -59,7 +59,7 @@ module _ (files : List NamedFile) (P : Program) where
   among [] after name why h all = apart name why h (All-head IsTraced name after all)
   among (x ∷ xs) after name why h all = among xs after name why h (All-tail IsTraced x (xs ++ name ∷ after) all)
 
-  -- The same names stand before both names, and both names are the same.
+  -- The two names are the same, and so are the names before each of them.
   pub record SamePlace (before before' : List (List ℕ)) (name name' : List ℕ) : Type 0 where
     pub fronts : before ≡ before'
     pub names : name ≡ name'
@@ -113,7 +113,7 @@ pub data View (files : List NamedFile) (p : List ℕ) (names : List (List ℕ)) 
   IsUntraced : Untraced files p names a → View files p names a
   IsCarried : Carried files p names a → View files p names a
 
--- The union of plans is one.
+-- Plans have only one union.
 abbrev UnionsAreOne : Type 0
 UnionsAreOne = (plans : List Plan) (a b : Plan) → IsUnion plans a → IsUnion plans b → a ≡ b
 

@@ -86,7 +86,8 @@ pub record HasRunsOf (old new : CabinetState) (program_name : List ℕ) (names :
     pub met : HasMet false false old new
     pub texts : HasRepairedMany program runs answer
 
--- For no program; for a file that is not the trace of a run, or could not be read; or with one repair for all runs.
+-- The answers of `many`: there is no program; a file is not the trace of a run, or could not be read; or there is one
+-- repair for all runs.
 abbrev pub ManyAnswers : CabinetState → CabinetState → List ℕ → List (List ℕ) → Answer → Type 0
 ManyAnswers old new program_name names answer =
     IsUnloaded old new program_name answer

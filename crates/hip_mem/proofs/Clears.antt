@@ -71,7 +71,7 @@ cleared-all old m from to next end h e z a = go (in_or_out from a to)
     go (inl t) = zero t.1 t.2 (below_or_not (a / 4096) next) z ∙ sym (ap (λ b. cond b 0 (page_byte old a)) t.0)
     go (inr t) = out t.1 ∙ sym (ap (λ b. cond b 0 (page_byte old a)) t.0)
 
--- Where no page is found all are zeros.
+-- If no made page is found, all pages of the range are zeros.
 pub none_found : (m : Pages) (from to : ℕ) (o : Option ℕ) → IsFirstMade m from to o → ((n : ℕ) → o ≡ Some n → ⊥) → AreZeros m from to
 none_found m from to None h none = h
 none_found m from to (Some n) h none = absurd (none n refl)

@@ -18,7 +18,7 @@ written addr xs a old h k = go (covered_or_not (record { addr = addr; bytes = xs
         out (inl l) = omega (arith, l, h)
         out (inr l) = omega (arith, l, k)
 
--- A write of two parts is one after the other.
+-- A write of two lists of bytes is the write of the first and then the write of the second after it.
 pub written-append : (addr : ℕ) (xs ys : List ℕ) (a old : ℕ) → byte_written (record { addr = addr; bytes = xs ++ ys }) a old ≡ byte_written (record { addr = addr + length xs; bytes = ys }) a (byte_written (record { addr = addr; bytes = xs }) a old)
 written-append addr xs ys a old = go (split a addr) (split a (addr + length xs)) (split a (addr + length xs + length ys))
   where
@@ -34,7 +34,7 @@ written-append addr xs ys a old = go (split a addr) (split a (addr + length xs))
     go (inr l) (inr m) (inl n) = written addr (xs ++ ys) a old l (omega (arith, len)) ∙ index-append_right xs ys (a - addr) (omega (arith, m)) ∙ ap (slice_index ys) (let e : a - addr - length xs ≡ a - (addr + length xs) = omega arith in e) ∙ sym (written (addr + length xs) ys a (byte_written (record { addr = addr; bytes = xs }) a old) m n)
     go (inr l) (inr m) (inr n) = not_written (record { addr = addr; bytes = xs ++ ys }) a old (inr (omega (arith, len))) ∙ sym (not_written (record { addr = addr + length xs; bytes = ys }) a (byte_written (record { addr = addr; bytes = xs }) a old) (inr n) ∙ not_written (record { addr = addr; bytes = xs }) a old (inr m))
 
--- Zeros written where there are zeros.
+-- A write of zeros over zeros changes no byte.
 pub zeros_over_zero : (addr : ℕ) (xs : List ℕ) (a old : ℕ) → ((i : ℕ) → slice_index xs i ≡ 0) → (addr ≤ a → a < addr + length xs → old ≡ 0) → old ≡ byte_written (record { addr = addr; bytes = xs }) a old
 zeros_over_zero addr xs a old z h = go (covered_or_not (record { addr = addr; bytes = xs }) a)
   where

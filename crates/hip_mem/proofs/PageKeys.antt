@@ -10,7 +10,7 @@ use Rattle.hip_mem.specs.Pages.{place_of, IsMade, byte_of}
 pub in_or_out : (from a to : ℕ) → (((nat_le from a && nat_lt a to) ≡ true) × (from ≤ a) × (a < to)) ⊎ (((nat_le from a && nat_lt a to) ≡ false) × ((a < from) ⊎ (to ≤ a)))
 in_or_out from a to = grind (arith, nat_tests)
 
--- A value that is changed in a range alone.
+-- A value that changes only inside a range stays the same outside it.
 pub outside : (from a to x' x y : ℕ) → x' ≡ cond (nat_le from a && nat_lt a to) y x → (a < from) ⊎ (to ≤ a) → x' ≡ x
 outside from a to x' x y h o = go (in_or_out from a to)
   where
@@ -93,7 +93,7 @@ place-same : (m m' : Pages) (n : ℕ) → m'.region ≡ m.region → m'.director
 unfolding place_of
 place-same m m' n r d = ap (λ x. number_at x (key_of m'.region n)) d ∙ ap (λ x. number_at m.directory (key_of x n)) r
 
--- Where bytes of one page are changed, those of the others stay.
+-- A change of bytes of one page keeps the bytes of all other pages.
 pub others-kept : (m m' : Pages) (k at to from end : ℕ) (y : ℕ → ℕ) → m'.region ≡ m.region → m'.directory ≡ m.directory → IsMade m k → to ≤ 4096 → from ≡ 4096 * place_of m k + at → end ≡ 4096 * place_of m k + to → ((j : ℕ) → slice_index m'.bytes.items j ≡ cond (nat_le from j && nat_lt j end) (y j) (slice_index m.bytes.items j)) → (n i : ℕ) → n ≢ k → i < 4096 → byte_of m' n i ≡ byte_of m n i
 unfolding byte_of
 others-kept m m' k at to from end y r d made le from_is end_is h n i ne lt =

@@ -49,7 +49,7 @@ valid_nowhere s r a n e h p nowhere = go (are_valid r a n) refl
     go false f = refl
     go true f = absurd (nowhere (fits-lies s a n (valid-fits s a n h p (ap (λ (q : Areas). are_valid q a n) e ∙ f))))
 
--- The last of three tests decides.
+-- If the first two areas do not contain a range, the test of the third area decides whether the range is valid.
 pub valid_last : (s : Inside) (r : Areas) (a n : ℕ) (b : Bool) → areas_of s ≡ r → IsRam s → 0 < n → (Lies volatile_start s.volatile a n → ⊥) → (Lies stack_start (s.mark - stack_start) a n → ⊥) → (IsTrue b ↔ Lies s.base s.region a n) → b ≡ are_valid r a n
 valid_last s r a n true e h p v k t = valid_where s r a n e (inr (inr (t.0 refl)))
 valid_last s r a n false e h p v k t = valid_nowhere s r a n e h p nowhere
@@ -59,7 +59,7 @@ valid_last s r a n false e h p v k t = valid_nowhere s r a n e h p nowhere
     nowhere (inr (inl x)) = k x
     nowhere (inr (inr x)) = let y = t.1 x in let z : ⊥ = cc in z
 
--- From the region's start on no other area lies.
+-- From the region's start on, only the region has valid bytes.
 pub valid_region : (s : Inside) (r : Areas) (a n : ℕ) (b : Bool) → areas_of s ≡ r → IsRam s → 0 < n → s.base ≤ a → (IsTrue b ↔ Lies s.base s.region a n) → b ≡ are_valid r a n
 valid_region s r a n b e h p low t =
     valid_last s r a n b e h p (λ l. omega (arith, l.1, p, low, h.low, h.volatile)) (λ l. omega (arith, l.1, p, low, h.low, h.start, h.end)) t
@@ -74,7 +74,7 @@ take-page_bytes m (suc n) a (x ∷ xs) h f =
     ap₂ (λ y ys. y ∷ ys) (f 0 (omega arith) ∙ ap (page_byte m) (let e : a + 0 ≡ a = omega arith in e))
     (take-page_bytes m n (suc a) xs (omega arith) (λ i lt. f (suc i) (omega arith) ∙ ap (page_byte m) (let e : a + suc i ≡ suc a + i = omega arith in e)))
 
--- Zeros at each place.
+-- Every item of a list of zeros is 0.
 pub zero_index : (n i : ℕ) → slice_index (replicate n 0) i ≡ 0
 zero_index zero i = refl
 zero_index (suc n) zero = refl
@@ -204,7 +204,7 @@ pushed-is s r size align e h = ap (λ m. next_multiple_of m align + size) (ap ma
 pub block-is : (s : Inside) (r : Areas) (align : ℕ) → areas_of s ≡ r → IsRam s → block_address r align ≡ next_multiple_of s.mark align
 block-is s r align e h = ap (λ m. next_multiple_of m align) (ap mark_of (sym e) ∙ mark-is s h)
 
--- Where the next multiple is none it is too large.
+-- If there is no next multiple below 2 ^ 64, the multiple is too large.
 pub too_large : (o : Option ℕ) (align x : ℕ) → SomeIff o ((0 < align) × (x < 2 ^ 64)) x → ((y : ℕ) → o ≡ Some y → ⊥) → 0 < align → 2 ^ 64 ≤ x
 too_large (Some y) align x h none p = absurd (none y refl)
 too_large None align x h none p = go (below x (2 ^ 64))

@@ -49,7 +49,8 @@ abbrev pub bytes_in : Areas → ℕ → ℕ → List ℕ
 bytes_in r a zero = []
 bytes_in r a (suc n) = byte_in r a ∷ bytes_in r (suc a) n
 
--- Why an access traps: first by its alignment, then by its bytes; none if it does not trap.
+-- Why an access of n bytes at address a traps: its address is misaligned, or else one of its bytes is not valid. `None`
+-- if it does not trap.
 abbrev pub access_trap : Areas → ℕ → ℕ → ℕ → Option MemTrap
 access_trap r a n align = cond (a % align == 0) (cond (are_valid r a n) None (Some BadAddress)) (Some Misaligned)
 
@@ -62,12 +63,12 @@ or_trap (Some t) x = Err t
 abbrev pub loaded : Areas → ℕ → ℕ → ℕ → Result ℕ MemTrap
 loaded r a n align = or_trap (access_trap r a n align) (little_endian (bytes_in r a n))
 
--- The bytes from an address on after a write.
+-- The bytes of an area after a write. The area begins at an address.
 abbrev pub area_written : Write → ℕ → List ℕ → List ℕ
 area_written w start [] = []
 area_written w start (x ∷ xs) = byte_written w start x ∷ area_written w (suc start) xs
 
--- The areas after a write; bytes of it that lie in none of the areas change nothing.
+-- The areas after a write. Bytes of the write that are in no area change nothing.
 abbrev pub after_write : Write → Areas → Areas
 after_write w r =
     record {
@@ -77,11 +78,11 @@ after_write w r =
       region = area_written w r.base r.region;
     }
 
--- The address of a new stack block of an alignment, and the mark after it.
+-- The address of a new stack block: the next multiple of its alignment, from the mark on.
 abbrev pub block_address : Areas → ℕ → ℕ
 block_address r align = next_multiple_of (mark_of r) align
 
--- The mark after a new stack block of a size: the end of the block, which may lie after the stack's end.
+-- The mark after a new stack block of a size: the end of the block. It may be past the end of the stack.
 abbrev pub pushed_mark : Areas → ℕ → ℕ → ℕ
 pushed_mark r size align = block_address r align + size
 

@@ -19,7 +19,8 @@ write_covers w a = nat_le w.addr a && nat_lt a (w.addr + length w.bytes)
 abbrev pub byte_written : Write → ℕ → ℕ → ℕ
 byte_written w a old = cond (write_covers w a) (slice_index w.bytes (a - w.addr)) old
 
--- The byte at address a after writes in order: that of the last one that covers it, else `first`, the byte before them.
+-- The byte at address a after writes in order: the byte of the last write that covers the address, or `first`, the byte
+-- before the writes, if no write covers it.
 abbrev pub byte_from : List Write → ℕ → ℕ → ℕ
 byte_from [] a first = first
 byte_from (w ∷ ws) a first = byte_from ws a (byte_written w a first)
@@ -32,7 +33,7 @@ pub record Memory : Type 0 where
   pub region : List ℕ
   pub writes : List Write
 
--- Whether address a is one of those of bytes that begin at an address.
+-- Whether address a is one of the addresses of a list of bytes that begins at an address.
 abbrev pub is_in : ℕ → List ℕ → ℕ → Bool
 is_in start xs a = nat_le start a && nat_lt a (start + length xs)
 

@@ -5,7 +5,7 @@ use Rattle.hip_mem.specs.declared.TheConstants.{PAGE_SIZE}
 use Rattle.hip_mem.specs.declared.pages.Pages.{Pages}
 use Rattle.hip_mem.specs.Paging.{key_of}
 
--- The place of page n among the pages; 0, that of the page of zeros, if it was not made.
+-- The place of page n among the pages. It is 0, the place of the page of zeros, if page n was not made.
 unfoldable pub place_of : Pages → ℕ → ℕ
 place_of m n = number_at m.directory (key_of m.region n)
 
@@ -30,7 +30,7 @@ page_bytes m a (suc n) = page_byte m a ∷ page_bytes m (suc a) n
 abbrev pub AreZeros : Pages → ℕ → ℕ → Type 0
 AreZeros m from to = (n i : ℕ) → from ≤ n → n < to → i < PAGE_SIZE → byte_of m n i ≡ 0
 
--- A page in the range that was made and before which all are zeros; or no page, if all are zeros.
+-- A made page in the range, with only zeros before it; or no page, if all pages of the range are zeros.
 abbrev pub IsFirstMade : Pages → ℕ → ℕ → Option ℕ → Type 0
 IsFirstMade m from to None = AreZeros m from to
 IsFirstMade m from to (Some n) = (from ≤ n) × (n < to) × IsMade m n × AreZeros m from n

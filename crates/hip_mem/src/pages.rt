@@ -35,12 +35,12 @@ pub struct Pages {
     ghost starts: { AreStarts recent (start_in directory region) },
 }
 
-// Page by page.
+// Access by page number.
 #[tactic(auto, unfolding(crate::specs::Pages::place_of, crate::specs::Pages::byte_of))]
 impl Pages {
     ghost use Rattle.hip_mem.specs.Pages.{place_of, IsMade, byte_of, page_byte, IsFirstMade};
 
-    /// Zeros, if the region begins at a base.
+    /// Bytes that are all 0, for a region that begins at a base.
     pub fn new(alloc: Global, base: u64) -> Result<Pages, NoMemory>
         requires { 2 ^ 32 ≤ base }
         ensures { IfOk result (λ pages. (a : ℕ) → page_byte pages a ≡ 0) }
@@ -71,7 +71,7 @@ impl Pages {
         self.find_start(number)
     }
 
-    // The same, by the directory.
+    // The start of a page's bytes, from the directory.
     #[inline(always)]
     fn find_start(&self, number: u64) -> usize
         requires { number < 2 ^ 63 }
@@ -134,7 +134,7 @@ impl Pages {
         mark(self.dirty.as_mut_slice(), place, is_part(from, to));
     }
 
-    // Whether a page is among the recent ones. These were made.
+    // Whether a page is among the recent ones. Every recent page was made.
     #[inline(always)]
     fn is_recent(&self, number: u64) -> bool
         requires { number < 2 ^ 63 }
@@ -160,7 +160,7 @@ impl Pages {
         self.note_page(number)
     }
 
-    // The same, and notes the start of the page.
+    // Makes a page, if it was not made, and notes its start.
     #[inline(never)]
     fn note_page(&mut self, number: u64) -> Result<(), NoMemory>
         requires { number < 2 ^ 63 }
@@ -216,12 +216,12 @@ impl Pages {
     }
 }
 
-// By address.
+// Access by address.
 impl Pages {
     ghost use Rattle.hip_types.specs.Bytes.{little_endian};
     ghost use Rattle.hip_mem.specs.Pages.{place_of, IsMade, byte_of, page_byte, page_bytes, IsFirstMade};
 
-    /// The number of at most eight bytes, the lowest first.
+    /// The number in at most eight bytes, the lowest byte first.
     #[inline(always)]
     pub fn number_at(&self, addr: u64, size: usize) -> u64
         requires few { size ≤ 8 }
@@ -239,7 +239,7 @@ impl Pages {
         }
     }
 
-    // The same in one page. The bytes of a usual size are in registers, since no call takes their address.
+    // The number in bytes of one page. Bytes of a usual size stay in registers, since no call takes their address.
     #[inline(always)]
     fn number_in_one(&self, addr: u64, size: usize) -> u64
         requires few { size ≤ 8 }
@@ -251,7 +251,7 @@ impl Pages {
         u64::from_le_bytes(bytes)
     }
 
-    // The same in two pages.
+    // The number in bytes of two pages.
     #[inline(never)]
     fn number_in_two(&self, addr: u64, size: usize) -> u64
         requires few { size ≤ 8 }
@@ -372,7 +372,7 @@ impl Pages {
         Ok(())
     }
 
-    /// Clears the bytes of a range of the stack, in time linear in its pages that were made.
+    /// Clears the bytes of a range of the stack, in time linear in the number of its made pages.
     pub fn clear(&mut self, from: u64, to: u64)
         requires low { STACK_START ≤ from }
         requires forward { from ≤ to }
@@ -458,7 +458,7 @@ fn append_page(
     Ok(())
 }
 
-// Notes of the pages up to a number that they may have other bytes than 0.
+// Extends the marks to the pages up to a number. The added marks say that a page may have bytes other than 0.
 fn extend_to(dirty: &mut Vec<bool>, len: usize) -> Result<(), NoMemory>
     ensures { (n : ℕ) → slice_index_or dirty.new.items n true ≡ slice_index_or dirty.old.items n true }
 {
@@ -471,7 +471,7 @@ fn extend_to(dirty: &mut Vec<bool>, len: usize) -> Result<(), NoMemory>
     }
 }
 
-// Notes whether a page may have other bytes than 0.
+// Notes whether a page may have bytes other than 0.
 #[inline(always)]
 fn mark(dirty: &mut [bool], place: usize, is_dirty: bool)
     ensures { (n : ℕ) → slice_index_or dirty.new n true ≡ false → ((n ≡ place) × (is_dirty ≡ false))
@@ -483,7 +483,7 @@ fn mark(dirty: &mut [bool], place: usize, is_dirty: bool)
     dirty[place] = is_dirty;
 }
 
-// Whether a range of a page is not all of it.
+// Whether a range of a page is less than the whole page.
 fn is_part(from: usize, to: usize) -> bool
     ensures { result ≡ false → (from ≡ 0) × (PAGE_SIZE ≤ to) }
 {
@@ -523,7 +523,8 @@ fn append_zeros(bytes: &mut Vec<u8>) -> Result<(), NoMemory>
     }
 }
 
-// Copies bytes to the front of a slice. The usual sizes have arms of their own, since a copy of a fixed size is one move.
+// Copies bytes to the front of a slice. The usual sizes have arms of their own, since a copy of a fixed size is one
+// move.
 #[inline(always)]
 fn copy_front(into: &mut [u8], bytes: &[u8], from: usize, size: usize)
     requires few { size ≤ length into.old }

@@ -231,7 +231,7 @@ fn lies_in(start: u64, len: u64, addr: u64, size: u64) -> bool
     addr >= start && addr - start <= len && size <= len - (addr - start)
 }
 
-// Writes the bytes of an image over zeros, in time linear in those that it stores.
+// Writes the bytes of an image over zeros, in time linear in the number of bytes that the image stores.
 fn put_image(pages: &mut Pages, start: u64, image: &Image) -> Result<(), NoMemory>
     requires aligned { start % PAGE_SIZE ≡ 0 }
     requires fits { start + length image.now + 8192 < 2 ^ 64 }
@@ -242,8 +242,8 @@ fn put_image(pages: &mut Pages, start: u64, image: &Image) -> Result<(), NoMemor
     pages.fill(start, image.stored())
 }
 
-// Writes the low bytes of a number, the lowest first. Bytes of a usual size that are at hand are in registers, since no
-// call takes their address.
+// Writes the low bytes of a number, the lowest first. Bytes of a usual size in a recent page stay in registers, since
+// no call takes their address.
 #[inline(always)]
 fn put(pages: &mut Pages, addr: u64, value: u64, size: usize) -> Result<(), StoreRefusal>
     requires few { size ≤ 8 }

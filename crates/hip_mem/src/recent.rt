@@ -6,7 +6,7 @@ ghost use Rattle.hip_mem.specs.Recents.{AreStarts};
 // The number of noted pages, as a power of 2.
 const SLOT_BITS: u32 = 4;
 
-/// The starts of a few pages, each in the slot of its page's number. 0 is no start.
+/// The starts of a few pages, each in the slot of its page number. A start of 0 means that the slot is empty.
 #[derive(Drop)]
 pub struct Recent {
     numbers: [u64; 16],
@@ -48,7 +48,7 @@ impl Recent {
     }
 }
 
-// The slot of a page: the high bits of a product, so that the first pages of the areas have slots of their own.
+// The slot of a page: the high bits of a product, so that the first pages of the areas get different slots.
 #[inline(always)]
 fn slot_of(number: u64) -> usize
     ensures { result < 16 }

@@ -1,7 +1,7 @@
 /// Why a load was refused.
 #[derive(Clone, Copy, Debug, PartialEq, Eq)]
 pub enum MemTrap {
-    /// The address is no multiple of the access alignment.
+    /// The address is not a multiple of the alignment of the access.
     Misaligned,
     /// Some byte of the access is not valid.
     BadAddress,
@@ -10,7 +10,7 @@ pub enum MemTrap {
 /// Why a store was refused.
 #[derive(Clone, Copy, Debug, PartialEq, Eq)]
 pub enum StoreRefusal {
-    /// The address is no multiple of the access alignment.
+    /// The address is not a multiple of the alignment of the access.
     Misaligned,
     /// Some byte of the access is not valid.
     BadAddress,

@@ -36,7 +36,7 @@ step true i o = let e : i + 0 ≡ i = omega arith in ap Some e
 step false i None = refl
 step false i (Some k) = let e : i + suc k ≡ i + 1 + k = omega arith in ap Some e
 
--- What is left to search at a place is the name there, and what is left after it.
+-- A search from place i compares the name there, and goes on from place i + 1 if it is another name.
 pub number-step : (names : List (Bor (List ℕ))) (name : List ℕ) (i : ℕ) (d : Bor (List ℕ)) (b : Bool)
     → i < length names → b ≡ bytes_eq name (get_or names i d).now
     → option_map (λ k. i + k) (number_of (pointed (drop i names)) name)
@@ -49,7 +49,7 @@ number-step names name i d b h e =
 
 -- ---- two lists in a row
 
--- The number in the first list, and else the one in the second, counted on.
+-- The number in the first list or, if there is none, n plus the number in the second.
 abbrev pub or_after : ℕ → Option ℕ → Option ℕ → Option ℕ
 or_after n (Some k) later = Some k
 or_after n None later = option_map (λ k. n + k) later
@@ -74,14 +74,14 @@ number_of-rows (x ∷ xs) ys name =
     ∙ first (bytes_eq name x) (length xs) (number_of xs name) (number_of ys name)
     ∙ ap (λ o. or_after (suc (length xs)) o (number_of ys name)) (sym (number_of-cons x xs name))
 
--- The same where the first list is one of references.
+-- The number of a name in two lists one after the other, where the first is a list of references.
 pub number-rows : (few : List (Bor (List ℕ))) (more : List (List ℕ)) (name : List ℕ)
     → number_of (pointed few ++ more) name ≡ or_after (length few) (number_of (pointed few) name) (number_of more name)
 number-rows few more name =
     number_of-rows (pointed few) more name
     ∙ ap (λ n. or_after n (number_of (pointed few) name) (number_of more name)) (length-map few (λ k. k.now))
 
--- A name is among others if it has a number there.
+-- A name is among others exactly if it has a number there.
 suc_some : (o : Option ℕ) → is_some (option_map suc o) ≡ is_some o
 suc_some None = refl
 suc_some (Some k) = refl

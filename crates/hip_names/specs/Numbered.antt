@@ -18,7 +18,7 @@ abbrev pub entries_from : ℕ → List (List ℕ) → List (Entry ℕ)
 entries_from n [] = []
 entries_from n (name ∷ names) = record { name = name; value = n } ∷ entries_from (suc n) names
 
--- The entries of one name more: an entry is added at the end.
+-- One more name adds an entry at the end.
 pub entries-next : (n : ℕ) (names : List (List ℕ)) (k : ℕ) (name : List ℕ) → k < length names
     → get_or names k [] ≡ name →
     entries_from n (take k names) ++ record { name = name; value = n + k } ∷ []

@@ -6,7 +6,7 @@ use indexmap::IndexSet;
 use std::alloc::Global;
 use std::marker::Model;
 
-/// No machine has the memory for more names.
+/// The greatest number of names. No machine has the memory for more.
 const MOST: usize = 1 << 62;
 
 /// Names that differ, numbered from 0 in the order of insertion and found by their hashes.
@@ -27,7 +27,7 @@ impl<'a> Model for HashedNames<'a> {
     ghost invariant = { λ s. length (names_in (λ b. b.value.keys) s.names) ≤ 2 ^ 62 };
 }
 
-// Whether the name is new.
+// Inserts a name, and answers whether it is new.
 fn insert_into<'a>(names: &mut IndexSet<&'a [u8]>, name: &'a [u8]) -> Result<bool, NoMemory>
     requires { length names.old.keys ≤ 2 ^ 62 }
     ensures new { IfOk result (λ is_new. is_new ≡ not (is_among (map (λ n. n.now) names.old.keys) name.now)) }
@@ -55,7 +55,7 @@ fn reserve_in(names: &mut IndexSet<&[u8]>, more: usize) -> Result<(), NoMemory>
     }
 }
 
-// A set of no names with the memory that some need.
+// An empty set with the memory for `count` names.
 fn room_for<'a>(alloc: Global, count: usize) -> Result<Box<IndexSet<&'a [u8]>>, NoMemory>
     ensures { IfOk result (λ names. names.value.keys ≡ []) }
 {
@@ -87,7 +87,7 @@ impl<'a> HashedNames<'a> {
         HashedNames { names: None }
     }
 
-    /// Whether the name is new. One that is not new leaves the names as they are.
+    /// Inserts a name, and answers whether it is new. A name that is not new changes nothing.
     pub(crate) fn insert(&mut self, alloc: Global, name: &'a [u8]) -> Result<bool, NoMemory>
         ensures new { IfOk result (λ is_new. is_new ≡ not (is_among self.old name.now)) }
         ensures names { IfOk result (λ is_new. self.new

@@ -44,7 +44,7 @@ impl<'a, V: Copy> NameTable<'a, V> {
         }
     }
 
-    /// Adds a value, unless its name has one. Out of memory, the table stays as it is.
+    /// Adds a value, unless its name has one. If there is no memory, the table stays as it is.
     pub fn add(&mut self, name: &'a [u8], value: V) -> Result<(), NoMemory>
         ensures ok { IfOk result (λ _. (entries : List (Entry V)) →
             StandsFor self.old.names self.old.values entries →

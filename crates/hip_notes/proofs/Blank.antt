@@ -29,7 +29,7 @@ tells_none P I header notes lines e h = record {
   kept = λ b k x l. absurd (none_loose P I b k x l);
 }
 
--- No flag is that of a global that was hit.
+-- An empty table flags no global.
 pub none_hit : (hits : List ℕ) (flags : List Bool) → flags ≡ [] → WereHit hits flags
 none_hit hits flags e = λ g is.
     let h : slice_get [] g ≡ Some true = sym (ap (λ (fs : List Bool). slice_get fs g) e) ∙ is in

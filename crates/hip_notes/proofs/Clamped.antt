@@ -14,7 +14,7 @@ beyond : (ws : List (Pending Part)) (o n : ℕ) → 64 * length ws ≤ o → loo
 beyond ws o zero h = refl
 beyond ws o (suc n) h = ap₂ (λ (a : Option LooseByte) (r : List LooseByte). option_to_list a ++ r) (none_at ws o h) (beyond ws (suc o) n (omega (arith, h)))
 
--- The bytes of a range that begins in the region, up to its end.
+-- A range that reaches the region's end has the same loose bytes as a longer one from the same offset.
 cut : (ws : List (Pending Part)) (o n m : ℕ) → 64 * length ws ≤ o + m → m ≤ n → loose_from ws o m ≡ loose_from ws o n
 cut ws o n zero h k = sym (beyond ws o n (omega (arith, h)))
 cut ws o zero (suc m) h k = absurd (omega (arith, k))

@@ -1,4 +1,4 @@
--- How many calls of a store have returned, by the births of those that stand.
+-- How many calls of a store have returned, by the births of the standing calls.
 use Rattle.std.proofs.Common.{◌≡◌, ◌⊎◌, inl, inr, ℕ, suc, ◌<◌, Bool, true, false, cond, nat_eq, List, [], ◌∷◌, ◌++◌, append_assoc, length, length-append, Option, Some, None, slice_get, refl, sym, ap, ◌∙◌, subst, arith}
 use Rattle.std.specs.List.{list_any}
 use Rattle.std.proofs.lemmas.Bool.Decides.{nat_tests}
@@ -13,7 +13,7 @@ use Rattle.hip_findings.specs.CallPaths.{closed_by, is_birth}
 use Rattle.hip_notes.specs.CallPaths.{births_of}
 use Rattle.hip_notes.proofs.CallBirths.{length_births}
 
--- The birth of the call above some others.
+-- The birth of a call is at the place that equals the number of calls outside of it.
 at_depth : (above : List Level) (l : Level) (rest : List Level) → slice_get (births_of (above ++ l ∷ rest)) (length rest) ≡ Some l.birth
 at_depth [] l rest = ap (slice_get (births_of rest ++ l.birth ∷ [])) (sym (length_births rest)) ∙ get-append_end (births_of rest) l.birth
 at_depth (a ∷ above) l rest =
@@ -23,7 +23,7 @@ at_depth (a ∷ above) l rest =
 same_birth : (b : ℕ) (o : Option ℕ) → o ≡ Some b → is_birth b o ≡ true
 same_birth b o e = ap (is_birth b) e ∙ (let q : nat_eq b b ≡ true = grind (arith, nat_tests) in q)
 
--- Each birth is of a call that stands.
+-- Each birth is that of one of the calls.
 of_call : (ls : List Level) (k b : ℕ) → slice_get (births_of ls) k ≡ Some b → (l : Level) × In l ls × (l.birth ≡ b)
 of_call [] k b e = absurd (let z : ⊥ = cc in z)
 of_call (l ∷ ls) k b e = go (λ q. of_call ls k b q) (three k (length (births_of ls)))
@@ -43,7 +43,7 @@ of_call (l ∷ ls) k b e = go (λ q. of_call ls k b q) (three k (length (births_
 is_here : (b : ℕ) (ls : List Level) (l : Level) → In l ls → l.birth ≡ b → list_any (λ s. nat_eq s.birth b) ls ≡ true
 is_here b ls l i e = in_any (λ s. nat_eq s.birth b) ls l i (grind (arith, nat_tests))
 
--- A call that is not among the open ones is not at its depth.
+-- If a call is not open, no standing call has its birth.
 not_standing : (standing : List Level) (v : Level) (d : ℕ) → is_open standing v ≡ false → is_birth v.birth (slice_get (births_of standing) d) ≡ false
 not_standing standing v d h = go (slice_get (births_of standing) d) refl
   where
@@ -55,7 +55,7 @@ not_standing standing v d h = go (slice_get (births_of standing) d) refl
     go None e = refl
     go (Some b) e = by b e (nat_eq b v.birth) refl
 
--- Of calls that stand none has returned.
+-- None of the standing calls has returned.
 open_by : (above open_ones : List Level) → closed_by (births_of (above ++ open_ones)) open_ones ≡ 0
 open_by above [] = refl
 open_by above (l ∷ rest) =

@@ -28,7 +28,7 @@ module _ (P : Program) (I : Input) (n header region : ℕ) (whole : region ≡ 6
   flushes_kept : (j : ℕ) (l' : LineNote) → lines_of new.lines j ≡ Some l' → FlushesAscend 0 n l'.flushes
   flushes_kept j l' e = thin_flushes j l' (lines_of old.lines j) refl (subst (λ (o : Option LineNote). MayThin (shown (run P I n).lines) j (lines_of old.lines j) o) e (go.lines j))
 
-  -- The note of a line that has a loose byte.
+  -- The note of a line that has a loose byte is kept, perhaps with fewer flushes.
   line_kept : (j : ℕ) (l : LineNote) → lines_of old.lines j ≡ Some l → IsSome (lines_of new.lines j)
       → (l' : LineNote) × (lines_of new.lines j ≡ Some l') × MayThin (shown (run P I n).lines) j (Some l) (Some l')
   line_kept j l e some = by (lines_of new.lines j) refl some
@@ -42,7 +42,7 @@ module _ (P : Program) (I : Input) (n header region : ℕ) (whole : region ≡ 6
             (subst (λ (o : Option LineNote). MayThin (shown (run P I n).lines) j (lines_of old.lines j) o) q (go.lines j)),
       )
 
-  -- The loose byte of its line that is loose by a part.
+  -- If a byte is loose by a part, its line has a loose byte with the step of the part.
   in_its_line : (b k : ℕ) (x : StorePart) → IsLooseAt (run P I n).lines b k x
       → (y : LooseByte) × In y (loose_of_line (shown (run P I n).lines) (b / LINE_SIZE)) × (y.tag ≡ x.step)
   unfolding loose_of_line

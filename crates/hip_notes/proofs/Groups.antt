@@ -121,7 +121,7 @@ module _ (lines : ℕ → Option LineNote) (tag : ℕ) where
           from z (inl m) = inl (inl m)
           from z (inr r) = of_one z r.0 r.1 r.2 r.3
 
-  -- The latest of all.
+  -- The latest flush of a group is the latest of its bytes' first flushes.
   pub latest_of_bytes : (bs : List LooseByte) (g : Group) → group_from lines tag None bs ≡ Some g → IsLatest (OfBytes bs) (option_map flush_of g.latest)
   latest_of_bytes bs g e = widened (λ z. ⊥ ⊎ OfBytes bs z) (OfBytes bs) (option_map flush_of g.latest) to (λ z r. inr r) (group_latest bs None g (λ z. ⊥) none_latest e)
     where

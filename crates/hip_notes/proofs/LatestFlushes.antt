@@ -55,7 +55,7 @@ joined M N (Some a) (Some b) h k = by (nat_lt a.step b.step) refl
         go f (inl m) = first f m
         go f (inr m) = let le = second f m in let lt : b.step ≤ a.step = grind (arith, nat_tests) in omega (arith, le, lt)
 
--- Two latest ones of the same flushes are at one site, where flushes of one step are.
+-- Two latest flushes of the same set are at one site, if flushes of one step always are.
 pub one_site : (M : Option Flush → Type 0) (o o' : Option Flush)
     → ((f g : Flush) → M (Some f) → M (Some g) → f.step ≡ g.step → f.site ≡ g.site)
     → IsLatest M o → IsLatest M o' → option_map (λ f. f.site) o ≡ option_map (λ f. f.site) o'

@@ -21,7 +21,7 @@ use Rattle.hip_notes.specs.Sights.{mark_at, mark_by, marks_ahead, marks_to}
 pub next_to : (P : Program) (I : Input) (s : State) (site : Site) (k : ℕ) → marks_to P I s site k ++ mark_at P I s site k ≡ marks_to P I s site (k + 1)
 next_to P I s site k = ap (marks_to P I s site) (let e : suc k ≡ k + 1 = omega arith in e)
 
--- No site is next exactly where no instruction is.
+-- If no site is next, there are no marks ahead.
 pub none_ahead : (P : Program) (I : Input) (s : State) → next_site P s ≡ None → marks_ahead P I s ≡ []
 none_ahead P I s e = by (has_ended s) e
   where
@@ -140,7 +140,7 @@ module _ (P : Program) (I : Input) (s : State) (site : Site) (n : IsNext P s sit
       ∙ sym (ap (λ r. marks_to P I s site count ++ From count r) (drop_all Ops count h))
       ∙ to_here count ∙ sym ahead_is
 
-  -- Where no pointer is left.
+  -- If there is no pointer operand k, the marks of the first k operands are all marks.
   pub all_before : (k : ℕ) → pointer_of P I s k ≡ None → marks_to P I s site k ≡ marks_ahead P I s
   all_before k none = all_ahead k (few k Ops (sym (pointer_is k) ∙ none))
     where

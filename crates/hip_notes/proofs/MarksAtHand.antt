@@ -1,4 +1,4 @@
--- Marks that are at hand were met, and stay so.
+-- The recent marks were met, and remain so.
 use Rattle.std.proofs.Common.{◌≡◌, ◌⊎◌, inl, inr, ℕ, Bool, true, cond, nat_eq, List, [], ◌∷◌, ◌++◌, Option, Some, slice_get, refl, sym, ap, ◌∙◌}
 use Rattle.std.specs.List.{list_any}
 use Rattle.hip_types.specs.Distinct.{met}
@@ -11,13 +11,13 @@ use Rattle.hip_runs.specs.declared.report.Mark.{Mark}
 use Rattle.hip_notes.specs.MetMarks.{AreMet}
 use Rattle.hip_notes.specs.Sights.{AddAlike}
 
--- What was met adds nothing.
+-- An item that was met adds nothing.
 pub met_known : {A : Type 0} (same : A → A → Bool) (xs : List A) (y : A) → list_any (same y) xs ≡ true → met same xs (y ∷ []) ≡ xs
 met_known same xs y e = ap (λ t. cond t xs (xs ++ y ∷ [])) e
 
 -- ---- marks
 
--- A mark that is at hand adds nothing to any marks after those that were met.
+-- A mark that was met adds nothing to any marks after those that were met.
 pub known_adds : (before ms : List Mark) (m : Mark) → list_any (same_mark m) before ≡ true → AddAlike before ms (ms ++ m ∷ [])
 known_adds before ms m e =
     sym (met-append same_mark before ms (m ∷ []) ∙ met_known same_mark (met same_mark before ms) m (met-first same_mark-equivalence m before ms e))

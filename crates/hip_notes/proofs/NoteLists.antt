@@ -1,4 +1,4 @@
--- Notes whose steps ascend, with one more.
+-- Notes whose steps ascend, and one more note after them.
 use Rattle.std.proofs.Common.{◌≡◌, ℕ, suc, ◌+◌, ◌<◌, ◌≤◌, ◌^◌, Bool, true, false, cond, nat_eq, nat_lt, List, [], ◌∷◌, ◌++◌, Option, Some, None, refl, sym, ap, ap₂, ◌∙◌, filter, arith}
 use Rattle.std.proofs.lemmas.Bool.Decides.{nat_tests}
 use Rattle.std.specs.List.{flat_map}
@@ -62,7 +62,7 @@ module _ (tags : ℕ → Bool) where
       go true k = (h.0, h.1, k)
       go false k = let low = h.0 in from_lower a (x.tag + 1) b (Some_of xs) (omega (arith, low)) k
 
-  -- A note of a step that is among them stays there.
+  -- The notes that are kept by their steps still have the note of each kept step.
   pub stays_there : (tag : ℕ) → tags tag ≡ true → (xs : List StoreNote) → note_of (Some_of xs) tag ≡ note_of xs tag
   stays_there tag e [] = refl
   stays_there tag e (x ∷ xs) = go (tags x.tag) refl (nat_eq x.tag tag) refl (stays_there tag e xs)
@@ -91,7 +91,7 @@ none_after a n (f ∷ fs) h =
     let other : nat_lt n f.step ≡ false = (let lt = h.1 in grind (arith, nat_tests)) in
     ap (λ t. cond t (Some f) (first_after n fs)) other ∙ none_after (f.step + 1) n fs h.2
 
--- The first flush after a step, where others come first.
+-- The first flush after a step, if a flush is added at the end.
 abbrev pub or_last : Option FlushNote → FlushNote → Option FlushNote
 or_last None f = Some f
 or_last (Some g) f = Some g
@@ -123,7 +123,7 @@ module _ (steps : ℕ → Bool) where
       go true k = (h.0, h.1, k)
       go false k = let low = h.0 in lower_flushes a (x.step + 1) b (Flushes_of xs) (omega (arith, low)) k
 
-  -- Where the first flush after a step is among them, it stays the first one.
+  -- If the first flush after a step is kept, it stays the first one.
   pub first_stays : (tag : ℕ) (xs : List FlushNote) → ((f : FlushNote) → first_after tag xs ≡ Some f → steps f.step ≡ true)
       → first_after tag (Flushes_of xs) ≡ first_after tag xs
   first_stays tag [] h = refl

@@ -27,7 +27,7 @@ same_below : (first line j : ℕ) → j < line → is_between first line j ≡ i
 same_below first line j h = grind (arith, nat_tests)
 
 module _ {A : Type 0} (to : Option A → Option A) (old new : ℕ → Option A) where
-  -- One line more is changed.
+  -- One more line is changed.
   pub one_more : (mid : ℕ → Option A) (first line : ℕ) → first ≤ line
       → ((j : ℕ) → mid j ≡ cond (is_between first line j) (to (old j)) (old j))
       → new line ≡ to (mid line) → ((j : ℕ) → (j ≡ line → ⊥) → new j ≡ mid j)
@@ -42,7 +42,7 @@ module _ {A : Type 0} (to : Option A → Option A) (old new : ℕ → Option A) 
       go (inr (inl lt)) = others j (λ e. absurd (omega (arith, e, lt))) ∙ stated j ∙ ap (λ t. cond t (to (old j)) (old j)) (same_below first line j lt)
       go (inr (inr lt)) = others j (λ e. absurd (omega (arith, e, lt))) ∙ stated j ∙ ap (λ t. cond t (to (old j)) (old j)) (above first line j (omega (arith, lt)) ∙ sym (above first (line + 1) j (omega (arith, lt))))
 
-  -- Lines that a change leaves as they are may be skipped.
+  -- Lines without a note may be skipped if the change leaves such lines as they are.
   pub skipped : (first next line : ℕ) → next ≤ line → (to None ≡ None)
       → ((j : ℕ) → next ≤ j → j < line → new j ≡ None)
       → ((j : ℕ) → new j ≡ cond (is_between first next j) (to (old j)) (old j))
@@ -83,7 +83,7 @@ cmp_le a b h = go (split a b h)
     go (inl lt) = ap is_gt (cmp_less a b lt)
     go (inr e) = ap is_gt (sym (nat_cmp_is a b Equal e))
 
--- Below the least key that is there none is.
+-- There is nothing below the least key.
 pub none_before : {A : Type 0} (at : ℕ → Option A) (line : ℕ) (j : ℕ) → (IsSome (at j) → line ≤ j) → j < line → at j ≡ None
 none_before {A} at line j h lt = go (at j) refl
   where

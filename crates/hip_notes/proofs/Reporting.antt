@@ -60,7 +60,7 @@ site_by : (t : Bool) (o : Option FlushNote) (ps : List LoosePart) → option_map
 site_by true o ps e = e
 site_by false o ps e = refl
 
--- A report by what it has.
+-- The report with these fields.
 abbrev made : ℕ → ℕ → Kind → Option Site → List Site → ℕ → Report
 made check e kind f p c = record { entry = e; check_entry = check; kind = kind; flush_site = f; path = p; closed = c }
 
@@ -78,7 +78,7 @@ no_tag tag [] b i k q = i
 no_tag tag (c ∷ bs) b (inl e) k q = let y : nat_eq c.tag tag ≡ true = (let w : c.tag ≡ tag = sym (ap (λ (x : LooseByte). x.tag) e) ∙ k in grind (arith, nat_tests)) in let x : true ≡ false = sym (ap (λ s. s || has_tag tag bs) y) ∙ q in let z : ⊥ = cc in z
 no_tag tag (c ∷ bs) b (inr j) k q = no_tag tag bs b j k (second (nat_eq c.tag tag) (has_tag tag bs) q)
 
--- A group is of some byte.
+-- A group has a byte of its store.
 byte_of_group : (lines : ℕ → Option LineNote) (tag : ℕ) (bs : List LooseByte) (g : Group) → group_from lines tag None bs ≡ Some g → (b : LooseByte) × In b bs × (b.tag ≡ tag)
 byte_of_group lines tag bs g e = by (has_tag tag bs) refl
   where

@@ -24,7 +24,7 @@ use Rattle.hip_notes.specs.declared.pending.StoreNote.{StoreNote}
 use Rattle.hip_notes.proofs.noting.LooseSteps.{fenced_back, flushed_back, met_by, persisted_back, stored_back}
 use Rattle.hip_notes.proofs.NoteLists.{first_of_more, found_below, last_there, more_flushes, more_stores, none_after, one_flush_more, one_store_more, or_last, still_there}
 
--- The lines in which bytes at an offset lie are changed, those of a store or of a flush of this size.
+-- The lines that have one of n bytes at offset o are changed.
 abbrev pub Changed : (Option LineNote → Option LineNote) → ℕ → ℕ → (ℕ → Option LineNote) → (ℕ → Option LineNote) → Type 0
 Changed to o n old new = (j : ℕ) → new j ≡ cond (has_bytes j o n) (to (old j)) (old j)
 

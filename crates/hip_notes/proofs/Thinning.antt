@@ -14,7 +14,7 @@ use Rattle.hip_notes.specs.Pending.{first_after, FlushesAscend}
 use Rattle.hip_notes.specs.declared.pending.FlushNote.{FlushNote}
 use Rattle.hip_notes.proofs.NoteLists.{fewer_flushes, first_stays}
 
--- After one item more of a list, each item is left or was met.
+-- After one more item of a list, each item is still left or was met.
 pub met_next : {A : Type 0} (x y : A) (s t : List A) (Q R : Type 0) → s ≡ y ∷ t → (Q → R) → (x ≡ y → R) → In x s ⊎ Q → In x t ⊎ R
 met_next x y s t Q R e more here (inr q) = inr (more q)
 met_next x y s t Q R e more here (inl i) = go (subst (λ l. In x l) e i)
@@ -23,7 +23,7 @@ met_next x y s t Q R e more here (inl i) = go (subst (λ l. In x l) e i)
     go (inl p) = inr (here p)
     go (inr j) = inl j
 
--- An item of a list of which nothing is left was met.
+-- If nothing of a list is left, each of its items was met.
 pub met_all : {A : Type 0} (x : A) (s : List A) (R : Type 0) → s ≡ [] → In x s ⊎ R → R
 met_all x s R e (inr r) = r
 met_all x s R e (inl i) = absurd (subst (λ l. In x l) e i)
@@ -36,7 +36,7 @@ grouped : (a b c : List FlushNote) → (a ++ b) ++ c ≡ a ++ (b ++ c)
 grouped [] b c = refl
 grouped (x ∷ a) b c = ap (λ l. x ∷ l) (grouped a b c)
 
--- The flushes among some steps, one flush on.
+-- The flushes of some steps, after one more flush.
 pub among_next : (steps : ℕ → Bool) (old new fs : List FlushNote) (i : ℕ) (none : FlushNote) → i < length fs → new ≡ old ++ flush_among steps (get_or fs i none)
     → (all : List FlushNote) → old ++ flat_map (flush_among steps) (drop i fs) ≡ all → new ++ flat_map (flush_among steps) (drop (i + 1) fs) ≡ all
 among_next steps old new fs i none lt e all h =
@@ -45,7 +45,7 @@ among_next steps old new fs i none lt e all h =
     ∙ sym (ap (λ l. old ++ flat_map (flush_among steps) l) (drop_more fs i none lt))
     ∙ h
 
--- The flushes that stay are among them the first ones that loose bytes of the line ask for.
+-- The flushes that are kept include each first flush after the store of a loose byte of the line.
 pub thin : (ws : List (Waiting Part)) (j : ℕ) (fs kept : List FlushNote) (steps : ℕ → Bool) → kept ≡ flat_map (flush_among steps) fs
     → ((x : LooseByte) → In x (loose_from ws (LINE_SIZE * j) LINE_SIZE) → (f : FlushNote) → first_after x.tag fs ≡ Some f → steps f.step ≡ true) → IsThinned ws j fs kept
 unfolding loose_of_line

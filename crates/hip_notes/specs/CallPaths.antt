@@ -1,4 +1,4 @@
--- Calls that stood together, and their births.
+-- Calls that were on the stack together, and their births.
 use Rattle.std.specs.Prelude.{◌≡◌, ℕ, List, [], ◌∷◌, ◌++◌}
 use Rattle.hip_runs.specs.State.{Level}
 use Rattle.hip_notes.specs.declared.calls.Calls.TheInside.{Inside}

@@ -1,10 +1,10 @@
--- What is kept at hand of the marks and the globals that were met.
+-- What the recent marks and the flags of globals show: which marks and globals were met.
 use Rattle.std.specs.Prelude.{◌≡◌, ℕ, true, nat_eq, List, Option, Some, slice_get, Bool}
 use Rattle.std.specs.List.{list_any}
 use Rattle.hip_runs.specs.Found.Marks.{same_mark}
 use Rattle.hip_runs.specs.declared.report.Mark.{Mark}
 
--- Each mark at hand was met.
+-- Each recent mark was met.
 abbrev pub AreMet : List Mark → List (Option Mark) → Type 0
 AreMet marks recent = (i : ℕ) → (m : Mark) → slice_get recent i ≡ Some (Some m)
     → list_any (same_mark m) marks ≡ true

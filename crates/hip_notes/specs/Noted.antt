@@ -32,14 +32,14 @@ use Rattle.hip_notes.specs.declared.pending.FlushNote.{FlushNote}
 use Rattle.hip_notes.specs.declared.pending.LineNote.{LineNote}
 use Rattle.hip_notes.specs.declared.pending.StoreNote.{StoreNote}
 
--- These calls stood after n steps of a run, or after fewer.
+-- These were the standing calls after n steps of a run, or after fewer.
 pub record Stood (P : Program) (I : Input) (n : ℕ) (calls : List Level) : Type 0 where
   pub steps : ℕ
   pub few : steps ≤ n
   pub are : calls ≡ levels_of (run P I steps).frames
 
--- The notes after n steps of a run: its counts and last fence, the calls that stood when they were looked at last, and
--- what is kept of pending stores, marks and reports. The numbers of entries in them are right if those of the header
+-- The notes after n steps of a run: its counts and last fence, the standing calls at the last look at them, and what is
+-- kept of pending stores, marks and reports. The numbers of entries in the notes are right if the entries of the header
 -- were counted right.
 pub record AreNoted (P : Program) (I : Input) (n : ℕ) (c : Notes) : Type 0 where
   pub steps : c.steps ≡ n
@@ -153,12 +153,12 @@ pub record IsThinned (ws : List (Waiting Part)) (j : ℕ) (old new : List FlushN
 abbrev pub HasLine : List (Waiting Part) → ℕ → Type 0
 HasLine ws j = (j < length ws) × (LINE_SIZE * length ws < 2 ^ 64)
 
--- The notes after have the note of line j, if it has one, and that of each line that has one in the notes before.
+-- The new notes have a note of line j if `notes` has one, and a note of each line of which the old notes have one.
 pub record KeepsNote (notes : BTreeMap ℕ LineNote) (j : ℕ) (old new : BTreeMap ℕ LineNote) : Type 0 where
   pub here : IsSome (lines_of notes j) → IsSome (lines_of new j)
   pub others : (i : ℕ) → IsSome (lines_of old i) → IsSome (lines_of new i)
 
--- Line j has no note any more, or its note, perhaps with fewer flushes.
+-- Line j has no note now, or it has its old note, perhaps with fewer flushes.
 abbrev pub MayThin : List (Waiting Part) → ℕ → Option LineNote → Option LineNote → Type 0
 MayThin ws j old None = Unit {0}
 MayThin ws j None (Some new) = ⊥

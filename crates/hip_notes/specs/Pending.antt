@@ -15,7 +15,7 @@ abbrev pub note_of : List StoreNote → ℕ → Option StoreNote
 note_of [] tag = None
 note_of (x ∷ xs) tag = cond (nat_eq x.tag tag) (Some x) (note_of xs tag)
 
--- The steps of the stores ascend from a number on, and are below another.
+-- The steps of the stores ascend; the first is at least a, and all are below b.
 abbrev pub StoresAscend : ℕ → ℕ → List StoreNote → Type 0
 StoresAscend a b [] = Unit {0}
 StoresAscend a b (x ∷ xs) = (a ≤ x.tag) × (x.tag < b) × StoresAscend (x.tag + 1) b xs
@@ -36,7 +36,7 @@ first_after step (f ∷ fs) = cond (nat_lt step f.step) (Some f) (first_after st
 abbrev pub lines_of : BTreeMap ℕ LineNote → ℕ → Option LineNote
 lines_of m j = tree.get nat_cmp m j
 
--- Whether line j is one of those from the first one up to the end.
+-- Whether line j is at or after the first line, and before the end.
 abbrev pub is_between : ℕ → ℕ → ℕ → Bool
 is_between first end j = nat_le first j && nat_lt j end
 

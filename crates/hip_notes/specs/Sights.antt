@@ -22,8 +22,8 @@ abbrev pub mark_by : Program → Input → State → Site → ℕ → Option ℕ
 mark_by P I s site k None = []
 mark_by P I s site k (Some a) = mark_of site k (object_at P I.base s.frames a)
 
--- The mark of the pointer operand of that number of the next instruction; none where it has no such operand, or that
--- points into no object.
+-- The mark of pointer operand k of the next instruction; none if there is no such operand, or if it points into no
+-- object.
 abbrev pub mark_at : Program → Input → State → Site → ℕ → List Mark
 mark_at P I s site k = mark_by P I s site k (pointer_of P I s k)
 
@@ -46,7 +46,7 @@ is_still events.Quiet = true
 is_still (events.Print z) = true
 is_still _ = false
 
--- Whether the calls that stand are noted at a step with this event: it stores, checks a range or ends the run.
+-- Whether the standing calls are noted at a step with this event: it stores, checks a range or ends the run.
 abbrev pub needs_calls : Event → Bool
 needs_calls (events.Store a v m) = true
 needs_calls (events.Assert a n) = true

@@ -13,7 +13,7 @@ use Rattle.hip_notes.specs.declared.pending.LineNote.{LineNote}
 use Rattle.hip_notes.specs.declared.pending.StoreNote.{StoreNote}
 use Rattle.hip_notes.specs.Pending.{first_after, FlushesAscend, note_of, StoresAscend}
 
--- A byte is loose by a part of a store, which stands at place k of the byte's cache line.
+-- A byte is loose by a part of a store. The part is at place k of the byte's cache line.
 pub record IsLooseAt (ls : List (Line StorePart)) (b k : ℕ) (x : StorePart) : Type 0 where
   pub line : Line StorePart
   pub line_at : slice_get ls (b / LINE_SIZE) ≡ Some line

@@ -8,8 +8,8 @@ use std::alloc::Global;
 use std::marker::Model;
 use std::rc::Rc;
 
-/// Calls that stood together; contracts see the list of them, the innermost one first. Stores share the nodes of the
-/// calls that they have in common.
+/// Calls that were on the stack together; contracts see the list of them, the innermost one first. Stores share the
+/// nodes of the calls that they have in common.
 #[derive(Drop)]
 pub struct Calls {
     path: Rc<CallPath>,
@@ -41,7 +41,7 @@ impl Calls {
         })
     }
 
-    /// How many calls these are.
+    /// The number of calls.
     #[inline(always)]
     #[tactic(auto, using(crate::proofs::CallBirths::length_births))]
     pub fn count(&self) -> usize

@@ -23,8 +23,8 @@ pub fn none_recent(alloc: Global) -> Result<Vec<Option<Mark>>, NoMemory>
     }
 }
 
-// The place of a mark among the recent ones: marks of nearby operands have different ones, and so have those of one
-// operand in nearby objects.
+// The place of a mark among the recent ones. Marks of nearby operands have different places, and so have the marks of
+// one operand in nearby objects.
 #[inline(always)]
 fn place_of(mark: Mark) -> usize {
     let object = match mark.object {

@@ -43,7 +43,7 @@ pub struct Notes {
     pub entries: u128,
     // The step of the last fence.
     pub fence: Option<u128>,
-    // The calls that stood when they were looked at last.
+    // The standing calls at the last look at them.
     pub calls: Calls,
     pub pending: Pending,
     // The number of pending stores at which the tracker looks again for notes to drop.
@@ -217,7 +217,7 @@ impl Notes {
         self.steps += 1;
     }
 
-    /// Whether there are twice as many stores as were kept last.
+    /// Whether there are at least twice as many stores as were kept last time, and enough to search for notes to drop.
     #[inline(always)]
     pub fn are_many(&self) -> bool
         ensures { result ≡ nat_le self.now.enough (length self.now.pending.stores.items) }
@@ -225,8 +225,8 @@ impl Notes {
         self.pending.stores.len() >= self.enough
     }
 
-    /// Drops the notes that no loose byte needs. If this waits until there are many, the cost of a search is spread
-    /// over as many stores, and memory does not grow with the steps.
+    /// Drops the notes that no loose byte needs. If a caller waits until there are many notes, the cost of a search is
+    /// spread over many stores, and memory does not grow with the steps.
     pub fn forget(&mut self, alloc: Global, region: &Region<'_>)
         requires region { IsWhole region.now }
         requires order { AreInOrder self.old.pending }

@@ -31,7 +31,7 @@ pub struct FlushNote {
 pub struct LineNote {
     // A store came since the last flush.
     pub stored: bool,
-    // The earliest one first. A flush is left out if no store came since the one before.
+    // The noted flushes, the earliest one first. A flush is left out if no store came since the flush before it.
     pub flushes: Row<FlushNote>,
 }
 
@@ -43,7 +43,7 @@ pub struct Pending {
 }
 
 impl Pending {
-    /// Nothing.
+    /// No stores and no lines.
     pub fn new(alloc: Global) -> Pending
         ensures stores { result.stores.items ≡ [] }
         ensures lines { (j : ℕ) → lines_of result.lines j ≡ None }

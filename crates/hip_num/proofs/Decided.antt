@@ -5,7 +5,8 @@ use Rattle.std.specs.Str.Parse.{IsNumeral, digits_value}
 use Rattle.hip_num.specs.Texts.{number_of}
 use Rattle.hip_num.specs.Laws.TextLaws.{number-sound, number-whole}
 
--- A value that is there exactly where a fact holds is there exactly where its test passes.
+-- If a test decides a fact, and an option has a value exactly if the fact holds, then it has the value exactly if the
+-- test passes.
 chosen : {T : Type 0} (r : Option T) (P : Type 0) (v : T) (test : Bool) → (test ≡ true → P) → (P → test ≡ true)
     → SomeIff r P v → r ≡ (if test then Some v else None)
 chosen None P v true sound whole h = absurd (h (sound refl))

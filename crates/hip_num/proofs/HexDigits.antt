@@ -1,4 +1,4 @@
--- Hexadecimal digits, written from the last one on.
+-- Hexadecimal digits, written from the last one to the first.
 use Rattle.std.proofs.Common.{ℕ, zero, suc, ◌+◌, ◌-◌, ◌*◌, ◌/◌, ◌%◌, ◌^◌, ◌<◌, ◌≤◌, ◌≡◌, true, false, eqb, List, [], ◌∷◌, length, take, drop, set, refl, sym, ap, subst, ◌∙◌, arith}
 use Rattle.std.specs.Fmt.{digits, digits_onto, digit_glyph}
 use Rattle.std.proofs.Math.Nat.{pow-suc, mod-eq_of_lt}
@@ -6,7 +6,7 @@ use Rattle.std.proofs.lemmas.List.{drop-set}
 use Rattle.std.proofs.lemmas.Nat.{div_below}
 use Rattle.std.proofs.lemmas.Bool.Decides.{nat_tests}
 
--- The last k digits of n at most, before those that are written.
+-- At most the last k digits of n, followed by the digits that are already written.
 pub onto : ℕ → ℕ → List ℕ → List ℕ
 onto k n written = digits_onto k 16 false n written
 
@@ -37,7 +37,7 @@ one_less at n h k =
     let room : n < 16 ^ at * 16 = subst (λ (x : ℕ). n < x) (ap (λ (x : ℕ). 16 ^ x) e ∙ pow-suc 16 at) k in
     subst (λ (x : ℕ). n / 16 < 16 ^ x) (sym f) (div_below n 16 (16 ^ at) (omega arith) room)
 
--- One digit more is written before the others, and the rest of the number is left.
+-- One more digit is written before the others, and the digits before it remain to be written.
 pub next_digit : (at rest x : ℕ) (text all : List ℕ) → 16 ≤ rest → 1 ≤ at → at < length text → x ≡ digit_glyph false (rest % 16) →
     onto (at + 49) rest (drop (at + 1) text) ≡ all → onto (at - 1 + 49) (rest / 16) (drop (at - 1 + 1) (set text at x)) ≡ all
 next_digit at rest x text all more some inside x_is is =
@@ -46,7 +46,7 @@ next_digit at rest x text all more some inside x_is is =
     rw (f, drop-set text at x inside, x_is)
     (sym (onto_step (at - 1 + 49) rest (drop (at + 1) text) more) ∙ ap (λ (k : ℕ). onto k rest (drop (at + 1) text)) (sym e) ∙ is)
 
--- The first digit is written.
+-- The digit that is written last is the first one, and completes the text.
 pub last_digit : (at rest x : ℕ) (text all : List ℕ) → rest < 16 → at < length text → x ≡ digit_glyph false rest →
     onto (at + 49) rest (drop (at + 1) text) ≡ all → drop at (set text at x) ≡ all
 last_digit at rest x text all less inside x_is is =

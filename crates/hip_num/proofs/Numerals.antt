@@ -13,7 +13,7 @@ after_ge : (base n : ℕ) (ds : List ℕ) → 0 < base → n ≤ digits_value_af
 after_ge base n [] h = omega arith
 after_ge base n (d ∷ ds) h = omega (arith, le-mul_of_pos_right n h, after_ge base (n * base + digit_value d) ds h)
 
--- The first digits write no greater number than all.
+-- The number of the first digits is at most the number of all digits.
 pub digits_value-take-le : (base i : ℕ) (ds : List ℕ) → 0 < base → digits_value base (take i ds) ≤ digits_value base ds
 digits_value-take-le base i ds h =
     subst (λ (xs : List ℕ). digits_value base (take i ds) ≤ digits_value base xs) (take-append-drop i ds)
@@ -25,7 +25,7 @@ digit_at base [] i h k = absurd (omega arith)
 digit_at base (d ∷ ds) zero h k = h.0
 digit_at base (d ∷ ds) (suc i) h k = digit_at base ds i h.1 (omega arith)
 
--- A number that is too great to be multiplied.
+-- If a number is too great to be multiplied by the base, one more digit makes it 2 ^ 64 or more.
 pub past : (value base d : ℕ) → 0 < base → (2 ^ 64 - 1) / base < value → 2 ^ 64 ≤ value * base + d
 past value base d h k =
     let product : 2 ^ 64 - 1 < value * base = (div-lt_iff_lt-mul h).0 k in

@@ -1,4 +1,4 @@
--- Quotients and rests of numbers with a sign that 64 bits hold.
+-- Quotients of numbers with a sign that fit 64 bits.
 use Rattle.std.proofs.Common.{ℕ, zero, suc, ◌-◌, ◌/◌, ◌^◌, ◌<◌, ◌≤◌, ◌≡◌, None, refl, sym, ap, ◌∙◌, arith}
 use Rattle.std.specs.Prelude.{ℤ, pos, negsuc, neg_ℤ, FitsSigned, int_div}
 use Rattle.std.specs.Int.{w64}
@@ -27,7 +27,7 @@ quotient_fits (negsuc a) (pos b) h apart = record { sfits = negated (suc a / b) 
 quotient_fits (negsuc a) (negsuc b) h apart =
     record { sfits = negatives a b (omega arith) (λ e f. apart (ap negsuc e) (ap negsuc f)) }
 
--- What an integer is that reads as z.
+-- An integer that reads as z with a sign is z modulo 2 ^ N.
 read_back : (w : Width) (n : ℕ) (z : ℤ) → n < modulus w → signed w n ≡ z → n ≡ wrapped w z
 read_back w n z h e = sym (wrapped-signed w n h) ∙ ap (wrapped w) e
 
@@ -36,7 +36,7 @@ no_least w a zero_is some e =
     let low : signed w a ≡ pos a = signed-low w a (omega arith) in
     cc
 
--- A division that is allowed is never of the least number by -1.
+-- A division that is allowed never divides the least number of 64 bits by -1.
 pub no_overflow : (w : Width) (a b : ℕ) → a < modulus w → b < modulus w → None ≡ division_fault w a b → signed w b ≡ negsuc 0 → signed w a ≡ negsuc (2 ^ 63 - 1) → ⊥
 no_overflow W1 a b h k allowed e f = no_least W1 a (read_back W1 a _ h f) (omega arith) f
 no_overflow W8 a b h k allowed e f = no_least W8 a (read_back W8 a _ h f) (omega arith) f

@@ -37,7 +37,7 @@ negative W16 n h = omega arith
 negative W32 n h = omega arith
 negative W64 n h = omega arith
 
--- The bits of a number with a sign.
+-- A number with a sign and its 64 bits are the same modulo 2 ^ N.
 pub bits_cast : (w : Width) (z : ℤ) → FitsSigned w64 z → bits w (cast_unsigned w64 z) ≡ bits w (wrapped w z)
 bits_cast w (pos n) h = same_bits _ _ refl (sym (mod-eq_of_lt (mod-lt n (modulus_pos w))))
 bits_cast w (negsuc n) h = same_bits _ _ refl (negative w n (omega arith))

@@ -10,7 +10,7 @@ use Rattle.hip_types.specs.Numbers.{bits, modulus, sign_of, signed, wrapped}
 use Rattle.hip_num.specs.declared.arithmetic.NumTrap.{NumTrap}
 use Rattle.hip_num.specs.declared.arithmetic.NumTrap.TheVariants.{DivZero, DivOverflow, ShiftRange}
 
--- The quotient, or a trap if the divisor is 0.
+-- The value of a division without a sign, or a trap if the divisor is 0.
 abbrev pub divided : ℕ → ℕ → Result ℕ NumTrap
 divided divisor value = if divisor == 0 then Err DivZero else Ok value
 
@@ -24,12 +24,12 @@ abbrev pub unless : Option NumTrap → ℕ → Result ℕ NumTrap
 unless (Some trap) value = Err trap
 unless None value = Ok value
 
--- A shift traps unless it is by less than the width.
+-- The value of a shift, or a trap if the amount is not less than the width.
 abbrev pub shifted : Width → ℕ → ℕ → Result ℕ NumTrap
 shifted w amount value = if nat_lt amount (bits_of w) then Ok value else Err ShiftRange
 
--- The value before it is taken modulo 2 ^ N. Quotients with a sign are rounded toward zero, and the rest has the
--- dividend's sign. Zeros come in at `lshr`, and the sign at `ashr`.
+-- The value before it is taken modulo 2 ^ N. Quotients with a sign are rounded toward zero, and the remainder has the
+-- dividend's sign. `lshr` shifts zeros in, and `ashr` copies of the sign.
 abbrev pub value_of : BinaryOp → Width → ℕ → ℕ → Result ℕ NumTrap
 value_of Add w a b = Ok (a + b)
 value_of Sub w a b = Ok (a + modulus w - b)

@@ -17,7 +17,7 @@ pub fn widen(a: Bits, to: Width, signed: bool) -> Bits
     }
 }
 
-/// The number modulo 2 to a smaller width.
+/// The number modulo 2^N, where N is the smaller width.
 pub fn narrow(a: Bits, to: Width) -> Bits
     requires { bits_of to < bits_of a.width }
     ensures { result ≡ narrowed a to }

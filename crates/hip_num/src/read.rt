@@ -3,8 +3,8 @@ ghost use Rattle.std.specs.Option.{SomeIff};
 ghost use Rattle.std.specs.Str.Parse.{IsNumeral, digits_value};
 ghost use Rattle.hip_num.specs.Texts.{decimal_of, hex_of, number_of, signed_of};
 
-/// The number that one or more decimal digits write. None if a byte is no digit, if there is none, and if the number is
-/// 2^64 or more.
+/// The number that one or more decimal digits write. None if a byte is no digit, if there is no byte, or if the number
+/// is 2^64 or more.
 pub fn read_decimal(text: &[u8]) -> Option<u64>
     ensures { result ≡ decimal_of text.now }
 {

@@ -15,7 +15,7 @@ pub fn signed_value(a: Bits) -> i64
     }
 }
 
-/// The integer that a number with a sign is modulo 2 to the width.
+/// A number with a sign modulo 2^N, as an integer of width N.
 pub fn from_signed(width: Width, value: i64) -> Bits
     ensures { result ≡ bits width (wrapped width value) }
 {

@@ -47,7 +47,7 @@ pub fn hex_into(buf: &mut [u8; 40], v: u64) -> usize
     end
 }
 
-/// Writes the digits of a number to base 16 at the end, and answers where they begin.
+/// Writes the digits of a number to base 16 at the end of `text`, and answers where they begin.
 fn hex_digits(text: &mut [u8; 16], v: u64) -> usize
     ensures text { drop result text.new ≡ digits 16 false v }
     ensures start { result < 16 }

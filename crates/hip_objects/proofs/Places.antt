@@ -1,4 +1,4 @@
--- Where globals lie, and which of them has a byte.
+-- Where globals are, and which of them has a byte.
 use Rattle.std.proofs.Common.{ℕ, zero, suc, ◌+◌, ◌<◌, ◌≤◌, ◌^◌, ◌≡◌, Bool, true, false, cond, nat_lt, List, [], ◌∷◌, ◌++◌, Some, drop, length, get_or, slice_index_or, append-nil, append_assoc, refl, sym, ap, ◌∙◌, arith, subst}
 use Rattle.std.proofs.lemmas.List.{at_drop_more}
 use mathlib.Core.Bool.{beq}
@@ -24,7 +24,7 @@ later : (b : Bool) (at : ℕ) (g : GlobalVar) → at ≤ (if b then global_start
 later true at g = omega arith
 later false at g = omega arith
 
--- Globals end no earlier than they are laid from.
+-- The globals do not end before the address from which they are laid.
 end_of-ge : (kind : Bool) (at : ℕ) (gs : List GlobalVar) → at ≤ end_of kind at gs
 end_of-ge kind at [] = omega arith
 end_of-ge kind at (g ∷ gs) =
@@ -87,7 +87,7 @@ here-at : (globals : List GlobalVar) (base n v p : ℕ) (g : GlobalVar) (gs : Li
     address_in globals base n ≡ (if g.persistent then global_start p g else global_start v g)
 here-at globals base n v p g gs left = ap (λ m. address_in globals base m) (let e : n ≡ n + 0 = omega arith in e) ∙ left.at 0 (omega arith)
 
--- An address below the base lies in no persistent global.
+-- An address before the persistent globals is in none of them: the search finds what it finds among the volatile ones.
 pub volatile-found : (globals : List GlobalVar) (base a n v p : ℕ) (gs : List GlobalVar) → AreLeft globals base n v p gs → a < p →
     global_from globals base a n gs ≡ number_at a (places_from false v n gs)
 volatile-found globals base a n v p [] left low = refl
@@ -102,7 +102,8 @@ volatile-found globals base a n v p (g ∷ gs) left low =
     go true e = ap (λ c. cond c (Some n) (global_from globals base a (suc n) gs)) (contains-before (global_start p g) (size_of g.ty) a (omega (arith, low))) ∙ e
     go false e = ap (λ x. cond (range_contains (global_start v g) (size_of g.ty) a) (Some n) x) e
 
--- An address from the end of the volatile globals on lies in none of them.
+-- An address at or after the end of the volatile globals is in none of them: the search finds what it finds among the
+-- persistent ones.
 pub persistent-found : (globals : List GlobalVar) (base a n v p : ℕ) (gs : List GlobalVar) → AreLeft globals base n v p gs → end_of false v gs ≤ a →
     global_from globals base a n gs ≡ number_at a (places_from true p n gs)
 persistent-found globals base a n v p [] left high = refl

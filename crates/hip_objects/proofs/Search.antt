@@ -1,5 +1,5 @@
--- The search among things that lie one after the other: of those that begin at an address or before it, the last one
--- alone may have the byte there.
+-- The search among items that follow one another: of the items that begin at or before an address, only the last one
+-- may have the byte there.
 use Rattle.std.proofs.Common.{ℕ, zero, suc, ◌+◌, ◌<◌, ◌≤◌, ◌≡◌, Bool, true, false, cond, nat_le, nat_lt, List, [], ◌∷◌, ◌++◌, Some, None, length, slice_index_or, length-append, refl, sym, ap, ◌∙◌, ◌⊎◌, inl, inr, arith, subst}
 use Rattle.std.proofs.Math.Seq.{get_or-append_seam}
 use Rattle.std.specs.List.Sorted.{IsPartitionPoint, IsPartitionedBy}
@@ -21,7 +21,7 @@ pub split : (i k : ℕ) → (i < k) ⊎ ((i ≡ k) ⊎ (k < i))
 split i k = grind arith
 
 module _ {X B : Type 0} (start size : X → ℕ) (stated : X → B) where
-  -- None of them has the byte.
+  -- No item has the byte at the address.
   abbrev pub NoneHas : ℕ → List X → Type 0
   NoneHas a xs = (i : ℕ) (d : X) → i < length xs → range_contains (start (slice_index_or xs i d)) (size (slice_index_or xs i d)) a ≡ false
 

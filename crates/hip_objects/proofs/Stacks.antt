@@ -17,7 +17,7 @@ use Rattle.hip_objects.proofs.Search.{contains-before, first_at-none, in_order-p
 abbrev pub site_first : ℕ → List Block → Option Site
 site_first a xs = first_at (λ b. b.addr) (λ b. b.size) (λ b. b.site) a xs
 
--- What comes of one block, where it has the byte or not.
+-- The block as an object, if it has the byte.
 abbrev chosen : Site → Bool → Option Object
 chosen site b = cond b (Some (objects.Slot site)) None
 
@@ -34,7 +34,7 @@ slot_in-append (x ∷ xs) ys a =
     over (range_contains x.addr x.size a) _ _ _ (slot_in-append xs ys a)
     ∙ sym (else-cond (range_contains x.addr x.size a) (objects.Slot x.site) (slot_in xs a) (slot_in ys a))
 
--- Of the oldest block, and the ones after it.
+-- The block that has a byte is among the newer blocks, or else it is the oldest one.
 object_in-older : (x : Block) (xs : List Block) (a : ℕ) →
     object_in (slots_of (x ∷ xs)) a ≡ or_else (object_in (slots_of xs) a) (chosen x.site (range_contains x.addr x.size a))
 object_in-older x xs a =
@@ -84,7 +84,7 @@ nonempty-newest (x ∷ xs) =
     go true = refl
     go false = refl
 
--- No address lies in a block with no byte.
+-- No address is in a block with no byte.
 pub slot_in-nonempty : (xs : List Slot) (a : ℕ) → slot_in (nonempty xs) a ≡ slot_in xs a
 slot_in-nonempty [] a = refl
 slot_in-nonempty (x ∷ xs) a = go (nat_lt 0 x.size) refl (slot_in-nonempty xs a)

@@ -13,7 +13,7 @@ use Rattle.hip_objects.specs.declared.blocks.Block.{Block}
 abbrev pub slot_of : Block → Slot
 slot_of b = record { addr = b.addr; size = b.size; site = b.site }
 
--- The same for each block, in their order.
+-- Each block of the code as a block of a frame, in their order.
 abbrev pub slots_of : List Block → List Slot
 slots_of bs = map slot_of bs
 

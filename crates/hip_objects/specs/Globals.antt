@@ -7,12 +7,12 @@ use Rattle.hip_objects.specs.Order.{AreInOrder, first_at}
 use Rattle.hip_objects.specs.declared.globals.GlobalTable.TheInside.{Inside}
 use Rattle.hip_objects.specs.declared.globals.Place.{Place}
 
--- Where a global lies that is laid from a place on, and its number.
+-- The place of a global that is laid from an address on, with the number of the global.
 abbrev pub place_of : ℕ → GlobalVar → ℕ → Place
 place_of at g number = record { start = global_start at g; size = (shape g.ty).size; number = number }
 
--- Where the persistent ones of these globals lie, or the others, if they are laid from a place on. The first of these
--- globals has number n.
+-- The places of the persistent globals in a list, or of the volatile ones, if they are laid from an address on. The
+-- first global of the list has number n.
 abbrev pub places_from : Bool → ℕ → ℕ → List GlobalVar → List Place
 places_from persistent at n [] = []
 places_from persistent at n (g ∷ gs) =
@@ -24,11 +24,11 @@ places_from persistent at n (g ∷ gs) =
 abbrev pub AreLaid : List Place → Type 0
 AreLaid ps = AreInOrder (λ p. p.start) (λ p. p.size) ps
 
--- The number of the first one that has the byte at an address.
+-- The number of the first global that has the byte at an address.
 abbrev pub number_at : ℕ → List Place → Option ℕ
 number_at a ps = first_at (λ p. p.start) (λ p. p.size) (λ p. p.number) a ps
 
--- The base of the region, and where the volatile globals and the persistent ones lie.
+-- The base of the region, and the places of the volatile globals and of the persistent ones.
 pub record Laid : Type 0 where
   pub base : ℕ
   pub volatile : List Place

@@ -15,8 +15,8 @@ pub struct Block {
     pub site: Site,
 }
 
-/// The blocks on the stack that have a byte, the oldest first, each after the ones before it. No address lies in an empty
-/// block, so an empty one takes no memory.
+/// The blocks on the stack that have at least one byte, the oldest first, each after the ones before it. An empty block
+/// has no byte at any address, so the list does not keep it.
 #[derive(Drop)]
 pub struct Blocks {
     blocks: Vec<Block>,

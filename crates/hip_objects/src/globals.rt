@@ -70,7 +70,7 @@ impl GlobalTable {
     }
 }
 
-// Where the persistent ones of the globals lie, or the others, if they are laid from a place on.
+// The places of the persistent globals, or of the volatile ones, if they are laid from an address on.
 fn places(
     alloc: Global,
     globals: &[GlobalVar],
@@ -92,7 +92,7 @@ fn places(
     Ok(places)
 }
 
-// Lays a global from a place on, and answers where it ends.
+// Lays a global from an address on, and returns the address where it ends.
 fn lay(places: &mut Vec<Place>, at: u64, global: &GlobalVar, number: usize) -> Result<u64, NoMemory>
     requires fits { Fits global.now.ty }
     requires end { global_start at global.now + size_of global.now.ty < 2 ^ 64 }

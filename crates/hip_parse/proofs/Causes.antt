@@ -1,4 +1,4 @@
--- A refusal says its fault.
+-- If the text is refused for a fault, this is the cause of the refusal that states the fault.
 use Rattle.std.proofs.Common.{ℕ, List}
 use Rattle.hip_grammar.specs.declared.fault.Fault.{Fault}
 use Rattle.hip_grammar.specs.declared.fault.Fault.TheVariants as faults

@@ -28,7 +28,7 @@ module _ (X P : Type 0) (kh : Tok → Bool) (rh : Reader Fault X) (kf : Tok → 
   part_ends errors.Memory front ts x m after total e h g q so_far = tt
   part_ends (errors.Refused why) front ts x m after total e h g q so_far = leader_part_fails Fault X P kh rh kf rf some within front ts x m (why, after) total e h g q so_far
 
--- A loop that takes up each part into a value.
+-- The same for a loop that folds each part into a value.
 pub ends_up : (A S : Type 0) (take_up : S → A → S) (k : Tok → Bool) (r : Reader Fault A) (some : TakesSome r) (e : ReadError) (s : S) (ts after : List At) (total : Outcome Fault S) → next k ts ≡ true → Fails e (r ts) after → taken_up take_up s (many_at k r ts) ≡ total → Fails e total after
 ends_up A S take_up k r some errors.Memory s ts after total e h so_far = tt
 ends_up A S take_up k r some (errors.Refused why) s ts after total e h so_far = fails_up Fault A k r some S take_up s ts (why, after) total e h so_far

@@ -1,4 +1,4 @@
--- Parts that take a token at least.
+-- Parts that take at least one token.
 use Rattle.std.proofs.Common.{◌≡◌, ◌≤◌, ℕ, List, Option, Ok, length}
 use Rattle.hip_tokens.specs.Tokens.{At}
 use Rattle.hip_types.specs.declared.number.BinaryOp.{BinaryOp}

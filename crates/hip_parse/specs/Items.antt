@@ -3,7 +3,7 @@ use Rattle.hip_grammar.specs.Text.{Item, GlobalItem, ExternItem, FunctionItem, D
 use Rattle.hip_parse.specs.declared.items.Item.{Item as CodeItem}
 use Rattle.hip_parse.specs.declared.items.Item.TheVariants as code
 
--- The item of the grammar that an item of the code is.
+-- An item of the code as an item of the grammar.
 abbrev pub item_of : CodeItem → Item
 item_of (code.Global g) = GlobalItem g
 item_of (code.Extern e) = ExternItem e

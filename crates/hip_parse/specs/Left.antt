@@ -29,8 +29,8 @@ abbrev pub Gives : {X Y : Type 0} → (X → Y) → Result X (Option Fault) → 
 Gives view (Ok x) read after = read ≡ Ok (view x, after)
 Gives view (Err why) read after = read ≡ Err (why, after)
 
--- The failure of a method that takes memory: a refusal as above, or out of memory, where nothing is said of the
--- reading.
+-- The failure of a method that takes memory: a refusal, which is that of the reading, or out of memory, which states
+-- nothing of the reading.
 abbrev pub Fails : {Y : Type 0} → ReadError → Outcome Fault Y → List At → Type 0
 Fails errors.Memory read after = Unit {0}
 Fails (errors.Refused why) read after = read ≡ Err (why, after)

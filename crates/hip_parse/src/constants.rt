@@ -120,7 +120,7 @@ impl<'a> Parser<'a> {
         }
     }
 
-    /// A constant under `ptr`, with at most `depth` `getelementptr` in one another.
+    /// A constant under `ptr`, with at most `depth` nested `getelementptr`.
     #[cycle(pointers)]
     #[tactic(auto, unfolding(hip_grammar::specs::Grammar::pointer_within, hip_grammar::specs::Grammar::pointer_by))]
     pub(crate) fn pointer(&mut self, alloc: Global, depth: u64) -> Result<Const, ReadError>

@@ -20,7 +20,7 @@ pub(crate) trait Production: Copy {
 
     ghost part: { Self → Part Fault Self.Value };
 
-    /// Reads it from the next token on.
+    /// Reads the production from the next token on.
     fn read<'a>(self, parser: &mut Parser<'a>, alloc: Global) -> Result<Self::Value, ReadError>
         ensures { Takes (λ x. x) result ((part self).read (left parser.old)) (left parser.new) };
 
@@ -36,18 +36,18 @@ pub(crate) trait Repeated: Copy {
 
     ghost reading: { Self → Reader Fault Self.Item };
 
-    /// Whether the next token begins one.
+    /// Whether the next token begins such a part.
     fn is_next<'a>(self, parser: &Parser<'a>) -> bool
         ensures { result ≡ next (begins self) (left parser.now) };
 
-    /// Reads it from the next token on.
+    /// Reads the part from the next token on.
     fn read_next<'a>(self, parser: &mut Parser<'a>, alloc: Global) -> Result<Self::Item, ReadError>
         ensures { Takes (λ x. x) result (reading self (left parser.old)) (left parser.new) };
 
     ghost some: { (x : Self) → TakesSome (reading x) };
 }
 
-/// A comma and one more.
+/// A comma, and then a production.
 #[derive(Clone, Copy)]
 struct Another<P> {
     of: P,

@@ -95,7 +95,7 @@ pub fn parse(alloc: Global, text: &[u8]) -> Result<Program, ParseRefusal>
     ensures read { IfOk result (λ program. Reads text.now program) }
     // It is also what its canonical text reads as.
     ensures spelled { IfOk result (λ program. IsSpelled program) }
-    // A text that reads as a program is answered with it, unless memory runs out.
+    // If the text reads as a program, the answer is this program, unless memory runs out.
     ensures only { (program : Program) → Reads text.now program → GivesProgram result program }
     // Each refusal has its cause.
     ensures refused { IfErr result (λ e. IsCause text.now e) }

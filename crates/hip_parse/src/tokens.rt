@@ -1,4 +1,4 @@
-//! The numbers of a text, by their places.
+//! The values of the numbers in a text, which depend on their places.
 
 ghost use Rattle.std.specs.Prelude.{◌≡◌};
 ghost use Rattle.hip_rules.specs.Part.{token};

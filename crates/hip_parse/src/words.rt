@@ -1,4 +1,4 @@
-//! Words with a meaning, by their places.
+//! The meanings of words, which depend on their places.
 
 ghost use Rattle.std.specs.Prelude.{◌≡◌, ℕ, List, Option};
 ghost use Rattle.hip_rules.specs.Reader.{next};
@@ -197,7 +197,7 @@ impl Words for Links {
     }
 }
 
-/// Whether an address has a meaning.
+/// The words for an address that is not significant.
 #[derive(Clone, Copy)]
 pub(crate) struct Unnamed;
 

@@ -1,4 +1,4 @@
-/// How many first parts of its stores a cache line has in a crash image.
+/// How many parts of its stores, counted from the first, a cache line has in a crash image.
 #[derive(Debug, Clone, Copy, PartialEq, Eq, Drop)]
 pub struct Pick {
     /// The line's number in the region, counted from 0.
@@ -6,12 +6,13 @@ pub struct Pick {
     pub upto: u64,
 }
 
-/// From how many first parts of its stores to how many a crash may leave in a cache line.
+/// The bounds of a cache line: the least and the greatest number of parts, counted from the first, that a crash may
+/// leave in it.
 #[derive(Clone, Copy, PartialEq, Eq, Drop)]
 pub struct Bounds {
-    /// How many are durable.
+    /// The number of durable parts.
     pub least: u64,
-    /// How many there are.
+    /// The number of all parts.
     pub most: u64,
 }
 

@@ -1,4 +1,4 @@
--- In a sound program a call is of a defined function exactly where it is of no external one.
+-- In a sound program a call is of a defined function exactly if it is not of an external one.
 use Rattle.std.proofs.Common.{◌≡◌, ◌⊎◌, ℕ, suc, Bool, true, false, cond, List, [], ◌∷◌, length, count_by, Option, Some, None, is_some, is_none, option_map, refl, sym, ap, ◌∙◌, subst, inl, inr}
 use Rattle.std.specs.Prelude.{option_and_then, slice_get}
 use Rattle.std.specs.List.{flat_map, filter}
@@ -25,7 +25,7 @@ use Rattle.hip_runs.specs.Found.Marks.{pointer_arg}
 use Rattle.hip_runs.specs.Found.Scores.{operands_at}
 use Rattle.hip_plan.specs.Worths.{is_pointer}
 
--- Where an instruction stands.
+-- The function and the block that have an instruction at a site.
 pub record Stands (P : Program) (s : Site) (i : Instr) : Type 0 where
   pub function : Function
   pub block : Block
@@ -45,7 +45,7 @@ stands P s i e = in_program (slice_get P.functions s.function) refl e
     in_program None f g = absurd (let z : ⊥ = cc in z)
     in_program (Some fn) f g = in_function fn f (slice_get fn.blocks s.block) refl g
 
--- A function's name is no external function's.
+-- No function of a sound program has the name of an external function.
 free : (P : Program) → IsSound P → (name : List ℕ) (n : ℕ) → function_number P name ≡ Some n → call_of name ≡ None
 free P sound name n e =
     let there = function_number-there P name n e in

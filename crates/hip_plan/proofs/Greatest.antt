@@ -36,7 +36,7 @@ module _ (marks : Marks) (site : Site) where
   greatest-end [] k = refl
   greatest-end (o ∷ os) k = greatest-end os k
 
-  -- One operand more.
+  -- The greatest worth after one more operand.
   pub greatest_more : (os : List Operand) (i : ℕ) (best : Option ℤ) (w : ℤ) → i < length os → w ≡ worth marks site i →
       joined (greatest best w) (greatest_worth marks site (i + 1) (drop (i + 1) os)) ≡ joined best (greatest_worth marks site i (drop i os))
   greatest_more os i best w h e =
@@ -45,7 +45,7 @@ module _ (marks : Marks) (site : Site) where
       ∙ ap (λ n. joined best (greater (worth marks site i) (greatest_worth marks site n (drop n os)))) (add-one i)
       ∙ ap (joined best) (sym (greatest-drop os i i h))
 
-  -- There is none exactly where there is no operand.
+  -- There is no greatest worth exactly if there is no operand.
   pub no_greatest : (os : List Operand) → IsNone (greatest_worth marks site 0 os) ↔ (os ≡ [])
   no_greatest [] = ((λ h. refl), (λ e. refl))
   no_greatest (o ∷ os) = ((λ h. absurd (let e = some_greater (worth marks site 0) (greatest_worth marks site 1 os) in let z : ⊥ = cc in z)), (λ e. cc))

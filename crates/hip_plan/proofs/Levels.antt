@@ -10,7 +10,7 @@ use Rattle.hip_runs.specs.declared.report.Report.{Report}
 use Rattle.hip_repairs.specs.Choice.{Candidate, best_of, best_on, better, choice, is_better, level_for}
 
 module _ (P : Program) (found : Findings) where
-  -- One level more.
+  -- The best level after one more level.
   best_more : (best : Candidate) (closed i : ℕ) (call : Site) (calls : List Site) → i < closed →
       best_of P found best (i + 1) (closed - i) (call ∷ calls)
       ≡ best_of P found (better best (record { level = i + 1; score = score P found call })) (i + 1 + 1) (closed - (i + 1)) calls
@@ -46,7 +46,7 @@ module _ (P : Program) (found : Findings) where
   none_left best level (suc more) (x ∷ calls) (inl e) = absurd (omega arith)
   none_left best level (suc more) (x ∷ calls) (inr e) = absurd (let z : ⊥ = cc in z)
 
-  -- No call is left, or none that had returned.
+  -- If no call is left, or none that had returned, the best level so far is the best one.
   pub best_end : (best : Candidate) (closed i : ℕ) (calls : List Site) → (closed ≤ i) ⊎ (calls ≡ []) → best_of P found best (i + 1) (closed - i) calls ≡ best
   best_end best closed i calls (inl h) = none_left best (i + 1) (closed - i) calls (inl (let none : closed - i ≡ 0 = omega arith in none))
   best_end best closed i calls (inr e) = none_left best (i + 1) (closed - i) calls (inr e)

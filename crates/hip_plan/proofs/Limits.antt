@@ -59,7 +59,7 @@ module _ (P : Program) (found : Findings) (limit : ℤ) (is : IsLimit found.mark
 
 -- ---- limits of worths
 
--- The number of marks.
+-- No worth exceeds the number of marks.
 pub marks_limit : (marks : Marks) → IsLimit marks (pos (length marks.pointed))
 marks_limit marks site operand =
     let none : IsWithin 0 (pos 0) = record { least = omega (arith, ints); most = omega (arith, ints) } in
@@ -81,7 +81,7 @@ found_at_most n (e ∷ es) key h all =
     by true here later = here
     by false here later = later
 
--- The greatest worth in the table.
+-- No worth exceeds the greatest worth in the table.
 pub table_limit : (entries : List (OperandKey × ℤ)) (greatest : ℤ) (marks : Marks) → IsTable entries greatest marks → IsLimit marks greatest
 table_limit entries greatest marks table site operand =
     let bounds = table.is_greatest.bounds in
@@ -90,7 +90,7 @@ table_limit entries greatest marks table site operand =
 
 -- ---- the greatest worth in the table
 
--- What bounds the greatest so far and the worths that are left bounds all of them.
+-- A number bounds the greatest worth so far and the worths that are left exactly if it bounds all of them.
 abbrev pub AreBounds : ℤ → List (OperandKey × ℤ) → List (OperandKey × ℤ) → Type 0
 AreBounds so_far left entries = (n : ℤ) → ((so_far ≤ℤ n) × All (λ e. e.1 ≤ℤ n) left) ↔ IsBound entries n
 

@@ -57,7 +57,7 @@ pub record HasAsked (P : Program) (test : Site → Bool) (list : List Site) : Ty
 abbrev pub asked_by : (Report → Site → Bool) → List Report → Site → Bool
 asked_by asks reports s = list_any (λ r. asks r s) reports
 
--- The list has the program's sites that all these reports ask for, except those that the reports left ask for.
+-- The list has the program's sites that all these reports ask for, perhaps without those that the reports left ask for.
 pub record HasAllBut (P : Program) (asks : Report → Site → Bool) (all left : List Report) (list : List Site) : Type 0 where
   pub has : (s : Site) → (asked_by asks left s && is_there P s) || has_site list s ≡ asked_by asks all s && is_there P s
 
@@ -73,7 +73,7 @@ all_left P asks all left list e none =
           ∙ ap (λ rs. asked_by asks rs s && is_there P s) e;
     }
 
--- One report more.
+-- The list after one more report.
 pub asked_more : (P : Program) (asks : Report → Site → Bool) (all left rest : List Report) (r : Report) (o : Option Site) (old new : List Site) → left ≡ r ∷ rest →
     ((s : Site) → is_site o s ≡ asks r s) → ((s : Site) → has_site new s ≡ (is_site o s && is_there P s) || has_site old s) →
     HasAllBut P asks all left old → HasAllBut P asks all rest new
@@ -112,7 +112,7 @@ pub whole : (P : Program) (asks : Report → Site → Bool) (all left : List Rep
 whole P asks all left list none asked up =
     listed P (asked_by asks all) list (record { has = λ s. ap (λ rs. (asked_by asks rs s && is_there P s) || has_site list s) (sym none) ∙ asked.has s }) up
 
--- A plan whose lists are the defined ones.
+-- A plan with the lists of the defined plan is that plan.
 pub plan_is : (P : Program) (found : Findings) (flushes fences hoists : List Site) → flushes ≡ (plan_for P found).flush_after → fences ≡ (plan_for P found).fence_after → hoists ≡ (plan_for P found).hoist →
     record { flush_after = flushes; fence_after = fences; hoist = hoists } ≡ plan_for P found
 plan_is P found flushes fences hoists f g h =

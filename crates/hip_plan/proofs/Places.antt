@@ -1,4 +1,4 @@
--- The sites of a program are those where an instruction stands.
+-- The sites of a program are those at which it has an instruction.
 use Rattle.std.proofs.Common.{◌≡◌, ◌⊎◌, inl, inr, ℕ, suc, ◌+◌, true, List, [], ◌∷◌, Option, Some, None, is_some, refl, sym, ap, ◌∙◌, arith}
 use Rattle.std.specs.Cmp.{both_ways}
 use Rattle.std.specs.Prelude.{option_and_then, slice_get}

@@ -8,11 +8,11 @@ use Rattle.hip_runs.specs.Found.Scores.{is_marked, worth_in, worth_of}
 use Rattle.hip_runs.specs.declared.report.Mark.{Mark}
 use Rattle.hip_plan.specs.Worths.{added_by}
 
--- A sum that fits is what is computed of its bits.
+-- A sum that fits 128 bits is what the code computes from the bits of its second number.
 pub folded : (a r : ℤ) → FitsSigned w128 r → FitsSigned w128 (a +ℤ r) → to_z w128 (of_z w128 (a +ℤ to_z w128 (of_z w128 r))) ≡ a +ℤ r
 folded a r fits sum_fits = ap (λ z. to_z w128 (of_z w128 (a +ℤ z))) (to_z-of_z w128 r fits) ∙ to_z-of_z w128 (a +ℤ r) sum_fits
 
--- And so is one of two numbers that were computed of their bits.
+-- A sum that fits 128 bits is what the code computes from the bits of both numbers.
 pub both_folded : (a r : ℤ) → FitsSigned w128 a → FitsSigned w128 r → FitsSigned w128 (a +ℤ r) →
     to_z w128 (of_z w128 (to_z w128 (of_z w128 a) +ℤ to_z w128 (of_z w128 r))) ≡ a +ℤ r
 both_folded a r here fits sum_fits = ap (λ z. to_z w128 (of_z w128 (z +ℤ to_z w128 (of_z w128 r)))) (to_z-of_z w128 a here) ∙ folded a r fits sum_fits
@@ -48,7 +48,7 @@ module _ (hit : List ℕ) (site : Site) (operand : ℕ) where
       go true = worth_small (is_marked hit m.object)
       go false = record { least = omega (arith, ints); most = omega (arith, ints) }
 
-  -- One mark more.
+  -- The worth by the marks that are left, after one mark of them.
   pub worth_more : (marks : List Mark) (i : ℕ) (d : Mark) (s r : ℤ) → i < length marks → r ≡ added_by hit (get_or marks i d) site operand →
       worth_in hit site operand (drop i marks) s ≡ worth_in hit site operand (drop (i + 1) marks) (s +ℤ r)
   worth_more marks i d s r h e =
@@ -59,7 +59,7 @@ module _ (hit : List ℕ) (site : Site) (operand : ℕ) where
       ∙ ap (λ n. worth_in hit site operand (drop n marks) (cond t (s +ℤ w) s)) (sym (add-one i))
       ∙ ap (λ z. worth_in hit site operand (drop (i + 1) marks) z) (add-cond t s w ∙ ap (λ z. s +ℤ z) (sym e))
 
-  -- One mark more, at the end.
+  -- The worth with one more mark at the end.
   pub worth-append : (ms : List Mark) (m : Mark) (s : ℤ) → worth_in hit site operand (ms ++ m ∷ []) s ≡ worth_in hit site operand ms s +ℤ added_by hit m site operand
   worth-append [] m s = add-cond (same_site m.site site && nat_eq m.operand operand) s (worth_of (is_marked hit m.object))
   worth-append (x ∷ ms) m s = worth-append ms m (cond (same_site x.site site && nat_eq x.operand operand) (s +ℤ worth_of (is_marked hit x.object)) s)

@@ -35,7 +35,7 @@ key-is_eq a b = then-is_eq (site_cmp a.0 b.0) (nat_cmp a.1 b.1) ∙ ap₂ (λ (x
 pub worth_found : (entries : List (OperandKey × ℤ)) (key : OperandKey) → lookup (is_at (key_cmp key)) entries ≡ lookup (same_operand key) entries
 worth_found entries key = λ i. lookup (λ k. key-is_eq key k i) entries
 
--- Marked by one list exactly where by another with the same numbers.
+-- An object is marked by one list exactly if it is marked by another with the same numbers.
 pub marked_alike : (xs ys : List ℕ) → ((n : ℕ) → list_any (nat_eq n) xs ≡ list_any (nat_eq n) ys) → (o : Object) → is_marked xs o ≡ is_marked ys o
 marked_alike xs ys same (objects.Global g) = same g
 marked_alike xs ys same (objects.Slot s) = refl

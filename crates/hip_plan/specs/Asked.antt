@@ -13,7 +13,7 @@ use Rattle.hip_plan.specs.declared.plan_sites.PlanSites.{PlanSites}
 abbrev pub store_at : ℕ → List Site → Option Site
 store_at level path = cond (nat_eq level 0) (slice_get path 0) None
 
--- The site of the call of that level.
+-- The site of the call of this level, if the report is repaired at a call.
 abbrev pub call_at : ℕ → List Site → Option Site
 call_at level path = cond (nat_eq level 0) None (slice_get path level)
 
@@ -37,11 +37,12 @@ hoist_asked MissingFence level path = None
 hoist_asked MissingFlush level path = call_at level path
 hoist_asked MissingBoth level path = call_at level path
 
--- Whether an instruction of the program stands at the site.
+-- Whether the program has an instruction at the site.
 abbrev pub is_there : Program → Site → Bool
 is_there P s = is_some (instr_of P s)
 
--- A set of sites after one was put in; it stays as it is if there is no site or the program does not have it.
+-- A set of sites after a site was put in. It stays as it is if there is no site, or if the program has no instruction
+-- there.
 abbrev pub puts : Program → Option Site → List Site → List Site → Type 0
 puts P asked old new = (s : Site) → has_site new s ≡ ((is_site asked s && is_there P s) || has_site old s)
 

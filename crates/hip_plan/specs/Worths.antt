@@ -51,7 +51,7 @@ OperandKey = Site × ℕ
 abbrev pub same_operand : OperandKey → OperandKey → Bool
 same_operand a b = same_site a.0 b.0 && nat_eq a.1 b.1
 
--- The worth in the table of an operand; 0 if it has none.
+-- The worth that the table gives an operand; 0 if it gives none.
 abbrev pub worth_among : List (OperandKey × ℤ) → OperandKey → ℤ
 worth_among entries key = unwrap_or (lookup (same_operand key) entries) (pos 0)
 
@@ -73,7 +73,7 @@ pub record IsGreatest (entries : List (OperandKey × ℤ)) (greatest : ℤ) : Ty
   pub bounds : IsBound entries greatest
   pub least : (n : ℤ) → IsBound entries n → greatest ≤ℤ n
 
--- The table has the worths by these marks, and this is the greatest of them and of 0, which has 128 bits.
+-- The table has the worths by these marks. The greatest of them and of 0 is this number, which fits 128 bits.
 pub record IsTable (entries : List (OperandKey × ℤ)) (greatest : ℤ) (marks : Marks) : Type 0 where
   pub worths : HasWorths entries marks.hit marks.pointed
   pub is_greatest : IsGreatest entries greatest

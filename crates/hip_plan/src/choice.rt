@@ -20,7 +20,7 @@ fn is_better(best: Option<i128>, score: Option<i128>) -> bool
     }
 }
 
-/// Whether no score can exceed this one, if no worth is above a limit.
+/// Whether no score can exceed the best one, given a limit that no worth exceeds.
 fn is_at_limit(best: Option<i128>, limit: i128) -> bool
     ensures { result ≡ is_at_limit best limit }
 {

@@ -13,7 +13,7 @@ pub struct PlanSites {
     pub hoist: SiteSet,
 }
 
-// By hand, so that the drop of the sets is proved here and not again in each crate that lets them go.
+// Written by hand, so that the drop of the sets is proved here and not again in each crate that drops them.
 impl Drop for PlanSites {
     fn drop(self) {
         let PlanSites {

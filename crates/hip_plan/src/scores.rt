@@ -27,7 +27,7 @@ fn pointer_count(args: &[Arg]) -> usize
     args.iter().filter(|arg| is_pointer(arg)).count()
 }
 
-/// How many pointer operands a call has; one of an external function has none.
+/// How many pointer operands a call has; a call of an external function has none.
 fn call_operand_count(callee: &[u8], args: &[Arg]) -> usize
     ensures { result ≡ cond (is_none (call_of callee.now)) (count_by is_pointer args.now) 0 }
 {

@@ -19,11 +19,11 @@ type OperandKey = (Site, usize);
 pub struct WorthTable<'a> {
     found: &'a SharedFindings,
     worths: BTreeMap<OperandKey, i128>,
-    // The greatest worth, or 0, which is that of an operand without marks.
+    // The greatest worth; at least 0, which is the worth of an operand without marks.
     greatest: i128,
 }
 
-// By hand, so that each exit of a function that has a table is one call.
+// Written by hand, so that a function with a table drops it at each exit by one call.
 impl Drop for WorthTable<'_> {
     fn drop(self) {
         let WorthTable {
@@ -70,7 +70,7 @@ fn is_marked(hit: &BTreeSet<usize>, object: Object) -> bool
     }
 }
 
-/// The worth in the table of an operand; 0 if it has none.
+/// The worth that the table gives an operand; 0 if it gives none.
 fn worth_among(worths: &BTreeMap<OperandKey, i128>, key: OperandKey) -> i128
     ensures { result ≡ worth_among worths.now.entries key }
 {
@@ -101,7 +101,7 @@ fn greater_one(a: i128, b: i128) -> i128
     if a < b { b } else { a }
 }
 
-/// The greatest worth in the table; 0 if none is above it.
+/// The greatest worth in the table, or 0 if no worth is above 0.
 fn greatest_among(worths: &BTreeMap<OperandKey, i128>) -> i128
     ensures { IsGreatest worths.now.entries result }
 {

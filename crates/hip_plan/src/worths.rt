@@ -13,11 +13,12 @@ use hip_tree::Site;
 pub trait Worths {
     ghost found: { Self → Findings };
 
-    /// The worth of that pointer operand of a site: how many marked objects it pointed into, less how many others.
+    /// The worth of a pointer operand of a site, by its number: how many marked objects it pointed into, less how many
+    /// other objects.
     fn worth(&self, site: Site, operand: usize) -> i128
         ensures { result ≡ worth (found self.now).marks site operand };
 
-    /// A number that no worth is above.
+    /// A number that no worth exceeds.
     fn limit(&self) -> i128
         ensures { IsLimit (found self.now).marks result };
 }

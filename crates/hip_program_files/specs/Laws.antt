@@ -34,7 +34,7 @@ met_then {missed} {failed} {old} {mid} {new} first second = record {
 min_then : (a m n most : ℕ) → min (min (a + m) most + n) most ≡ min (a + (m + n)) most
 min_then a m n most = omega arith
 
--- The fetches of two calls.
+-- The numbers of fetches of two calls add up.
 pub fetches_then : (m n : ℕ) {old mid new : CabinetState} → CountsFetches m old mid → CountsFetches n mid new
     → CountsFetches (m + n) old new
 fetches_then m n {old} {mid} {new} first second =

@@ -15,6 +15,6 @@ pub record HasMet (missed failed : Bool) (old new : CabinetState) : Type 0 where
   pub misses : CountsUp missed old.misses new.misses
   pub faults : CountsUp failed old.faults new.faults
 
--- Exactly n fetches were made. The count stays at its last value.
+-- The call made exactly n fetches. A count that has reached its greatest value stays there.
 pub record CountsFetches (n : ℕ) (old new : CabinetState) : Type 0 where
   pub count : new.fetches ≡ min (old.fetches + n) (2 ^ 64 - 1)

@@ -11,7 +11,7 @@ pub written_part : {old new : SinkState} {text : List ℕ} → AppendsPrefix old
     → Writes Done Failed old new text
 written_part p = record { how = p }
 
--- Two texts one after the other.
+-- Two texts that are appended one after the other are appended together.
 pub all_of_both : {old mid new : SinkState} {text more : List ℕ} → AppendsAll old mid text → AppendsAll mid new more
     → AppendsAll old new (text ++ more)
 all_of_both {old} {mid} {new} {text} {more} p q =

@@ -27,7 +27,7 @@ pub record IsPrinting (P : Program) (I : Input) (m : Seen) (old new : SinkState)
   pub written : AppendsAll old new (run P I m.taken).world.output
 
 module _ (P : Program) (I : Input) (stated : (n : ℕ) → (run P I (suc n)).world.output ≡ (run P I n).world.output ++ printed_by (event P I (run P I n))) where
-  -- What follows the output of the first steps.
+  -- The output after more steps begins with the output after fewer.
   grown : (n d : ℕ) → (more : List ℕ) × ((run P I (n + d)).world.output ≡ (run P I n).world.output ++ more)
   grown n zero = ([], ap (λ k. (run P I k).world.output) (let e : n + 0 ≡ n = omega arith in e) ∙ sym (append-nil (run P I n).world.output))
   grown n (suc d) = go (grown n d)
@@ -111,7 +111,7 @@ module _ {P : Program} {I : Input} {m : Seen} {old mid : SinkState} (stated : Is
 -- ---- the next print
 
 module _ {P : Program} {I : Input} {m : Seen} {old mid : SinkState} (stated : IsStated P I) (is : IsPrinting P I m old mid) {next : Seen} {e : Event} (c : ComesToPrint m next e) where
-  -- Before the step that has the event.
+  -- What holds before the step that has the event.
   before_event : IsPrinting P I c.before old mid
   before_event = record {
     on = goes_silently is.on c.silent;
@@ -132,7 +132,7 @@ starts_silent : (P : Program) (I : Input) → (run P I 0).world.output ≡ []
 unfolding run
 starts_silent P I = refl
 
--- Before the first step.
+-- Before the first step nothing is printed, and the machine goes on.
 pub started : (P : Program) (I : Input) (s : SinkState) → IsPrinting P I (record { program = P; input = I; taken = 0 }) s s
 started P I s = record {
   on = starts P I;

@@ -13,11 +13,11 @@ use Rattle.hip_runs.specs.declared.event.Event.{Event}
 use Rattle.hip_runs.specs.declared.input.Input.{Input}
 
 module _ {P : Program} {I : Input} {old new : Seen} {e : Event} (stated : IsStated P I) (is : IsGoing P I old) (c : ComesTo old new e) where
-  -- Before the step that has the event it goes on.
+  -- The machine goes on before the step that has the event.
   pub goes_there : IsGoing P I c.before
   goes_there = goes_quietly is c.quiet.steps c.quiet.is c.quiet.quiet
 
-  -- And its trace is as it was.
+  -- The trace before that step is the same as at the start.
   pub trace_there : trace P I c.before.taken ≡ trace P I old.taken
   trace_there = same_trace is c.quiet.steps c.quiet.is c.quiet.quiet
 
@@ -35,7 +35,7 @@ module _ {P : Program} {I : Input} {old new : Seen} {e : Event} (stated : IsStat
   pub comes_on : ending_by e ≡ None → IsGoing P I new
   comes_on goes = subst (λ (m : Seen). IsGoing P I m) (sym c.step) (goes_on stated goes_there e event_there goes)
 
-  -- And has fewer steps left.
+  -- If the event does not end the run, the machine has fewer steps left.
   pub comes_nearer : ending_by e ≡ None → steps_ahead P I new.taken < steps_ahead P I old.taken
   comes_nearer goes =
       let less : steps_ahead P I (after_step c.before).taken < steps_ahead P I c.before.taken = fewer stated goes_there e event_there goes in

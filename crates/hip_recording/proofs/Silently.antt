@@ -1,4 +1,4 @@
--- Over silent steps a run goes on, and has printed what it had printed.
+-- Over silent steps a run goes on, and its output stays the same.
 use Rattle.std.proofs.Common.{◌≡◌, ℕ, ◌+◌, ◌<◌, true, None, ap, ◌∙◌, subst, arith}
 use Rattle.hip_tree.specs.declared.program.Program.{Program}
 use Rattle.hip_engine.specs.Laws.SilentLaws.{still_going}

@@ -37,7 +37,7 @@ part_of_more {old} {new} es fs p = subst (λ text. AppendsPrefix old new text) (
 
 -- ---- the run
 
--- A machine that goes on, and the lines of the trace of its steps.
+-- A machine that goes on, where the lines of the trace of its steps were written.
 pub record IsRecording (P : Program) (I : Input) (m : Seen) (old new : SinkState) : Type 0 where
   pub on : IsGoing P I m
   pub written : AppendsAll old new (lines_of (trace P I m.taken))
@@ -90,7 +90,7 @@ module _ {P : Program} {I : Input} {m : Seen} (stated : IsStated P I) (on : IsGo
   pub counted_on : (e : Event) (n more : ℕ) → event P I (run P I m.taken) ≡ e → n ≡ length (trace P I m.taken) → more ≡ length (entry_list (entry_of_event e)) → n + more ≡ length (trace P I (after_step m).taken)
   counted_on e n more at all one = counted e n more at all one ∙ ap (λ k. length (trace P I k)) (sym (taken_next stated on))
 
--- The lines of the trace after one step more.
+-- The lines of the trace after one more step.
 lines_next : {P : Program} {I : Input} {m : Seen} (stated : IsStated P I) (on : IsGoing P I m) (e : Event) → event P I (run P I m.taken) ≡ e → lines_of (trace P I m.taken) ++ lines_of (entry_list (entry_of_event e)) ≡ lines_of (trace P I (suc m.taken))
 lines_next {P} {I} {m} stated on e at = sym (ap (λ es. lines_of es) (next_trace stated on e at) ∙ both_lines (trace P I m.taken) (entry_list (entry_of_event e)))
 
@@ -124,7 +124,7 @@ module _ {P : Program} {I : Input} {m : Seen} {old mid : SinkState} (stated : Is
 -- ---- the next event
 
 module _ {P : Program} {I : Input} {m : Seen} {old mid : SinkState} (stated : IsStated P I) (is : IsRecording P I m old mid) {next : Seen} {e : Event} (c : ComesTo m next e) where
-  -- Before the step that has the event.
+  -- What holds before the step that has the event.
   before_event : IsRecording P I c.before old mid
   before_event = record {
     on = goes_there stated is.on c;
@@ -154,16 +154,16 @@ module _ {P : Program} {I : Input} {m next : Seen} {e : Event} (stated : IsState
       counted_on stated (goes_there stated on c) e n count (event_there stated on c) all_before one
       ∙ ap (λ (s : Seen). length (trace P I s.taken)) (sym c.step)
 
--- Nothing was written.
+-- Memory ran out before anything was written.
 pub stopped_first : (P : Program) (I : Input) (s : SinkState) → HasStoppedRecording P I s s
 stopped_first P I s = stopped_at P I s s [] (λ es t. (es, refl)) (writes_nothing Done s).how
 
--- The header is written.
+-- Memory ran out after the header was written.
 pub stopped_header : (P : Program) (I : Input) (old new : SinkState) → AppendsAll old new (lines_of (header_of I)) → HasStoppedRecording P I old new
 stopped_header P I old new p =
     stopped_at P I old new (trace P I 0) (whole-front P I 0) (subst (λ es. AppendsAll old new (lines_of es)) (sym (trace_zero P I)) p)
 
--- The whole trace is written.
+-- Memory ran out after the whole trace was written.
 pub stopped_whole : (P : Program) (I : Input) (old new : SinkState) (done : Ended) → HasPutTrace P I old new done → HasStoppedRecording P I old new
 stopped_whole P I old new done h = record {
   front = h.trace;

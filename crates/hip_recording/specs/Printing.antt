@@ -35,7 +35,7 @@ pub record HasStopped (P : Program) (I : Input) (old new : SinkState) : Type 0 w
   pub printed : IsPrinted P I (front ++ missing) ending
   pub written : AppendsAll old new front
 
--- What is written by the answer.
+-- What is written, by the answer.
 abbrev pub Prints : Program → Input → SinkState → SinkState → Result Ending RecordRefusal → Type 0
 Prints P I old new (Ok ending) = HasPrinted P I old new ending
 Prints P I old new (Err refusals.WriteFault) = HasFailed P I old new

@@ -3,8 +3,8 @@ ghost use Rattle.hip_recording.specs.Delivery.{EndsOutOfMemory, HoldsNothingAfte
 use crate::refusal::RecordRefusal;
 use hip_io::{Put, Sink};
 
-/// The refusal of a run that ends out of memory, after what the sink holds back is delivered; a write fault if that
-/// fails.
+/// Delivers what the sink holds back, and answers the refusal of a run that ends out of memory: a write fault if the
+/// delivery fails.
 pub(crate) fn out_of_memory<S: Sink>(out: &mut S) -> RecordRefusal
     ensures ends { EndsOutOfMemory (S.state out.old) (S.state out.new) result }
     ensures delivered { HoldsNothingAfter result (S.held out.new) }

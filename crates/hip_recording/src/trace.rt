@@ -70,7 +70,7 @@ fn put_steps<'a, S: Sink>(
     }
 }
 
-// Goes from event to event of a run after its header, and writes their entries. No other step has one.
+// Goes from event to event of a run after its header, and writes the entries of the events. No other step has an entry.
 fn put_entries<'a, S: Sink>(
     runner: &mut Runner<'a>,
     mut entries: u128,

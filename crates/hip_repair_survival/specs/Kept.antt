@@ -30,9 +30,9 @@ IsAsDurable s s' =
     (j : ℕ) (l l' : Line StorePart) → slice_get s.lines j ≡ Some l → slice_get s'.lines j ≡ Some l' →
     (l.flushed ≤ l'.flushed) × (l.durable ≤ l'.durable)
 
--- On every valid input the repaired program has, in each state, at least as much flushed and durable as the program has
--- in the corresponding state. So each byte that is loose in the repaired program's run is loose in the program's, and
--- each byte that survives a crash of the program survives one of the repaired program.
+-- On every valid input, in each state of the repaired program at least as much is flushed and durable as in the
+-- corresponding state of the program. So each byte that is loose in the repaired program's run is also loose in the
+-- program's run, and each byte that survives a crash of the program also survives a crash of the repaired program.
 pub record LoosensNothing (P : Program) (plan : Plan) (skip : Site → Bool) : Type 0 where
   pub durable : (I : Input) → IsValid P I → (n : ℕ) →
       IsAsDurable (run P I (matched P plan skip I n)) (run (repaired P plan skip) I n)

@@ -20,15 +20,16 @@ ghost use Rattle.hip_survival.specs.Survival.{working_byte};
 ghost use Rattle.hip_sound.specs.Sound.{IsSound};
 ghost use Rattle.std.specs.Prelude.{◌≢◌, ℕ, Bool, List, slice_index};
 
-/// A repair makes no byte loose, by whatever plan: the repaired program has at least as much flushed and durable at each
-/// step, and each byte that survives a crash in the program's run survives one in the repaired program's.
+/// A repair makes no byte loose, whatever the plan is: at each step at least as much is flushed and durable in the
+/// repaired program, and each byte that survives a crash in the program's run survives a crash in the repaired
+/// program's run.
 pub fn repairs_loosen_nothing()
     ensures { (P : Program) → (plan : Plan) → (skip : Site → Bool) → IsSound P → LoosensNothing P plan skip }
 {}
 
-/// A repair makes no check worse, by whatever plan and on every input: each check of the repaired program is one of the
-/// program's, and for each of its reports that check has one of the same store. So a run that has nothing to report
-/// still has nothing to report after the repair.
+/// A repair makes no check worse, whatever the plan is and on every input: each check of the repaired program is a
+/// check of the program, and for each of its reports the program's check has a report of the same store. So a run that
+/// has nothing to report still has nothing to report after the repair.
 pub fn repairs_worsen_no_check()
     ensures checks { (P : Program) → (plan : Plan) → (skip : Site → Bool) → IsSound P
         → WorsensNoCheck P plan skip }
@@ -43,15 +44,15 @@ pub fn clean_checks_survive()
 {}
 
 /// In the program repaired by a plan that has what a run found, each byte that is checked on that run's input survives
-/// a crash at its check, if the stores that the clones do not flush never lie in the region.
+/// a crash at its check, if the stores that the clones do not flush never write to the region.
 pub fn checks_of_repaired_programs_survive()
     ensures { (P : Program) → (plan : Plan) → (skip : Site → Bool) → (I : Input) → (found : Findings) →
         IsSound P → IsValid P I → IsQuiet P skip → IsFound P I found → Contains plan (plan_for P found) →
         ChecksSurvive (repaired P plan skip) I }
 {}
 
-/// On every input each byte whose last store came under a hoisted call survives a crash after the fence that follows
-/// the call, if the stores that the clones do not flush never lie in the region.
+/// On every input, each byte whose last store was made under a hoisted call survives a crash after the fence that
+/// follows the call, if the stores that the clones do not flush never write to the region.
 pub fn stores_under_hoisted_calls_survive()
     ensures { (P : Program) → (plan : Plan) → (skip : Site → Bool) → IsSound P → IsQuiet P skip →
         CoveredSurvive P (repaired P plan skip) }

@@ -6,7 +6,7 @@ use hip_vol::quiet_stores;
 use std::alloc::Global;
 use std::process::Abort;
 
-/// In the program of a text these are the stores that are never in the region.
+/// Asserts which stores of the program of a text are never in the region.
 fn assert_quiet(rt: &impl Abort, alloc: Global, text: &str, expected: &[Place]) {
     let checked = checked(rt, alloc, text);
     let quiet = quiet_stores(alloc, &checked).expect(rt, AMPLE);

@@ -36,7 +36,7 @@ fn found(rt: &impl Abort, alloc: Global, case: &Case) -> StoreReport {
     }
 }
 
-/// Each sink with less room than a line takes a front of it.
+/// Asserts that each sink with less room than a line takes a front of the line.
 fn assert_cut(
     rt: &impl Abort,
     alloc: Global,
@@ -164,7 +164,7 @@ fn two_reports(rt: &impl Abort, alloc: Global) -> SharedReports {
     reports
 }
 
-/// These reports have these lines.
+/// Asserts that these reports have these lines.
 fn assert_put(
     rt: &impl Abort,
     alloc: Global,
@@ -178,7 +178,7 @@ fn assert_put(
     assert!(rt; sink.bytes() == lines.as_bytes());
 }
 
-/// The lines of two reports stand in their order.
+/// The lines of two reports are in the order of the reports.
 #[test]
 fn lines_of_two_reports(rt: HostRuntime) {
     let program = checked(&rt, rt.alloc(), KEY_VALUE_LOG);

@@ -22,7 +22,7 @@ struct Found {
     level: usize,
 }
 
-/// That an operand of a place pointed into a global, or into a block of an `alloca`.
+/// An operand of a place, and the global or the block of an `alloca` that it pointed into.
 struct Pointed {
     place: Place,
     operand: usize,
@@ -307,7 +307,7 @@ fn marks(rt: &impl Abort, alloc: Global, pointed: &[Pointed], hit: &[usize]) -> 
     }
 }
 
-/// The plan for the findings has these lists, and suits.
+/// Asserts that the plan for the findings has these lists, and suits.
 fn assert_planned(
     rt: &impl Abort,
     alloc: Global,
@@ -439,7 +439,7 @@ const LOG: &Case = &Case {
     hoists: &[(2, 1, 6)],
 };
 
-/// A report of a store that the call at place 6 of the loop makes, at that place of the function between.
+/// A report of a store at an index of the function that the call at place 6 of the loop calls.
 fn filled(rt: &impl Abort, alloc: Global, entry: u128, kind: Kind, index: usize) -> StoreReport {
     StoreReport {
         entry,

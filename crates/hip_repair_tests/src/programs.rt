@@ -13,7 +13,7 @@ use std::alloc::Global;
 use std::process::Abort;
 use std::rc::Rc;
 
-/// The program of a text that is sound.
+/// The sound program of a text.
 pub fn checked(rt: &impl Abort, alloc: Global, text: &str) -> Checked {
     let program = parse(alloc, text.as_bytes()).expect(rt, "the text is read");
     check(alloc, program).expect(rt, "the program is sound")

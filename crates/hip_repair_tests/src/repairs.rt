@@ -25,7 +25,8 @@ fn plan(
     }
 }
 
-/// The plan suits, and the program of the one text repaired by it is the other text, with this many clones.
+/// Asserts that the plan suits, and that the program of the one text, repaired by it, is the other text, with these
+/// clones.
 fn assert_repaired(
     rt: &impl Abort,
     alloc: Global,
@@ -184,7 +185,7 @@ fn hoists_inside_clones(rt: HostRuntime) {
     );
 }
 
-/// No call site reaches no function, and no function needs no name.
+/// An empty list of call sites reaches no functions, and an empty list of functions gets no names.
 fn assert_no_names(rt: &impl Abort, alloc: Global) {
     let program = checked(rt, alloc, COPY);
     let reached = callees(alloc, program.program(), &[]).expect(rt, AMPLE);
@@ -260,7 +261,7 @@ fn clone_name_taken(rt: HostRuntime) {
     );
 }
 
-/// The clones of the repair have no flush of the store into the block of the stack.
+/// Asserts that the clones of the repair do not flush the store into the block of the stack.
 fn assert_skipped(rt: &impl Abort, alloc: Global, plan: &Plan) {
     let program = checked(rt, alloc, REACH);
     let skipped = apply_skipping(alloc, &program, plan, &[site((0, 0, 2))]).expect(rt, AMPLE);

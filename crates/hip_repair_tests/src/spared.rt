@@ -30,13 +30,13 @@ const CLONES: [CloneOf; 2] = [
     },
 ];
 
-/// The stores of the callee are never in the region.
+/// Asserts that the stores of the callee are never in the region.
 fn assert_quiet(rt: &impl Abort, alloc: Global, checked: &Checked) {
     let quiet = quiet_stores(alloc, checked).expect(rt, AMPLE);
     assert!(rt; quiet == sites(rt, alloc, &[(0, 0, 0)]));
 }
 
-/// The clones of the one repair have no flush that cannot matter.
+/// Asserts that the clones of the repair have no flush that cannot matter.
 fn assert_spared(rt: &impl Abort, alloc: Global, checked: &Checked) {
     let plan = plan(rt, alloc);
     assert!(rt; suits(checked, &plan));
@@ -52,7 +52,7 @@ fn spared_flush(rt: HostRuntime) {
     assert_spared(&rt, rt.alloc(), &checked);
 }
 
-/// Where no store is skipped, the program is the one of the usual repair.
+/// Asserts that the program is the one of the usual repair if no store is skipped.
 fn assert_nothing_skipped(rt: &impl Abort, alloc: Global, checked: &Checked) {
     let plan = plan(rt, alloc);
     let usual = apply(alloc, checked, &plan).expect(rt, AMPLE);

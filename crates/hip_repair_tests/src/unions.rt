@@ -9,7 +9,8 @@ use hip_types::Row;
 use std::alloc::Global;
 use std::process::Abort;
 
-/// Plans that each put a flush and a fence after one store, and the stores of their union with how many plans name each.
+/// Plans that each put a flush and a fence after one store, and the stores of their union with how many plans name
+/// each.
 struct Case {
     name: &'static str,
     stores: &'static [Place],
@@ -64,7 +65,7 @@ fn stores_in(rt: &impl Abort, alloc: Global, united: &[(Place, u64)]) -> Row<Sit
     stores
 }
 
-/// The reasons of a sort.
+/// Appends the reasons of a sort.
 fn push_reasons(rt: &impl Abort, sort: Sort, united: &[(Place, u64)], reasons: &mut Row<Reason>) {
     for (place, traces) in united {
         let reason = Reason {

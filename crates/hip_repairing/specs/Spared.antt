@@ -10,14 +10,14 @@ use Rattle.hip_repairs.specs.declared.plan.CloneOf.{CloneOf}
 use Rattle.hip_repairs.specs.declared.plan.Plan.{Plan}
 use Rattle.hip_levels.specs.LowStores.{low_stores}
 
--- A low store of a function that is cloned, neither direct nor one that the plan puts a flush after: the clone that
--- `repair` makes flushes it, and the one that `thin` makes does not.
+-- Whether this is a low store of a function that is cloned, which is not direct and gets no flush by the plan: the
+-- clone that `repair` makes flushes it, and the one that `thin` makes does not.
 abbrev pub is_spared : Program → Plan → Site → Bool
 is_spared P plan s =
     low_stores P s
     && (list_any (nat_eq s.function) (cloned P plan) && not (direct P s) && not (has_site plan.flush_after s))
 
--- How many there are, each cloned function counted once.
+-- How many spared stores there are; each cloned function is counted once.
 abbrev pub spared_count : Program → Plan → ℕ
 spared_count P plan = length (filter (is_spared P plan) (sites_of P))
 

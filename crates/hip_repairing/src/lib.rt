@@ -1,5 +1,5 @@
-//! The repairs that the commands write: for what one run found, for what one run found with clones that do not flush the
-//! low stores, and for the plans of many runs.
+//! The repairs that the commands write: for what one run found, for what one run found with clones that do not flush
+//! the low stores, and for the plans of many runs.
 #![tactic(auto)]
 
 mod many_runs;

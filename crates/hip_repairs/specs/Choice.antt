@@ -17,32 +17,33 @@ pub record Candidate : Type 0 where
   pub level : ℕ
   pub score : Option ℤ
 
--- A site without a score is below each that has one.
+-- Whether the second score is better: any score is better than none, and a greater score is better than a smaller one.
 abbrev pub is_better : Option ℤ → Option ℤ → Bool
 is_better None (Some b) = true
 is_better (Some a) (Some b) = int_lt a b
 is_better _ None = false
 
--- Of two candidates the one with the greater score; the first where scores are equal or neither has one.
+-- The candidate with the greater score; the first one if the scores are equal or neither has a score.
 abbrev pub better : Candidate → Candidate → Candidate
 better best new = cond (is_better best.score new.score) new best
 
--- The best of a candidate and of the given number of levels from a number on.
+-- The best of a candidate and of the sites at the front of a path, as many as given. The levels of these sites are
+-- numbered from the given level on.
 abbrev pub best_of : Program → Findings → Candidate → ℕ → ℕ → List Site → Candidate
 best_of P found best level zero path = best
 best_of P found best level (suc more) [] = best
 best_of P found best level (suc more) (site ∷ path) =
     best_of P found (better best (record { level = level; score = score P found site })) (suc level) more path
 
--- The level of the greatest score on a path: of its first site, the store's, which is 0, and of the first `closed`
--- calls after it; the innermost one if scores are equal, and 0 if the path is empty.
+-- The level of the greatest score on a path: the first site, the store, has level 0, and the first `closed` calls after
+-- it have the levels from 1 on. It is the innermost of these levels if scores are equal, and 0 if the path is empty.
 abbrev pub best_on : Program → Findings → ℕ → List Site → ℕ
 best_on P found closed [] = 0
 best_on P found closed (store ∷ calls) =
     (best_of P found (record { level = 0; score = score P found store }) 1 closed calls).level
 
--- The level of the greatest score among the store's, which is 0, and those of the calls that had returned and have a
--- pointer operand; the innermost one where scores are equal. A missing fence needs no level.
+-- The level of the greatest score among the store, which has level 0, and the calls that had returned and have a
+-- pointer operand; the innermost one if scores are equal. A missing fence needs no level.
 abbrev pub level_for : Program → Findings → Report → Kind → ℕ
 level_for P found r MissingFence = 0
 level_for P found r MissingFlush = best_on P found r.closed r.path
@@ -66,15 +67,15 @@ asks_flush MissingFence level path s = false
 asks_flush MissingFlush level path s = nat_eq level 0 && is_site (slice_get path 0) s
 asks_flush MissingBoth level path s = nat_eq level 0 && is_site (slice_get path 0) s
 
--- Whether it needs a fence after the site: after the flush that the report names, if only the fence is missing; after
--- the store at level 0, if both are missing.
+-- Whether a report that is repaired at a level needs a fence after a site: after the flush that the report names, if
+-- only the fence is missing; after the store at level 0, if both are missing.
 abbrev pub asks_fence : Kind → ℕ → Option Site → List Site → Site → Bool
 asks_fence MissingFence level flush path s = is_site flush s
 asks_fence MissingFlush level flush path s = false
 asks_fence MissingBoth level flush path s = nat_eq level 0 && is_site (slice_get path 0) s
 
--- Whether it needs the call at the site hoisted: the call of that level on the path, if a flush is missing and the
--- level is not 0.
+-- Whether a report that is repaired at a level needs the call at a site hoisted: the call of that level on the path, if
+-- a flush is missing and the level is not 0.
 abbrev pub asks_hoist : Kind → ℕ → List Site → Site → Bool
 asks_hoist MissingFence level path s = false
 asks_hoist MissingFlush zero path s = false
@@ -86,7 +87,8 @@ asks_hoist MissingBoth (suc level) path s = is_site (slice_get path (suc level))
 abbrev pub wants_flush : Program → Findings → Site → Bool
 wants_flush P found s = list_any (λ r. asks_flush r.kind (choice P found r) r.path s) found.reports
 
--- Some report, repaired at its own level, needs a fence after the site, which is the flush that it names or its store.
+-- Some report, repaired at its own level, needs a fence after the site. The site is the flush that the report names, or
+-- its store.
 abbrev pub wants_fence : Program → Findings → Site → Bool
 wants_fence P found s = list_any (λ r. asks_fence r.kind (choice P found r) r.flush_site r.path s) found.reports
 

@@ -1,4 +1,4 @@
--- A clone of a function: the function again, with flushes and fences inserted, whose calls may be of other functions.
+-- A clone of a function: the function with flushes and fences inserted, and with calls that may name other functions.
 use Rattle.std.specs.Prelude.{◌≡◌, ◌≤◌, ℕ, false, List, [], ◌∷◌, length, Some, slice_get}
 use Rattle.hip_tree.specs.declared.block.Block.{Block}
 use Rattle.hip_tree.specs.declared.instr.Instr.{Instr}

@@ -47,8 +47,8 @@ abbrev pub IsCallFrom : Program → ℕ → Option Instr → Type 0
 IsCallFrom Q functions (Some (Call dest ret callee args)) = is_numbered_from functions (function_number Q callee)
 IsCallFrom Q functions _ = ⊥
 
--- The state stands at a call of `sfence` or `mfence` directly after a call of a clone in its block; clones have the
--- numbers from `functions` on.
+-- The state is at a call of `sfence` or `mfence` directly after a call of a clone in its block; clones have the numbers
+-- from `functions` on.
 pub record IsAfterCloneCall (Q : Program) (functions : ℕ) (s : State) : Type 0 where
   pub going : s.world.ending ≡ None
   pub frame : Frame
@@ -65,7 +65,7 @@ pub record IsLastBefore (Q : Program) (I : Input) (j n : ℕ) : Type 0 where
   pub same : length (run Q I j).frames ≡ length (run Q I n).frames
   pub between : (i : ℕ) → j < i → i < n → length (run Q I i).frames ≢ length (run Q I n).frames
 
--- The state stands at a call at that place, in the function and the block of a frame, with the same frames below.
+-- The top frame is at this place, in the function and the block of the given frame, with the same frames below.
 pub record IsAtCall (frame : Frame) (others : List Frame) (at : ℕ) (s : State) : Type 0 where
   pub top : Frame
   pub frames : s.frames ≡ top ∷ others
@@ -73,7 +73,7 @@ pub record IsAtCall (frame : Frame) (others : List Frame) (at : ℕ) (s : State)
   pub block : top.block ≡ frame.block
   pub place : top.place ≡ at
 
--- The run has not ended, and the top frame stands at a call of function g.
+-- The run has not ended, and the top frame is at a call of function g.
 pub record StandsAtCall (P : Program) (g : ℕ) (s : State) : Type 0 where
   pub going : s.world.ending ≡ None
   pub frame : Frame
@@ -90,8 +90,8 @@ pub record CallsClone (P Q : Program) (s s' : State) : Type 0 where
   pub clone_called : StandsAtCall Q clone s'
   pub is_clone : IsClone P Q callee clone
 
--- Wherever the run of Q stands at a fence directly after a call of a clone, there is a last state before it with as
--- many frames, and that state stands at the call. There the run of P calls a function, and the clone is one of that
+-- Wherever the run of Q is at a fence directly after a call of a clone, there is a last state before it with as many
+-- frames, and that state is at this call. The run of P there calls a function, and the clone is a clone of that
 -- function. Each part of a store that the cache lines got from the call on is durable after the fence.
 pub record IsCovered (P Q : Program) : Type 0 where
   pub call :
@@ -108,7 +108,7 @@ pub record IsCovered (P Q : Program) : Type 0 where
 
 -- ---- the fence after a hoisted call
 
--- Where the instruction at a site of the program stands in the repaired body of its function, or in that of the
+-- The place of the instruction at a site of the program in the repaired body of its function, or in that of the
 -- function's clone: after the repaired body of the instructions before it.
 abbrev pub repaired_place : Program → Plan → (Site → Bool) → Bool → Site → ℕ
 repaired_place P plan skip clone s =
@@ -129,7 +129,7 @@ pub record IsHoisted (P : Program) (plan : Plan) (skip : Site → Bool) (s : Sit
   pub cloned : (c : ℕ) → slice_get (cloned P plan) c ≡ Some s.function →
       IsFenced (repaired P plan skip) clone (length P.functions + c) s.block (repaired_place P plan skip true s)
 
--- Each hoisted call of a defined function has become such a call.
+-- Each hoisted call of a defined function has become a call of a clone with a fence directly after it.
 abbrev pub AreHoistsFenced : Program → Plan → (Site → Bool) → Type 0
 AreHoistsFenced P plan skip =
     (s : Site) (dest : Option (List ℕ)) (ret : Option Scalar) (callee : List ℕ) (args : List Arg) (g : ℕ) →

@@ -41,7 +41,7 @@ abbrev pub is_outside : Program → List Block → Operand → Bool
 is_outside P blocks (Reg name) = allocates_in blocks name
 is_outside P blocks (Fixed value) = names_volatile P.globals (out-Const value)
 
--- The instruction is there, and is a store whose address operand shows this.
+-- The instruction is there, and is a store whose address operand shows that the address is never in the region.
 abbrev pub stores_outside : Program → List Block → Option Instr → Bool
 stores_outside P blocks (Some (Store ty value addr align)) = is_outside P blocks addr
 stores_outside P blocks _ = false

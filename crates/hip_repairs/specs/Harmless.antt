@@ -30,23 +30,23 @@ marked_at P plan skip f b =
     cond (nat_lt f (length P.functions)) (marked_body P (clones_of P plan) (wanted_by plan skip) false f b)
     (marked_clone P (clones_of P plan) (wanted_by plan skip) (slice_get (cloned P plan) (f - length P.functions)) b)
 
--- Whether the first of these instructions is inserted; false at the end of a block, where there is none.
+-- Whether the first of these instructions is inserted; false at the end of a block, where no instruction is left.
 abbrev pub is_inserted : List Marked → Bool
 is_inserted [] = false
 is_inserted (m ∷ ms) = m.1
 
--- Whether the top frame stands at an inserted instruction; false once the run has ended, and where no frame stands.
+-- Whether the top frame is at an inserted instruction; false once the run has ended, and where there is no frame.
 abbrev pub inserted_on : Program → Plan → (Site → Bool) → Option Ending → List Frame → Bool
 inserted_on P plan skip (Some e) fs = false
 inserted_on P plan skip None [] = false
 inserted_on P plan skip None (f ∷ fs) = is_inserted (drop f.place (marked_at P plan skip f.function f.block))
 
--- A state of the repaired program stands at an inserted instruction.
+-- Whether a state of the repaired program is at an inserted instruction.
 abbrev pub stands_inserted : Program → Plan → (Site → Bool) → State → Bool
 stands_inserted P plan skip s = inserted_on P plan skip s.world.ending s.frames
 
--- How many of the first n steps of the repaired program did not stand at an inserted instruction: the number of the
--- program's steps to which they correspond. A step after the end counts.
+-- How many of the first n steps of the repaired program are not at an inserted instruction: the number of steps of the
+-- program to which they correspond. A step after the end counts.
 unfoldable pub matched : Program → Plan → (Site → Bool) → Input → ℕ → ℕ
 matched P plan skip I zero = 0
 matched P plan skip I (suc n) =
@@ -73,7 +73,8 @@ pub record Extent : Type 0 where
 abbrev pub extents : List Slot → List Extent
 extents slots = map (λ s. record { addr = s.addr; size = s.size }) slots
 
--- The function is the same or a clone of it; registers, stack mark and blocks on the stack are the same.
+-- The function of the second frame is that of the first or a clone of it; the block, the registers, the stack mark and
+-- the blocks on the stack are the same.
 pub record SameFrame (functions : ℕ) (copied : List ℕ) (f f' : Frame) : Type 0 where
   pub function : (f'.function ≡ f.function)
       ⊎ ((k : ℕ) × (f'.function ≡ functions + k) × (slice_get copied k ≡ Some f.function))
@@ -82,7 +83,7 @@ pub record SameFrame (functions : ℕ) (copied : List ℕ) (f f' : Frame) : Type
   pub mark : f'.mark ≡ f.mark
   pub slots : extents f'.slots ≡ extents f.slots
 
--- Both lists have as many frames, and each frame is the same as the one at its place.
+-- The two lists have the same length, and the frames at the same place are the same.
 abbrev pub SameFrames : ℕ → List ℕ → List Frame → List Frame → Type 0
 SameFrames functions copied [] [] = Unit {0}
 SameFrames functions copied (f ∷ fs) (f' ∷ fs') = SameFrame functions copied f f'
@@ -90,17 +91,17 @@ SameFrames functions copied (f ∷ fs) (f' ∷ fs') = SameFrame functions copied
 SameFrames functions copied [] (f' ∷ fs') = ⊥
 SameFrames functions copied (f ∷ fs) [] = ⊥
 
--- A state of the repaired program matches one of the program: output, ending, turns, writes, numbers left and the
--- stack's mark are the same, each cache line has the same parts, the frames are the same one by one, and each crash
--- image was possible before.
+-- A state of the repaired program matches a state of the program: output, ending, turns, writes, the numbers that are
+-- left and the stack's mark are the same, each cache line has the same parts, the frames at the same place are the
+-- same, and each crash image of the repaired program's state is one of the program's state.
 pub record Matches (functions : ℕ) (copied : List ℕ) (I : Input) (s s' : State) : Type 0 where
   pub world : s'.world ≡ s.world
   pub lines : map contents s'.lines ≡ map contents s.lines
   pub frames : SameFrames functions copied s.frames s'.frames
   pub images : (content : List ℕ) → IsCrashImage I s' content → IsCrashImage I s content
 
--- On every valid input each state of the repaired program matches the corresponding one, and each step of the program
--- corresponds to one of the repaired program.
+-- On every valid input each state of the repaired program matches the corresponding state of the program, and the first
+-- 3n steps of the repaired program correspond to at least n steps of the program.
 pub record IsHarmless (P : Program) (plan : Plan) (skip : Site → Bool) : Type 0 where
   pub matches : (I : Input) → IsValid P I → (n : ℕ) →
       Matches (length P.functions) (cloned P plan) I (run P I (matched P plan skip I n))

@@ -1,5 +1,5 @@
--- The repaired program. After the Hippocrates paper's three sorts of repair: a flush after a store, a fence after a
--- flush, and a persistent clone of a called function with a fence after the call.
+-- The repaired program. It has the three sorts of repair of the Hippocrates paper: a flush after a store, a fence after
+-- a flush, and a persistent clone of a called function with a fence after the call.
 use Rattle.std.specs.Prelude.{ℕ, suc, Bool, true, false, cond, not, ◌&&◌, ◌||◌, nat_lt, List, [], ◌∷◌, ◌++◌, map, Option, Some, None, slice_get, codes}
 use Rattle.std.specs.List.{list_any}
 use Rattle.std.specs.Str.{bytes_eq}
@@ -34,11 +34,11 @@ clwb_name = codes "llvm.x86.clwb"
 abbrev pub sfence_name : List ℕ
 sfence_name = codes "llvm.x86.sse.sfence"
 
--- libpmem's flush of a range of bytes, with no fence of its own (libpmem's manual page, `pmem_flush`)
+-- libpmem's flush of a range of bytes, with no fence of its own (libpmem's manual page, `pmem_flush`).
 abbrev pub pmem_flush_name : List ℕ
 pmem_flush_name = codes "pmem_flush"
 
--- A store is wide if its access alignment is below its size, so that it may lie in two cache lines.
+-- A store is wide if its access alignment is below its size, so that it may span two cache lines.
 abbrev pub is_wide : Scalar → Option ℕ → Bool
 is_wide ty align = nat_lt (access_align ty align) (scalar_size ty)
 
@@ -156,7 +156,7 @@ repaired_function clones w clone f name function =
       blocks = repaired_blocks clones w clone f 0 function.blocks;
     }
 
--- Functions, the first of which has number f, each repaired under its own name; no clone is among them.
+-- The repaired functions, each with its own name; the first function of the list has number f. The list has no clones.
 abbrev pub repaired_functions : List Clone → Wanted → ℕ → List Function → List Function
 repaired_functions clones w f [] = []
 repaired_functions clones w f (x ∷ xs) =
@@ -204,13 +204,14 @@ inserts_in name clones w clone f b [] = false
 inserts_in name clones w clone f b (x ∷ xs) =
     inserts name (repaired_body clones w clone f b 0 x.body) || inserts_in name clones w clone f (suc b) xs
 
--- Whether one is inserted in these functions, the first of which has number f; their clones do not count.
+-- Whether a call of that function is inserted in these functions, the first of which has number f; their clones do not
+-- count.
 abbrev pub inserts_from : List ℕ → List Clone → Wanted → ℕ → List Function → Bool
 inserts_from name clones w f [] = false
 inserts_from name clones w f (x ∷ xs) =
     inserts_in name clones w false f 0 x.blocks || inserts_from name clones w (suc f) xs
 
--- Whether one is inserted in the clone of function f; false if there is no such function.
+-- Whether a call of that function is inserted in the clone of function f; false if there is no such function.
 abbrev pub inserts_cloned : List ℕ → List Clone → Wanted → ℕ → Option Function → Bool
 inserts_cloned name clones w f None = false
 inserts_cloned name clones w f (Some x) = inserts_in name clones w true f 0 x.blocks

@@ -33,7 +33,7 @@ pub fn overwritten_store_is_repaired()
     ensures { IsWorked overwritten_store (zeroed 1) 3 (overwritten_store_report ∷ []) overwritten_store_repaired }
 {}
 
-/// A store that lies in two cache lines: a flush of its eight bytes and a fence follow it.
+/// A store that spans two cache lines: a flush of its eight bytes and a fence follow it.
 pub fn store_in_two_lines_is_repaired()
     ensures { IsWorked store_in_two_lines (zeroed 2) 2 (store_in_two_lines_report ∷ []) store_in_two_lines_repaired }
 {}

@@ -18,20 +18,20 @@ ghost use Rattle.hip_repairs.specs.Repaired.{repaired};
 ghost use Rattle.hip_repairs.specs.declared.plan.Plan.{Plan};
 ghost use Rattle.std.specs.Prelude.{Bool, ℕ, ◌≡◌};
 
-/// A repair does no harm, by whatever plan, and whichever stores the clones do not flush.
+/// A repair does no harm, whatever the plan is, and whichever stores the clones do not flush.
 pub fn repairs_do_no_harm()
     ensures { (P : Program) → (plan : Plan) → (skip : Site → Bool) → IsSound P → IsHarmless P plan skip }
 {}
 
 /// A repair by a plan that has what a run found leaves nothing to report on that run's input, if the stores that the
-/// clones do not flush never lie in the region.
+/// clones do not flush never write to the region.
 pub fn repairs_are_clean()
     ensures { (P : Program) → (plan : Plan) → (skip : Site → Bool) → (I : Input) → (found : Findings) →
         IsSound P → IsValid P I → IsQuiet P skip → IsFound P I found → Contains plan (plan_for P found) →
         IsClean (repaired P plan skip) I }
 {}
 
-/// The repaired program is sound again, by whatever plan. The region's size and all addresses stay the same.
+/// The repaired program is sound again, whatever the plan is. The region's size and all addresses stay the same.
 pub fn repaired_is_sound()
     ensures sound { (P : Program) → (plan : Plan) → (skip : Site → Bool) → IsSound P
         → IsSound (repaired P plan skip) }
@@ -42,8 +42,9 @@ pub fn repaired_is_sound()
         address (repaired P plan skip) base number ≡ address P base number }
 {}
 
-/// A call of a clone goes to a clone of the function that the program calls there. After the fence that follows it, all
-/// that was stored under the call is durable, if the stores that the clones do not flush never lie in the region.
+/// A call of a clone goes to a clone of the function that the program calls there. After the fence that follows the
+/// call, everything that was stored under the call is durable, if the stores that the clones do not flush never write
+/// to the region.
 pub fn hoisted_calls_are_covered()
     ensures { (P : Program) → (plan : Plan) → (skip : Site → Bool) → IsSound P → IsQuiet P skip →
         IsCovered P (repaired P plan skip) }
@@ -54,7 +55,7 @@ pub fn hoisted_calls_are_fenced()
     ensures { (P : Program) → (plan : Plan) → (skip : Site → Bool) → IsSound P → AreHoistsFenced P plan skip }
 {}
 
-/// The stores whose address is a register assigned by `alloca`, or the name of a volatile global, never lie in the
+/// The stores whose address is a register assigned by `alloca`, or the name of a volatile global, never write to the
 /// region.
 pub fn direct_stores_are_quiet()
     ensures { (P : Program) → IsSound P → IsQuiet P (direct P) }

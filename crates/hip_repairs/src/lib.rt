@@ -1,4 +1,4 @@
-//! What a repaired program is, by a plan, and the theorems about it.
+//! The repaired program that a plan makes, and the theorems about it.
 #![tactic(auto)]
 
 mod examples;

@@ -12,7 +12,7 @@ pub struct Plan {
     pub hoist: Row<Site>,
 }
 
-/// A clone: the numbers of the function that it was made of and of itself.
+/// A clone: the number of its original and its own number.
 #[derive(Clone, Copy, PartialEq, Eq)]
 pub struct CloneOf {
     pub original: usize,

@@ -53,7 +53,7 @@ pub fn nothing_is_changed_without_reports()
     ensures program { (P : Program) → (skip : Site → Bool) → repaired P no_repairs skip ≡ P }
 {}
 
-/// A valid input of a program is one of the repaired program, by whatever plan.
+/// A valid input of a program is a valid input of the repaired program, whatever the plan is.
 pub fn inputs_stay_valid()
     ensures { (P : Program) → (plan : Plan) → (skip : Site → Bool) → (I : Input) → IsValid P I →
         IsValid (repaired P plan skip) I }

@@ -2,7 +2,7 @@ use crate::plan::CloneOf;
 use hip_sound::Checked;
 use hip_types::Row;
 
-/// What a repair made of a program.
+/// A repaired program, with its clones.
 #[derive(Drop)]
 pub struct Repaired {
     /// The repaired program.

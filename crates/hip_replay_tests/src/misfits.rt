@@ -183,7 +183,7 @@ const BEHIND_AN_IMAGE: &[Misfit] = &[Misfit {
     kind: Differs,
 }];
 
-/// The run of the first does not end in a test's time.
+/// The run of the first trace is too long for a test.
 const IN_LOCKSTEP: &[Misfit] = &[
     Misfit {
         trace: "START;1099511627776|REGISTER;0x100000000;0x40|STORE;0x100000000;0x8;0x8",

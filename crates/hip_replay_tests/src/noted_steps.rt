@@ -90,7 +90,7 @@ entry:
 }
 ";
 
-// Its sites.
+// The sites of `FOUR_TARGETS`.
 const STORE_IN_PUT: Site = Site {
     function: 0,
     block: 0,
@@ -148,7 +148,7 @@ entry:
 }
 ";
 
-// Its sites.
+// The sites of `TWO_BLOCKS`.
 const BLOCK_T: Site = Site {
     function: 0,
     block: 0,
@@ -365,7 +365,7 @@ fn note_steps<'a>(
     assert!(rt; machine.ending().is_some(), "{}", case.name);
 }
 
-/// What a tracker finds that notes a run from its first step to its end.
+/// What a tracker that notes a run from its first step to its end finds.
 fn found(
     rt: &impl Abort,
     alloc: Global,

@@ -50,7 +50,7 @@ done:
 }
 ";
 
-/// A recursion whose last frame asserts, while the frames that stored all stand.
+/// A recursion whose last frame asserts, while all frames that stored are still on the stack.
 pub const ASSERT_UNDER_RECURSION: &str = "@p = global i64 0, section \".pm\"
 declare void @pm_assert(ptr, i64)
 define void @descend(i64 %n) {

@@ -76,7 +76,7 @@ fn assert_both(rt: &impl Abort, alloc: Global, checked: &Checked, case: &Recordi
     assert_replayed(rt, alloc, checked, case);
 }
 
-/// Asserts both, of each run.
+/// Asserts, for each run, what is recorded and what is replayed.
 fn assert_all(rt: &impl Abort, alloc: Global, cases: &[Recording]) {
     for case in cases {
         let checked = checked(rt, alloc, case.program);

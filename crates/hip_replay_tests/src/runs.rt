@@ -19,7 +19,7 @@ use std::process::Abort;
 /// Where the region begins.
 pub const BASE: u64 = 4_294_967_296;
 
-/// The program of a text that is sound.
+/// The sound program of a text.
 pub fn checked(rt: &impl Abort, alloc: Global, text: &str) -> Checked {
     let program = parse(alloc, text.as_bytes()).expect(rt, "the text is read");
     check(alloc, program).expect(rt, "the program is sound")

@@ -14,12 +14,12 @@ use Rattle.hip_notes.proofs.noting.CallsStay.{calls_stay}
 use Rattle.hip_report.specs.StandingCalls.{LooksAt}
 use Rattle.std.specs.Prelude.{List}
 
--- The notes are those of n steps, and have the calls that stand then, if the next step needs them.
+-- The notes are those of n steps, and have the standing calls after n steps if the next step needs them.
 pub record Looked (P : Program) (I : Input) (n : ℕ) (c : Notes) : Type 0 where
   pub noted : AreNoted P I n c
   pub calls : needs_calls (event P I (run P I n)) ≡ true → c.calls ≡ levels_of (run P I n).frames
 
--- The calls that stand after a step that needs them stood before it.
+-- If a step needs the calls, the standing calls after it are those before it.
 pub looked_before : (m : Seen) {e : Event} → e ≡ event m.program m.input (run m.program m.input (m.taken - 1)) → suc (m.taken - 1) ≡ m.taken → (c c' : Notes) → AreNoted m.program m.input (m.taken - 1) c
     → LooksAt e m c c' → Looked m.program m.input (m.taken - 1) c'
 looked_before m {e} seen next c c' h l = record { noted = looked_at P I n c c' h (stood (needs_calls e) refl) l.rest; calls = calls }

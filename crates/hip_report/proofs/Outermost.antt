@@ -1,4 +1,4 @@
--- The outermost calls of a list, beside the calls that stand later in the run.
+-- The outermost calls of a list, beside the standing calls later in the run.
 use Rattle.std.proofs.Common.{◌≡◌, ◌⊎◌, ℕ, zero, suc, ◌+◌, ◌-◌, ◌≤◌, ◌<◌, List, [], ◌∷◌, inl, inr, length, drop, Option, Some, None, option_map, slice_get, refl, sym, ap, ◌∙◌, subst, arith}
 use Rattle.std.proofs.lemmas.Option.{same_Some, slice_get_past}
 use Rattle.std.proofs.lemmas.List.{drop_all}
@@ -39,7 +39,7 @@ get_within (x ∷ xs) (suc k) e = let r = get_within xs k e in omega (arith, r)
 abbrev pub first_birth : List Level → ℕ → Option ℕ
 first_birth xs k = option_map (λ l. l.birth) (slice_get xs k)
 
--- The same birth, or none in both lists.
+-- Both lists have a call with the same birth, or neither has a call.
 same_place : (o p : Option Level) → option_map (λ l. l.birth) o ≡ option_map (λ l. l.birth) p
     → ((o ≡ None) × (p ≡ None)) ⊎ ((l : Level) × (m : Level) × (o ≡ Some l) × (p ≡ Some m) × (l.birth ≡ m.birth))
 same_place None None e = inl (refl, refl)
@@ -47,7 +47,8 @@ same_place None (Some m) e = absurd (let z : ⊥ = cc in z)
 same_place (Some l) None e = absurd (let z : ⊥ = cc in z)
 same_place (Some l) (Some m) e = inr (l, m, refl, refl, same_Some l.birth m.birth e)
 
--- Calls that stood, with the birth of the call at their place now, are the outermost ones of those that stand.
+-- If the innermost of some earlier calls has the birth of the standing call at its place, these calls are the outermost
+-- standing ones.
 pub outermost_now : (P : Program) (I : Input) (n : ℕ) (calls : List Level) → StoodOutermost P I n calls → length calls ≤ length (levels_of (run P I n).frames)
     → first_birth calls 0 ≡ first_birth (levels_of (run P I n).frames) (length (levels_of (run P I n).frames) - length calls)
     → AreOutermost calls (levels_of (run P I n).frames)
@@ -80,7 +81,7 @@ outermost_now P I n calls s few e = record { few = few; are = by (same_place (sl
         ∙ same_birth P I s.steps n s.few a b l m (let z : length old + b ≡ length new + a = omega (arith, within, few) in z)
         (sym (get_drop old a) ∙ ap (λ (xs : List Level). slice_get xs 0) (sym s.outer.are) ∙ p) q same
 
--- Calls without the birth at their place now are some.
+-- If the births differ, there is at least one call.
 pub some_left : (calls new : List Level) → (first_birth calls 0 ≡ first_birth new (length new - length calls) → ⊥) → 0 < length calls
 some_left [] new h = absurd (h (sym (ap (option_map (λ l. l.birth)) (slice_get_past new (length new - 0) (omega arith)))))
 some_left (x ∷ calls) new h = omega arith
@@ -105,14 +106,14 @@ one_more_inside calls all l less here h = record {
       ∙ ap (λ k. drop k all) (let z : length all - length calls - 1 ≡ length all - suc (length calls) = omega (arith, less) in z);
 }
 
--- As many calls are all of them.
+-- If the outermost calls of a list are as many as the list has, they are the whole list.
 pub all_inside : (calls all : List Level) → length all ≤ length calls → AreOutermost calls all → calls ≡ all
 all_inside calls all many h = h.are ∙ ap (λ k. drop k all) (let z : length all - length calls ≡ 0 = omega (arith, many) in z)
 
 pub none_inside : (all : List Level) (k : ℕ) → slice_get all k ≡ None → k < length all → ⊥
 none_inside all k e lt = let past = get_within all k e in omega (arith, past, lt)
 
--- Calls that stood are the outermost ones of those that stood.
+-- All standing calls after some steps are the outermost ones of themselves.
 pub stood_outermost : (P : Program) (I : Input) (n : ℕ) (calls : List Level) → Stood P I n calls → StoodOutermost P I n calls
 stood_outermost P I n calls s = record {
   steps = s.steps;

@@ -33,11 +33,11 @@ module _ (m m' : Seen) (k : ℕ) (p : PassesPlainly m k m') where
   plain_at : (j : ℕ) → j < k → IsPlainAt m.program m.input (m.taken + j)
   plain_at j lt = let h = p.plain j lt in record { going = h.going; quiet = h.quiet; pointer = h.pointer }
 
-  -- The notes follow.
+  -- The notes after plain steps.
   pub noted_passed : (c : Notes) → AreNoted m.program m.input m.taken c → AreNoted m'.program m'.input m'.taken (record c { steps = c.steps + k })
   noted_passed c t = subst (λ (x : Seen). AreNoted x.program x.input x.taken (record c { steps = c.steps + k })) (sym p.is) (plain_steps_noted m.program m.input m.taken k plain_at c t)
 
-  -- The steps can be counted.
+  -- The count of steps after plain steps fits 128 bits.
   pub passed_few : (c : Notes) → AreNoted m.program m.input m.taken c → IsBounded m.program m.input (m.taken + k) → m.input.limit ≤ 2 ^ 40 → longest m.program < 2 ^ 64 → c.steps + k < 2 ^ 128
   passed_few c t bounded limit short = plain_steps_few m.program m.input m.taken k plain_at c t bounded limit short
 
@@ -47,11 +47,11 @@ module _ (m m' : Seen) (k : ℕ) (p : PassesPlainly m k m') where
 
 -- ---- up to an event
 
--- The program is the same.
+-- Steps without an event do not change the program.
 pub same_short : (m m' : Seen) → GoesQuietly m m' → longest m.program < 2 ^ 64 → longest m'.program < 2 ^ 64
 same_short m m' q short = subst (λ (x : Seen). longest x.program < 2 ^ 64) (sym q.is) short
 
--- A step without an event is one step more.
+-- A step without an event adds one to the steps taken.
 pub one_more : (m m' : Seen) → m' ≡ after_step m → next_event m ≡ events.Quiet → m' ≡ record m { taken = m.taken + 1 }
 one_more m m' step quiet =
     step ∙ ap (λ b. record m { taken = cond b m.taken (suc m.taken) }) (goes_on m.program m.input (state_of m) quiet)

@@ -21,7 +21,7 @@ module _ (P : Program) (I : Input) (s : State) (site : Site) where
   pub all_marked : (before new : List Mark) (k : ℕ) → next_site P s ≡ Some site → pointer_of P I s k ≡ None → AddAlike before new (marks_to P I s site k) → AddAlike before new (marks_ahead P I s)
   all_marked before new k there none so_far = so_far ∙ ap (met same_mark before) (all_before P I s site (next_is P s site there) k none)
 
-  -- One pointer more.
+  -- The marks with one more pointer operand.
   pub one_marked : (before old new : List Mark) (k a : ℕ) → pointer_of P I s k ≡ Some a → AddAlike before old (marks_to P I s site k) → AddAlike before new (old ++ mark_by P I s site k (Some a))
       → AddAlike before new (marks_to P I s site (k + 1))
   one_marked before old new k a is so_far added =
@@ -29,7 +29,7 @@ module _ (P : Program) (I : Input) (s : State) (site : Site) where
       ∙ more_alike before old (marks_to P I s site k) (mark_at P I s site k) so_far
       ∙ ap (λ (ms : List Mark). met same_mark before ms) (next_to P I s site k)
 
--- What is so where the run goes on is so unless the step ends it.
+-- If two lists add the same marks where the run goes on, they add the same marks unless the step ends the run.
 unless_going : (e : Event) (before these those : List Mark) → (goes_on e ≡ true → AddAlike before these those) → AddUnlessEnded e before these those
 unless_going (events.End x) before these those h = refl
 unless_going events.Quiet before these those h = h refl

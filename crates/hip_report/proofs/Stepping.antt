@@ -1,4 +1,4 @@
--- What is known before a step is so when the machine has taken it.
+-- What is known before a step still holds after the machine has taken the step.
 use Rattle.std.proofs.Common.{◌≡◌, ℕ, suc, ◌-◌, Bool, true, false, cond, List, [], ◌∷◌, Option, Some, None, option_map, refl, sym, ap, ◌∙◌, subst, arith}
 use Rattle.hip_mem.specs.Memory.{range_contains}
 use Rattle.hip_tree.specs.declared.program.Program.{Program}
@@ -59,7 +59,7 @@ no_slot_at (f ∷ fs) a g e = go (λ q. no_slot_at fs a g q) (slot_in f.slots a)
     go rest None q e = rest e
     go rest (Some x) q e = no_slot f.slots a g (q ∙ e)
 
--- The object at an address is a global where the address lies in it.
+-- The object at an address is a global exactly if the address is in that global.
 pub the_global : (P : Program) (base a : ℕ) (fs : List Frame) → global_of (object_at P base fs a) ≡ global_at P base a
 the_global P base a fs = by (global_at P base a)
   where

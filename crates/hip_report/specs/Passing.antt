@@ -3,7 +3,7 @@ use Rattle.std.specs.Prelude.{◌≡◌, ◌⊎◌}
 use Rattle.hip_runs.specs.Seen.{Seen, after_step}
 use Rattle.hip_engine.specs.Quiet.{GoesQuietly}
 
--- The run goes some steps without an event, and perhaps one step more, of any kind.
+-- The run takes some steps without an event, and perhaps one more step of any kind.
 pub record StopsShort (old new : Seen) : Type 0 where
   pub before : Seen
   pub quiet : GoesQuietly old before

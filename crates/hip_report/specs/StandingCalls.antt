@@ -1,4 +1,4 @@
--- The calls that the notes have, beside those that stand.
+-- The calls that the notes have, beside the standing calls.
 use Rattle.std.specs.Prelude.{◌≡◌, ℕ, ◌-◌, ◌≤◌, false, true, List, drop, length}
 use Rattle.hip_tree.specs.declared.program.Program.{Program}
 use Rattle.hip_runs.specs.State.{Level, levels_of}
@@ -9,7 +9,7 @@ use Rattle.hip_runs.specs.declared.input.Input.{Input}
 use Rattle.hip_notes.specs.Sights.{needs_calls}
 use Rattle.hip_notes.specs.declared.notes.Notes.{Notes}
 
--- The calls that stand in a machine, the innermost one first.
+-- The standing calls of a machine, the innermost one first.
 abbrev pub standing : Seen → List Level
 standing m = levels_of (state_of m).frames
 
@@ -18,14 +18,14 @@ pub record AreOutermost (calls all : List Level) : Type 0 where
   pub few : length calls ≤ length all
   pub are : calls ≡ drop (length all - length calls) all
 
--- These calls are the outermost ones of those that stood after n steps of a run, or after fewer.
+-- These calls are the outermost ones of the standing calls after n steps of a run, or after fewer.
 pub record StoodOutermost (P : Program) (I : Input) (n : ℕ) (calls : List Level) : Type 0 where
   pub steps : ℕ
   pub few : steps ≤ n
   pub outer : AreOutermost calls (levels_of (run P I steps).frames)
 
--- After a step with this event the notes have the calls that stand in the machine, if the event needs them. Nothing
--- else is noted.
+-- After a step with this event the notes have the standing calls of the machine, if the event needs them. Nothing else
+-- is noted.
 pub record LooksAt (e : Event) (m : Seen) (old new : Notes) : Type 0 where
   pub rest : new ≡ record old { calls = new.calls }
   pub looked : needs_calls e ≡ true → new.calls ≡ standing m

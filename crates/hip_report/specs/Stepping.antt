@@ -56,7 +56,7 @@ pub record StandsBefore (P : Program) (I : Input) (n : ℕ) (e : Event) (c : Not
   pub seen : e ≡ event P I (run P I n)
   pub sees : Sees P I (run P I n) c sight
 
--- A machine has taken a step with this event, before which the notes were these and this was seen.
+-- A machine has taken a step with this event. Before it the notes were these, and this was seen.
 abbrev pub HasTaken : Seen → Event → Notes → Sight → Type 0
 HasTaken m e c sight = (0 < m.taken) × StandsBefore m.program m.input (m.taken - 1) e c sight
 

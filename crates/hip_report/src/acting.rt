@@ -30,7 +30,7 @@ pub fn step_generally(
     Ok(event)
 }
 
-/// Takes a step, and notes it. Stores with known marks, flushes and fences go a short way.
+/// Takes a step, and notes it. Stores with known marks, flushes and fences take a shorter path.
 #[inline(always)]
 pub fn take_step(
     alloc: Global,

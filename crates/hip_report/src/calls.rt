@@ -32,7 +32,7 @@ fn is_same_birth(a: Option<u128>, b: Option<u128>) -> bool
     }
 }
 
-// Whether these calls are the outermost ones of the `count` calls that stand. Calls at one place with one birth are the
+// Whether these calls are the outermost ones of the `count` standing calls. Calls at one place with one birth are the
 // same call, and so are the calls outside of them.
 #[inline(always)]
 fn are_outermost(calls: &Calls, machine: &Machine<'_>, count: usize) -> bool
@@ -48,7 +48,7 @@ fn are_outermost(calls: &Calls, machine: &Machine<'_>, count: usize) -> bool
     is_same_birth(calls.last_birth(), birth_at(machine, count - known))
 }
 
-// Leaves the calls that stand no more.
+// Removes the calls that are no longer standing.
 fn leave_calls(calls: &mut Calls, machine: &Machine<'_>, count: usize) -> Result<(), NoMemory>
     requires stood { StoodOutermost machine.now.program machine.now.input machine.now.taken calls.old }
     requires count { count ≡ length (standing machine.now) }
@@ -60,7 +60,7 @@ fn leave_calls(calls: &mut Calls, machine: &Machine<'_>, count: usize) -> Result
     Ok(())
 }
 
-// The outermost one of the `count` calls that stand, of those that are inside of these.
+// The outermost of the standing calls that are inside of these, if there is one. There are `count` standing calls.
 fn next_inside(calls: &Calls, machine: &Machine<'_>, count: usize) -> Option<StandingCall>
     requires outer { AreOutermost calls.now (standing machine.now) }
     requires count { count ≡ length (standing machine.now) }
@@ -75,7 +75,7 @@ fn next_inside(calls: &Calls, machine: &Machine<'_>, count: usize) -> Option<Sta
     machine.standing_call(count - known - 1)
 }
 
-// Enters the calls that stand inside of these.
+// Adds the standing calls that are inside of these.
 fn enter_calls(
     alloc: Global,
     calls: &mut Calls,
@@ -92,8 +92,7 @@ fn enter_calls(
     Ok(())
 }
 
-/// Looks at the calls that stand in a machine. The time is linear in the calls and returns since they were looked at
-/// last.
+/// Looks at the standing calls of a machine. The time is linear in the calls and returns since the last look.
 #[inline(always)]
 pub fn look_at_calls(
     alloc: Global,

@@ -15,7 +15,7 @@ use hip_tree::Site;
 use hip_types::{NoMemory, Row};
 use std::alloc::Global;
 
-// A call with more pointers reads them all at once, in linear time.
+// If a call has more pointers than this, all of them are read at once, in linear time.
 const FEW_POINTERS: usize = 8;
 
 /// An address that a pointer operand has, and the object that it points into.
@@ -57,8 +57,8 @@ pub fn look(alloc: Global, notes: &Notes, machine: &Machine<'_>) -> Result<Sight
     })
 }
 
-/// Looks at a step whose marks are known: a store, a call with few pointers, or a step without a pointer operand. None if
-/// a mark may be new, for a call with many pointers, and if the run has ended.
+/// Looks at a step whose marks are known: a store, a call with few pointers, or a step without a pointer operand. None
+/// if a mark may be new, if a call has many pointers, or if the run has ended.
 #[inline(always)]
 pub fn look_quickly(alloc: Global, notes: &Notes, machine: &Machine<'_>) -> Option<Sight>
     requires { AreMet notes.now.marks.keys notes.now.recent.items }
@@ -70,7 +70,7 @@ pub fn look_quickly(alloc: Global, notes: &Notes, machine: &Machine<'_>) -> Opti
     }
 }
 
-// Looks at a store to an address, which is the next instruction. None if its mark may be new, and if the run has ended.
+// Looks at a store to an address, which is the next instruction. None if its mark may be new, or if the run has ended.
 #[inline(always)]
 fn look_at_store(alloc: Global, notes: &Notes, machine: &Machine<'_>, addr: u64) -> Option<Sight>
     requires known { AreMet notes.now.marks.keys notes.now.recent.items }
@@ -89,8 +89,8 @@ fn look_at_store(alloc: Global, notes: &Notes, machine: &Machine<'_>, addr: u64)
     })
 }
 
-// Looks at a step that makes no store. None if a mark of a pointer operand may be new, if it may have many of them, and
-// if the run has ended.
+// Looks at a step that makes no store. None if a mark of a pointer operand may be new, if the step may have many
+// pointer operands, or if the run has ended.
 #[inline(always)]
 fn look_at_others(alloc: Global, notes: &Notes, machine: &Machine<'_>) -> Option<Sight>
     requires { AreMet notes.now.marks.keys notes.now.recent.items }
@@ -127,7 +127,8 @@ fn has_known_marks(notes: &Notes, machine: &Machine<'_>, site: Option<Site>) -> 
     }
 }
 
-// Whether the instruction at a site, which is the next one, has few pointer operands, and a known mark for each of them.
+// Whether the instruction at a site, which is the next one, has few pointer operands, and a known mark for each of
+// them.
 fn are_known(notes: &Notes, machine: &Machine<'_>, site: Site) -> bool
     requires known { AreMet notes.now.marks.keys notes.now.recent.items }
     requires site { next_site machine.now.program (state_of machine.now) ≡ Some site }
@@ -316,7 +317,7 @@ fn value_at(values: &[u64], operand: usize) -> Option<u64>
     values.get(operand).copied()
 }
 
-// The number after this one. An instruction with more operands is out of memory.
+// The number after this one; out of memory if there is none.
 #[inline(always)]
 fn next_number(operand: usize) -> Result<usize, NoMemory>
     ensures { IfOk result (λ next. next ≡ operand + 1) }

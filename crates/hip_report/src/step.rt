@@ -113,7 +113,7 @@ fn needs_calls(event: Event) -> bool
     }
 }
 
-// Notes the calls that stand, if a step with this event needs them.
+// Notes the standing calls, if a step with this event needs them.
 #[inline(always)]
 fn note_calls(
     alloc: Global,
@@ -131,7 +131,7 @@ fn note_calls(
     }
 }
 
-// Drops the notes that no check will need, after a step that was noted, if there are many.
+// Drops the notes that no later check needs, if there are many notes. The last step of the machine was noted.
 #[inline(always)]
 fn forget(alloc: Global, notes: &mut Notes, machine: &Machine<'_>)
     requires noted { AreNoted machine.now.program machine.now.input machine.now.taken notes.old }

@@ -93,8 +93,8 @@ impl<'a> Tracker<'a> {
         }
     }
 
-    /// Takes the machine's steps up to the next event, and notes them. Out of memory, the machine has stopped on the way
-    /// there, and from then on the tracker returns `NoMemory` and leaves machines as they are.
+    /// Takes the machine's steps up to the next event, and notes them. Out of memory, the machine has stopped on the
+    /// way there, and from then on the tracker returns `NoMemory` and leaves machines as they are.
     pub fn next_event(&mut self, machine: &mut Machine<'a>) -> Result<Event, NoMemory>
         requires { MayAdvance self.old machine.old }
         ensures machine { IfOk result (λ e. ComesTo machine.old machine.new e) }

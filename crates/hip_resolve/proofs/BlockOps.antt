@@ -39,7 +39,7 @@ next_block s d b block h =
 
 -- ---- the slots that calls keep
 
--- A call that keeps fewer slots does the same.
+-- A call that keeps another number of slots does the same, as long as the function has these slots.
 pub does_kept : (P : Program) (base f : ℕ) (t : Tables) (frame : ℕ) (o : Op) (i : Instr) → frame ≤ length (names_at P f) → Does P base f t o i → Does P base f t (with_frame frame o) i
 does_kept P base f t frame (ops.Value dest value) i few d = d
 does_kept P base f t frame (ops.Memory memory) i few d = d

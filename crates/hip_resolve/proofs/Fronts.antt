@@ -1,4 +1,4 @@
--- One op more.
+-- The code with one more op.
 use Rattle.std.proofs.Common.{◌≡◌, ◌⊎◌, ℕ, ◌+◌, ◌<◌, true, List, [], ◌∷◌, ◌++◌, length, Some, slice_get, sym, ap, ◌∙◌, subst, arith, ⊎_elim, eq-or-lt_of_le}
 use Rattle.std.proofs.lemmas.List.{length-append}
 use Rattle.std.proofs.lemmas.Option.{same_Some, slice_get_within}
@@ -30,7 +30,7 @@ module _ (P : Program) (base : ℕ) where
     last = λ f b block h lt. let m = front.last f b block h lt in record { op = m.op; here = m.here; end_is = m.end_is; ends = λ v more. m.ends v (grows_on g more) };
   }
 
-  -- The place is one of those before, or the next one.
+  -- A place of the longer code is a place of the code before, or the next place.
   place_cases : (ops : List Op) (o : Op) (n : ℕ) → n < length (ops ++ o ∷ []) → (n ≡ length ops) ⊎ (n < length ops)
   place_cases ops o n lt = let l = length-append ops (o ∷ []) in eq-or-lt_of_le (omega (arith, l, lt))
 
@@ -43,7 +43,7 @@ module _ (P : Program) (base : ℕ) where
   here_is : (ops : List Op) (o : Op) (n : ℕ) → n ≡ length ops → slice_get (ops ++ o ∷ []) n ≡ Some o
   here_is ops o n e = subst (λ j. slice_get (ops ++ o ∷ []) j ≡ Some o) (sym e) (get_last ops o)
 
-  -- The op of an instruction.
+  -- The front with the op of an instruction.
   pub front_op : (ops : List Op) (t : Tables) (o : Op) (f b k : ℕ) (block : Block) (i : Instr) → IsFront P base ops t → block_at P f b ≡ Some block → slice_get block.body k ≡ Some i → length ops ≡ entry P f b + k →
       ((u : Tables) → Grows t u → Does P base f u o i) → keeps_extent P f b o → IsFront P base (ops ++ o ∷ []) t
   front_op ops t o f b k block i front at is long does extent = record { body = body; last = last }
@@ -77,7 +77,7 @@ module _ (P : Program) (base : ℕ) where
               let z = s.index in
               absurd (let q : ⊥ = omega (arith, m, z, long_as) in q)
 
-  -- The op of a block's end.
+  -- The front with the op of a block's end.
   pub front_end : (ops : List Op) (t : Tables) (o : Op) (f b : ℕ) (block : Block) → IsFront P base ops t → block_at P f b ≡ Some block → length ops ≡ entry P f b + length block.body →
       is_end o ≡ true → ((u : Tables) → Grows t u → Ends P base f b u o block.end) → IsFront P base (ops ++ o ∷ []) t
   front_end ops t o f b block front at long is ends = record { body = body; last = last }
@@ -108,7 +108,7 @@ module _ (P : Program) (base : ℕ) where
                 ends = λ u more. subst (λ z. Ends P base z c u o x.end) s.function (subst (λ z. Ends P base f z u o x.end) s.block (subst (λ (z : Block). Ends P base f b u o z.end) same (ends u more)));
               }
 
-  -- All ops are made.
+  -- If there are as many ops as places, the front is the code of the program.
   pub front_whole : (ops : List Op) (t : Tables) (I : Input) → IsFront P base ops t → length ops ≡ entry P (length P.functions) 0 → I.base ≡ base → IsCodeOf P I ops t
   front_whole ops t I front long e = record {
     body = λ f b k block i h is.

@@ -36,7 +36,7 @@ named_lower {labels} {named} {low} less l le = record { at = λ label c h e. let
 pub named_more : {labels xs ys : List (List ℕ)} {low : ℕ} → LeadsNoLower labels xs low → LeadsNoLower labels ys low → LeadsNoLower labels (xs ++ ys) low
 named_more {labels} {xs} {ys} {low} a b = record { at = λ label c h e. ⊎_elim (λ l. a.at label c l e) (λ r. b.at label c r e) (among-either xs ys label h) }
 
--- The labels of the first cases, and of one more.
+-- The labels of the first k + 1 cases are those of the first k cases, and one more.
 pub case_taken : (cases : List Case) (k : ℕ) (x : Case) → k < length cases → x ≡ get_or cases k x →
     map (λ (c : Case). c.label) (take (k + 1) cases) ≡ map (λ (c : Case). c.label) (take k cases) ++ x.label ∷ []
 case_taken cases k x lt is = ap (λ n. map (λ (c : Case). c.label) (take n cases)) (add-one k) ∙ go cases k lt is
@@ -84,7 +84,7 @@ module _ (fn : Function) where
       let r = slots_next bs b block e in
       omega (arith, l, m, r)
 
-  -- The slots up to the end of a block.
+  -- The slots up to the end of a block are those up to its start, and those of its registers.
   pub slots_on : (b : ℕ) (block : Block) → slice_get fn.blocks b ≡ Some block → slots_to fn (suc b) ≡ slots_to fn b + length (block_registers block)
   slots_on b block e = let r = slots_next fn.blocks b block e in omega (arith, r)
 
@@ -108,7 +108,7 @@ module _ (fn : Function) where
   take_whole [] = refl
   take_whole (x ∷ xs) = ap (λ ys. x ∷ ys) (take_whole xs)
 
-  -- All slots are those of the registers.
+  -- A function has a slot for each of its registers.
   pub slots_all : length (register_names fn) ≡ slots_to fn (length fn.blocks)
   slots_all =
       let m = length-map (parameter_registers fn ++ flat_map block_registers fn.blocks) (λ (r : Register). r.name) in
@@ -118,8 +118,8 @@ module _ (fn : Function) where
 
   -- ---- the walk
 
-  -- The blocks from `at` on have extents. `lowest` is not above any of the other blocks to which they lead, and
-  -- `extent` is the least of theirs.
+  -- The blocks from `at` on have extents. `lowest` is not above any earlier block to which they lead, and `extent` is at
+  -- most each of their extents.
   pub record Walked (extents : List ℕ) (at lowest extent : ℕ) : Type 0 where
     pub own : (b : ℕ) → at ≤ b → b < length fn.blocks → slots_to fn (suc b) ≤ slice_index extents b
     pub few : (b : ℕ) → at ≤ b → b < length fn.blocks → slice_index extents b ≤ slots_to fn (length fn.blocks)
@@ -198,7 +198,7 @@ module _ (fn : Function) where
     abbrev pub new : List ℕ
     new = slice_set extents d chosen
 
-    -- What holds of the block and of those that were passed.
+    -- What holds of the block and of the blocks that were passed, holds of all blocks from this one on.
     on_each : (Q : ℕ → ℕ → Type 0) → Q d chosen → ((b : ℕ) → at ≤ b → Q b (slice_index extents b)) → (b : ℕ) → d ≤ b → Q b (slice_index new b)
     on_each Q first later b le =
         ⊎_elim (λ s. subst (λ k. Q k (slice_index new k)) s (subst (Q d) (sym there) first))
@@ -245,7 +245,7 @@ module _ (fn : Function) where
   among_at (x ∷ xs) q (inl e) = (0, ap Some e)
   among_at (x ∷ xs) q (inr h) = let r = among_at xs q h in (suc r.0, r.1)
 
-  -- A name at the front of a list has a number there.
+  -- The number of a name at the front of a list is within the front.
   front_number : (xs ys : List (List ℕ)) (q : List ℕ) (slot : ℕ) → IsAmong xs q → number_of (xs ++ ys) q ≡ Some slot → slot < length xs
   front_number xs ys q slot h e =
       let at = among_at xs q h in
@@ -333,7 +333,7 @@ module _ (fn : Function) where
         (among-either (flat_map (whole_block_names fn) m.earlier) (whole_block_names fn b) q r))
         (among-either (names_of (parameter_registers fn)) _ q m.assigned)
 
--- A list of extents is one of the extents of a function.
+-- The extents that the walk finds are extents of the blocks of the function.
 pub extents_are : (P : Program) (f : ℕ) (fn : Function) (xs : List ℕ) → slice_get P.functions f ≡ Some fn → AreExtents fn xs → HasExtents P f xs
 extents_are P f fn xs here a = record {
   as_long = a.as_long ∙ sym (ap (λ o. length (blocks_in o)) here);

@@ -13,12 +13,12 @@ use Rattle.hip_code.specs.declared.op.Op.TheVariants as ops
 abbrev pub slots_to : Function → ℕ → ℕ
 slots_to fn k = length (parameter_registers fn) + length (flat_map block_registers (take k fn.blocks))
 
--- None of these labels is that of a block below a number.
+-- No label of the second list is the label of a block below a number.
 pub record LeadsNoLower (labels named : List (List ℕ)) (lowest : ℕ) : Type 0 where
   pub at : (label : List ℕ) (c : ℕ) → IsAmong named label → number_of labels label ≡ Some c → lowest ≤ c
 
--- Each block has at least the slots of the registers up to its end, at most all slots of the function, and no more than
--- a block to which it leads.
+-- The extent of a block is at least the number of slots up to the block's end, at most the number of all slots of the
+-- function, and at most the extent of each block to which the block leads.
 pub record AreExtents (fn : Function) (extents : List ℕ) : Type 0 where
   pub as_long : length extents ≡ length fn.blocks
   pub own : (b : ℕ) → b < length fn.blocks → slots_to fn (suc b) ≤ slice_index extents b

@@ -20,7 +20,7 @@ pub record HasMade (P : Program) (base : ℕ) (ops : List Op) (t : Tables) (f b 
   pub does : (u : Tables) → Grows t u → Does P base f u op i
   pub extent : keeps_extent P f b op
 
--- The same for the end of a block.
+-- The op at the place of the block's end resolves it, however the tables grow.
 pub record HasMadeEnd (P : Program) (base : ℕ) (ops : List Op) (t : Tables) (f b : ℕ) (block : Block) : Type 0 where
   pub op : Op
   pub here : slice_get ops (entry P f b + length block.body) ≡ Some op

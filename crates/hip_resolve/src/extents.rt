@@ -37,7 +37,7 @@ fn assigned(body: &[Instr]) -> usize
 
 // ---- labels
 
-/// The lower one of a number and that of the block with a label.
+/// The lower of a number and the number of the block with a label.
 fn lower(labels: &NameSet<'_>, label: &Name, low: usize) -> usize
     ensures below { result ≤ low }
     ensures label { LeadsNoLower labels.now (label.now ∷ []) result }
@@ -48,7 +48,7 @@ fn lower(labels: &NameSet<'_>, label: &Name, low: usize) -> usize
     }
 }
 
-/// The lowest one of a number and those of the blocks to which cases go.
+/// The lowest of a number and the numbers of the blocks to which cases lead.
 fn lowest_case(labels: &NameSet<'_>, cases: &[Case], low: usize) -> usize
     ensures below { result ≤ low }
     ensures labels { LeadsNoLower labels.now (map (λ c. c.label) cases.now) result }
@@ -60,7 +60,7 @@ fn lowest_case(labels: &NameSet<'_>, cases: &[Case], low: usize) -> usize
     lowest
 }
 
-/// The lowest one of a number and those of the blocks to which an end leads.
+/// The lowest of a number and the numbers of the blocks to which an end leads.
 fn lowest(labels: &NameSet<'_>, end: &End, low: usize) -> usize
     ensures below { result ≤ low }
     ensures labels { LeadsNoLower labels.now (end_labels end.now) result }
@@ -82,8 +82,9 @@ fn lowest(labels: &NameSet<'_>, end: &End, low: usize) -> usize
 
 // ---- extents
 
-/// A walk over the blocks of a function from the last one to the first: how many slots the parameters and the registers of
-/// the blocks that are left take; the lowest block to which a passed block leads; and the extent of the block passed last.
+/// A walk over the blocks of a function from the last one to the first: how many slots the parameters and the registers
+/// of the blocks that are left take; the lowest block to which a passed block leads; and the extent of the block passed
+/// last.
 #[derive(Drop)]
 struct Walk {
     slots: usize,
@@ -91,8 +92,8 @@ struct Walk {
     extent: u32,
 }
 
-/// Passes a block. If a passed block leads to it or to one that is left, it has the extent of the block passed last, else
-/// the slots up to its end.
+/// Passes a block. If a passed block leads to this block or to an earlier one, its extent is that of the block passed
+/// last; otherwise its extent is the number of slots up to its end.
 fn pass(walk: &mut Walk, labels: &NameSet<'_>, block: &Block, number: usize) -> Result<(), NoMemory>
     requires { length (block_registers block.now) ≤ walk.old.slots }
     ensures extent { OnOk result (walk.new.extent

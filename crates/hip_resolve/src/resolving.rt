@@ -103,7 +103,7 @@ fn code_of(made: Made, starts: Row<u32>, sizes: Row<u32>) -> Code
     }
 }
 
-/// Adds the ops of all functions to none.
+/// Adds the ops of all functions, where there are no ops yet.
 fn add_functions(
     known: &Known<'_, '_>,
     tables: &mut Growing,

@@ -110,7 +110,7 @@ fn phi_sources(alloc: Global, blocks: &[Block]) -> Result<Row<Row<EdgeNumbers<'_
     Ok(sources)
 }
 
-/// What the instructions of the function of a number name.
+/// What the instructions of the function of that number name.
 ///
 /// It takes time and memory linear in the function's text.
 pub fn scope_of<'p, 'a>(known: &Known<'p, 'a>, number: usize) -> Result<Scope<'p, 'a>, NoMemory>

@@ -13,7 +13,7 @@ pub record Part (F A : Type 0) : Type 1 where
 abbrev pub gives : {F A : Type 0} → A → Part F A
 gives a = record { rule = done a; read = done_at a }
 
--- One token, by what the test says of it: a value, or that it is refused.
+-- One token, by its verdict: a value, or a refusal.
 abbrev pub token : {F A : Type 0} → (Tok → Verdict F A) → Part F A
 token p = record { rule = one p; read = one_at p }
 

@@ -40,7 +40,7 @@ abbrev pub next : (Tok → Bool) → List At → Bool
 next p [] = false
 next p (t ∷ ts) = p t.tok
 
--- The first case if the next token passes, else the second, at the end of the tokens too.
+-- The first case if the next token passes, else the second. At the end of the tokens it is the second.
 abbrev pub either_at : {F A : Type 0} → (Tok → Bool) → Reader F A → Reader F A → Reader F A
 either_at p r s ts = if next p ts then r ts else s ts
 
@@ -72,7 +72,7 @@ folded step s (x ∷ xs) = folded step (step s x) xs
 abbrev pub taken_up : {F A S : Type 0} → (S → A → S) → S → Outcome F (List A) → Outcome F S
 taken_up step s o = on_ok o (λ xs rest. Ok (folded step s xs, rest))
 
--- At most n parts of one kind that begin with a head. A head that is not followed by such a part is given with them.
+-- At most n parts of one kind that begin with a head. The result also has the last head, if no such part follows it.
 unfoldable pub leading_at : {F X P : Type 0} → (Tok → Bool) → Reader F X → (Tok → Bool) → (X → Reader F P)
     → ℕ
     → Reader F (List P × Option X)
@@ -85,7 +85,7 @@ leading_at kh rh kf rf (suc n) ts =
     else Ok (([], Some x), m))
     else Ok (([], None), ts)
 
--- The same, but at most as many parts as there are tokens.
+-- Parts of one kind that begin with a head, but at most as many as there are tokens.
 abbrev pub leaders_at : {F X P : Type 0} → (Tok → Bool) → Reader F X → (Tok → Bool) → (X → Reader F P)
     → Reader F (List P × Option X)
 leaders_at kh rh kf rf ts = leading_at kh rh kf rf (length ts) ts

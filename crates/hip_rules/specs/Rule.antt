@@ -1,5 +1,5 @@
--- Grammars by parts. A rule is about two places in one list of tokens, the second at or after the first: what the
--- tokens between them are.
+-- Grammars by parts. A rule describes the tokens between two places in one list of tokens; the second place is at or
+-- after the first.
 use Rattle.std.specs.Prelude.{◌≡◌, List, [], ◌∷◌, ◌++◌, Option, Some, None, ◌⊎◌}
 use Rattle.hip_tokens.specs.Tokens.{Tok, At}
 
@@ -11,9 +11,9 @@ Later a b = (w : List At) × (a ≡ w ++ b)
 pub record Rule (F A : Type 0) : Type 1 where
   -- The tokens from the first place to the second derive the value.
   pub Derives : List At → A → List At → Type 0
-  -- They are a front of the rule.
+  -- The tokens between the places are a front of the rule.
   pub Front : List At → List At → Type 0
-  -- They are a front, and the token at the second place is refused for this reason.
+  -- The tokens between the places are a front, and the token at the second place is refused for this reason.
   pub Refuses : F → List At → List At → Type 0
 
 -- What a place for one token makes of a token: its value, or a refusal, perhaps with a reason of this place.
@@ -49,7 +49,7 @@ both {F} {A} {B} l f = record {
       × (f x).Refuses why m rest);
 }
 
--- One case or the other. A front is one of either case.
+-- The first case or the second. A front of either case is a front.
 infixr 5 ◌or◌
 unfoldable pub ◌or◌ : {F A : Type 0} → Rule F A → Rule F A → Rule F A
 l or m = record {

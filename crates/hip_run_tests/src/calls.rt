@@ -1,4 +1,4 @@
-//! The calls that stand in a machine, and the plain steps that it takes.
+//! The standing calls of a machine, and the plain steps that it takes.
 
 use crate::machines::{checked, input, machine};
 use hip_examples::AMPLE;
@@ -50,7 +50,8 @@ fn take_steps(rt: &impl Abort, machine: &mut Machine<'_>, count: usize) {
     }
 }
 
-/// The calls of the third function stand in those of `main`, each with the number of its step.
+/// Asserts that after two steps the standing calls are those of `twice` and `next`, each with the number of steps
+/// before it.
 fn assert_standing(rt: &impl Abort, alloc: Global) {
     let checked = checked(rt, alloc, CALLS);
     let input = input(rt, alloc, &checked, &[], 100);

@@ -7,7 +7,7 @@ use hip_step::{Event, Machine};
 use std::alloc::Global;
 use std::process::Abort;
 
-/// The bytes of the region that are not durable after a step, and those of them that are flushed.
+/// How many bytes of the region are not durable after a step, and how many of these are flushed.
 type Loose = (usize, usize);
 
 /// A store that lies in two cache lines is durable line by line.
@@ -58,7 +58,7 @@ entry:
 }
 ";
 
-/// The bytes that are not durable now.
+/// How many bytes are not durable now, and how many of these are flushed.
 fn loose(rt: &impl Abort, alloc: Global, machine: &Machine<'_>) -> Loose {
     let size = machine.input().image.len() as u64;
     assert!(rt; size == 128);

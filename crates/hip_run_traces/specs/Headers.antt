@@ -20,12 +20,13 @@ pub data Header : Type 0 where
 
 -- ---- which entries are valid, and what they give
 
--- The limit of turns, at most 2^40.
+-- The limit of turns that a piece gives, if it is a START entry with a limit of at most 2^40.
 abbrev pub valid_limit : Option Entry → Option ℕ
 valid_limit (Some (Start limit)) = if nat_le limit MOST_TURNS then Some limit else None
 valid_limit _ = None
 
--- The base of the region, where the size is that of the program's region.
+-- The base of the region that a piece gives, if it is a REGISTER entry with a valid base and the size of the program's
+-- region.
 abbrev pub valid_base : Program → Option Entry → Option ℕ
 valid_base P (Some (Register base size)) = if is_base base && (size == region_size P) then Some base else None
 valid_base P _ = None
@@ -35,24 +36,26 @@ abbrev pub is_empty : List ℕ → Bool
 is_empty [] = true
 is_empty (b ∷ bs) = false
 
--- An INPUT entry adds a number to the input so far. It comes before each IMAGE, and there are at most 1,048,576.
+-- The input so far with the number of an INPUT entry. The entry has to come before each IMAGE, and there are at most
+-- 1,048,576 numbers.
 abbrev pub with_number : Input → ℤ → Option Input
 with_number I number =
     if is_empty I.image && nat_lt (length I.numbers) MOST_NUMBERS
     then Some (record I { numbers = I.numbers ++ number ∷ [] }) else None
 
--- An IMAGE entry is for a cache line of the region, after the lines before it, and has a byte other than 0.
+-- Whether an IMAGE entry is for a cache line of the region that comes after the earlier lines, and has a byte other
+-- than 0.
 abbrev pub is_next_line : Program → Input → ℕ → List ℕ → Bool
 is_next_line P I addr bytes =
     nat_le (I.base + length I.image) addr && (nat_le (addr + LINE_SIZE) (I.base + region_size P) && some_byte bytes)
 
--- An IMAGE entry adds the bytes up to the end of its line; those between two lines are 0.
+-- The input so far with the bytes of an IMAGE entry. The bytes between the last line and this one are 0.
 abbrev pub with_line : Program → Input → ℕ → List ℕ → Option Input
 with_line P I addr bytes =
     if is_next_line P I addr bytes
     then Some (record I { image = I.image ++ (zeros (addr - (I.base + length I.image)) ++ bytes) }) else None
 
--- The input so far with what the next piece gives; none if the piece is no INPUT or IMAGE that is valid there.
+-- The input so far with what the next piece gives; none if the piece is not an INPUT or IMAGE that is valid there.
 abbrev pub with_entry : Program → Input → Option Entry → Option Input
 with_entry P I (Some (Number number)) = with_number I number
 with_entry P I (Some (Image addr bytes)) = with_line P I addr bytes
@@ -64,24 +67,25 @@ filled P I = record I { image = I.image ++ zeros (region_size P - length I.image
 
 -- ---- the header
 
--- The header ends after n entries if the next piece gives no input, and else goes on with the input that it gives.
+-- The header ends after n entries if the next piece gives no input. Otherwise it continues with the input that the
+-- piece gives.
 abbrev pub go_on : Program → Input → ℕ → (Input → Header) → Option Input → Header
 go_on P I count rest None = Gives count (filled P I)
 go_on P I count rest (Some more) = rest more
 
--- The header, where n entries gave the input so far and these pieces follow.
+-- The header, if n entries gave the input so far and these pieces follow.
 abbrev pub header_from : Program → Input → ℕ → List (Option Entry) → Header
 header_from P I count [] = Gives count (filled P I)
 header_from P I count (e ∷ es) = go_on P I count (λ more. header_from P more (suc count) es) (with_entry P I e)
 
--- The header, where the second piece gave this base and these pieces follow; it has one entry if the piece gave none.
+-- The header, if the second piece gave this base and these pieces follow. It has one entry if the piece gave no base.
 abbrev pub past_register : Program → ℕ → List (Option Entry) → Option ℕ → Header
 past_register P limit es None = Stops 1
 past_register P limit es (Some base) =
     header_from P (record { base = base; image = []; numbers = []; limit = limit }) 2 es
 
--- The header, where the first piece gave this limit and these pieces follow; it has no entry if the piece gave none,
--- and one if no piece follows.
+-- The header, if the first piece gave this limit and these pieces follow. It has no entry if the piece gave no limit,
+-- and one entry if no piece follows.
 abbrev pub past_start : Program → List (Option Entry) → Option ℕ → Header
 past_start P es None = Stops 0
 past_start P [] (Some limit) = Stops 1

@@ -9,7 +9,7 @@ use Rattle.hip_runs.specs.declared.input.Input.{Input}
 use Rattle.hip_trace.specs.Pieces.{spelled}
 use Rattle.hip_trace.specs.declared.entry.Entry.{Entry}
 
--- The kind of a piece that should not be there, or should be another.
+-- How a piece differs from an entry: it is malformed, or the kind is the given one.
 abbrev pub kind_of : Option Entry → MisfitKind → MisfitKind
 kind_of None otherwise = Malformed
 kind_of (Some e) otherwise = otherwise
@@ -28,7 +28,7 @@ pub record FirstDiffers (whole : Bool) (pieces : List (Option Entry)) (trace : L
   pub before : take count pieces ≡ map (λ e. Some e) (take count trace)
   pub here : DiffersAt whole (slice_get pieces count) (slice_get trace count) kind
 
--- After a header of less than two entries, the next piece is missing or is no valid entry.
+-- After a header of less than two entries, the next piece is missing or is not a valid entry.
 abbrev pub StopsAt : Bool → Option (Option Entry) → MisfitKind → Type 0
 StopsAt whole None kind = (whole ≡ true) × (kind ≡ Early)
 StopsAt whole (Some piece) kind = kind ≡ kind_of piece Differs
@@ -42,15 +42,15 @@ pub record DiffersFromRun (P : Program) (I : Input) (whole : Bool) (pieces : Lis
   pub number : entry ≡ count + 1
   pub differs : FirstDiffers whole pieces trace count kind
 
--- After a header that gives no input the misfit is the next entry, which is missing or not valid there. After a header
--- that gives an input it is the first one at which the pieces differ from the trace of the run on that input.
+-- After a header that gives no input, the misfit is the next entry, which is missing or not valid there. After a header
+-- that gives an input, it is the first entry at which the pieces differ from the trace of the run on that input.
 abbrev pub MisfitPast : Header → Program → Bool → List (Option Entry) → ℕ → MisfitKind → Type 0
 MisfitPast (Stops count) P whole pieces entry kind = (entry ≡ count + 1)
     × StopsAt whole (slice_get pieces count) kind
 MisfitPast (Gives count I) P whole pieces entry kind = DiffersFromRun P I whole pieces entry kind
 
--- The misfit of a program and the bytes of a trace, or of a front of a trace that is not whole: the number of an entry,
--- counted from 1, and how it differs from the run's. (This project's own.)
+-- The misfit of a program and the bytes of a trace, or of a front of a trace if `whole` is false: the number of an
+-- entry, counted from 1, and how it differs from the run's entry. (This project's own.)
 pub record IsMisfit (P : Program) (bytes : List ℕ) (whole : Bool) (entry : ℕ) (kind : MisfitKind) : Type 0 where
   pub here : MisfitPast (header P (spelled whole bytes)) P whole (spelled whole bytes) entry kind
 

@@ -36,8 +36,8 @@ entry_of_ending (endings.Stop code) = entries.Stop code
 entry_of_ending (endings.Trap kind) = entries.Trap (trap_word kind)
 entry_of_ending endings.Cut = entries.Cut
 
--- The entry of a step, if it has one: stores into the region, flushes of the region's cache lines, fences, asserts and
--- the ending have one; what is printed has none. (After pmemcheck's log of stores, flushes and fences.)
+-- The entry of a step, if it has one. Stores into the region, flushes of the region's cache lines, fences, asserts and
+-- the ending have an entry; prints have none. (After pmemcheck's log of stores, flushes and fences.)
 abbrev pub entry_of_event : Event → Option Entry
 entry_of_event events.Quiet = None
 entry_of_event (events.Print number) = None
@@ -50,7 +50,8 @@ entry_of_event (events.End ending) = Some (entry_of_ending ending)
 
 -- ---- before the first step
 
--- An IMAGE for each of n cache lines that has a byte other than 0; the first line begins at an address.
+-- The IMAGE entries of n cache lines, one for each line that has a byte other than 0. The first line begins at an
+-- address.
 abbrev pub image_entries : ℕ → ℕ → List ℕ → List Entry
 image_entries zero addr bytes = []
 image_entries (suc n) addr bytes =
@@ -67,12 +68,12 @@ header_of I =
 
 -- ---- the trace
 
--- An entry, as a list; empty where there is none.
+-- An entry, as a list; empty if there is no entry.
 abbrev pub entry_list : Option Entry → List Entry
 entry_list None = []
 entry_list (Some e) = e ∷ []
 
--- The entry of the next step, as a list; a run that has ended takes no more steps.
+-- The entry of the next step, as a list; empty if the run has ended, since it takes no more steps.
 abbrev pub next_entries : Program → Input → State → List Entry
 next_entries P I s = if has_ended s then [] else entry_list (entry_of_event (event P I s))
 
@@ -85,7 +86,7 @@ trace P I (suc n) = trace P I n ++ next_entries P I (run P I n)
 abbrev pub stated : List Entry → List (Option Entry)
 stated es = map (λ e. Some e) es
 
--- The trace of a run: that of its first n steps, after which it has ended.
+-- The trace of a run is the trace of its first n steps, after which the run has ended.
 pub record IsTrace (P : Program) (I : Input) (es : List Entry) : Type 0 where
   pub steps : ℕ
   pub ended : has_ended (run P I steps) ≡ true

@@ -64,7 +64,7 @@ pub fn trace_entries_are_spelled()
         All IsSpelled (trace P I n) }
 {}
 
-/// There is at most one misfit, and none if the file is the trace of a run; and it follows the header.
+/// There is at most one misfit, and no misfit if the file is the trace of a run. The misfit comes after the header.
 pub fn misfits_are_one()
     ensures entry { (P : Program) → (bytes : List ℕ) → (whole : Bool) → (e e' : ℕ) → (k k' : MisfitKind) →
         IsMisfit P bytes whole e k → IsMisfit P bytes whole e' k' → e ≡ e' }
@@ -77,15 +77,15 @@ pub fn misfits_are_one()
         IsMisfit P bytes whole e k → header P (spelled whole bytes) ≡ Gives h I → h < e }
 {}
 
-/// The misfit that the first bytes of a file show is the file's, whatever follows, and whether the file is whole or
-/// not.
+/// If the first bytes of a file show a misfit, it is the misfit of the file, whatever follows and whether or not the
+/// file is whole.
 pub fn first_bytes_decide_misfits()
     ensures { (P : Program) → (front rest : List ℕ) → (whole : Bool) → (e : ℕ) → (k : MisfitKind) →
         IsMisfit P front false e k → IsMisfit P (front ++ rest) whole e k }
 {}
 
-/// After entries that the pieces spell, the first difference is that of the rest. If pieces differ from the trace of a
-/// run's first steps before that trace ends, they differ in the same way from the run's trace.
+/// After entries that the pieces spell, the first difference is the first difference of the rest. If pieces differ from
+/// the trace of a run's first steps before that trace ends, they differ in the same way from the run's trace.
 pub fn first_steps_decide_misfits()
     ensures here { (whole : Bool) → (front : List Entry) → (pieces : List (Option Entry))
         → (more : List Entry) →
@@ -118,7 +118,7 @@ pub fn fronts_of_traces_show_no_misfit()
         IsMisfit P bytes false e k → ⊥ }
 {}
 
-/// Each whole file is the trace of a run of the program or has a misfit; and a front of a file shows a misfit or none.
+/// Each whole file is the trace of a run of the program or has a misfit. A front of a file shows a misfit or does not.
 pub fn misfits_are_decided()
     ensures whole { (P : Program) → (bytes : List ℕ) →
         ((I : Input) × IsTraceOf P bytes I) ⊎ ((e : ℕ) × (k : MisfitKind) × IsMisfit P bytes true e k) }
@@ -127,7 +127,7 @@ pub fn misfits_are_decided()
         ⊎ ((e : ℕ) → (k : MisfitKind) → IsMisfit P bytes false e k → ⊥) }
 {}
 
-/// The text of a run's trace, a line for each entry, is the trace of the run on the same input.
+/// The text of a run's trace, with a line for each entry, reads as the trace of the run on the same input.
 pub fn written_traces_are_read_back()
     ensures { (P : Program) → IsSound P → (I : Input) → IsInput I → IsValid P I → (es : List Entry)
         → IsTrace P I es →

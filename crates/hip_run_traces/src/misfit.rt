@@ -3,7 +3,7 @@
 pub enum MisfitKind {
     /// The text spells no entry, or has more than 256 bytes.
     Malformed,
-    /// It is another entry than the run's, or breaks a rule of the header.
+    /// It is not the entry of the run, or it breaks a rule of the header.
     Differs,
     /// The file has ended, and the run's trace has not.
     Early,

@@ -55,7 +55,8 @@ pub data Action : Type 0 where
   Allocates : List ℕ → (addr size : ℕ) → Action
   -- Bytes are stored from an address on.
   Stores : (addr : ℕ) → List ℕ → Action
-  -- The cache lines of a range are flushed; they are flushed and a fence is taken; a fence is taken.
+  -- The cache lines of a range are flushed (`Flushes`), or flushed and then fenced (`Persists`); or there is only a
+  -- fence (`Fences`).
   Flushes : (addr size : ℕ) → Action
   Persists : (addr size : ℕ) → Action
   Fences : Action
@@ -73,8 +74,7 @@ pub data Action : Type 0 where
 
 -- ---- addresses that are valid
 
--- Whether the n bytes from address a on lie between `from` and `to`; for n = 0, whether a lies between them or is one
--- of them.
+-- Whether the n bytes from address a on are in the range from `from` up to `to`. For n = 0, a may also be `to`.
 abbrev pub is_within : ℕ → ℕ → ℕ → ℕ → Bool
 is_within from to a n = nat_le from a && nat_le (a + n) to
 
@@ -139,7 +139,8 @@ read_value s bytes = little_endian bytes % modulus (width_of s)
 
 -- ---- the stack
 
--- A block lies at the next multiple of its alignment from the mark on, if it ends within the stack.
+-- An `alloca` places its block at the next multiple of its alignment from the mark on. It traps if the block does not
+-- end within the stack.
 unfoldable pub allocated : World → List ℕ → ℕ → ℕ → Action
 allocated w dest size align =
     cond (nat_le (next_multiple_of w.mark align + size) stack_end) (Allocates dest (next_multiple_of w.mark align) size)
@@ -157,8 +158,8 @@ abbrev pub numbered_call : Program → Option ℕ → List ℕ → Option (List 
 numbered_call P None values dest = Traps traps.Unreachable
 numbered_call P (Some g) values dest = bound_call (slice_get P.functions g) g values dest
 
--- A call of a defined function makes a frame, if fewer than 16,384 stand. It traps if no function has the name, which
--- does not occur in a sound program.
+-- A call of a defined function makes a frame, if there are fewer than 16,384 frames. It traps if no function has the
+-- name, which does not occur in a sound program.
 unfoldable pub entered : Program → ℕ → List ℕ → List ℕ → Option (List ℕ) → Action
 entered P below callee values dest =
     cond (nat_lt below (MOST_FRAMES - 1)) (numbered_call P (function_number P callee) values dest) (Traps traps.Depth)
@@ -183,15 +184,15 @@ abbrev pub flushed_size : List Scalar → List ℕ → ℕ
 flushed_size (addr ∷ size ∷ more) values = arg_value values 1
 flushed_size _ values = 1
 
--- What a function with this effect does to the cache lines of a range. (No function without an effect comes here.)
+-- What a function with this effect does to the cache lines of a range. (The case of no effect does not occur.)
 abbrev pub line_action : Program → Input → World → LineEffect → (addr size : ℕ) → Action
 line_action P I w effects.Nothing a n = Traps traps.Unreachable
 line_action P I w effects.Flush a n = flushing P I w a n (Flushes a n)
 line_action P I w effects.Fence a n = Fences
 line_action P I w effects.FlushAndFence a n = flushing P I w a n (Persists a n)
 
--- What an external function does: if it flushes or fences, what its effect and its parameters in the table say. The
--- others are this project's own.
+-- What an external function does. A function that flushes or fences does what its effect and its parameters in the
+-- table say. The other functions are this project's own.
 abbrev pub extern_action : Program → Input → World → ExternCall → List ℕ → Option (List ℕ) → Action
 extern_action P I w calls.ReadI64 values dest = read_next dest w.left
 extern_action P I w calls.PrintI64 values dest = Prints (signed W64 (arg_value values 0))
@@ -253,8 +254,8 @@ after_phis globals base rs from [] = rs
 after_phis globals base rs from (p ∷ ps) =
     (p.dest, edge_value globals base rs p.edges from) ∷ after_phis globals base rs from ps
 
--- Control goes from the frame's block to the block of that number, whose phis take their values; a trap without a
--- number.
+-- Control goes from the frame's block to the block of that number, whose phis take their values. Without a number this
+-- is a trap.
 abbrev pub jump_to : Program → Input → Frame → Option ℕ → Action
 jump_to P I f None = Traps traps.Unreachable
 jump_to P I f (Some b) =
@@ -266,7 +267,7 @@ jump_to P I f (Some b) =
 unfoldable pub jump : Program → Input → Frame → List ℕ → Action
 jump P I f label = jump_to P I f (block_number (blocks_of P f.function) label)
 
--- The label of the case with the value, else the other one.
+-- The label of the first case with the value, or the other label if no case has it.
 abbrev pub case_label : ℕ → List Case → List ℕ → List ℕ
 case_label v [] other = other
 case_label v (c ∷ cs) other = cond (nat_eq c.value.value v) c.label (case_label v cs other)
@@ -304,7 +305,7 @@ pub record Deed : Type 0 where
   pub turn : Bool
   pub action : Action
 
--- What the instruction at the frame's place does, or the block's end.
+-- What the instruction at the frame's place does, or what the end of the block does if there is no instruction.
 abbrev pub deed_of : Program → Input → World → ℕ → Frame → Option End → List Instr → Deed
 deed_of P I w below f end [] = record { turn = true; action = end_action P I f end }
 deed_of P I w below f end (i ∷ rest) = record { turn = is_turn i; action = instr_action P I w below f.registers i }

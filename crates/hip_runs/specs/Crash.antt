@@ -15,8 +15,8 @@ covers p b = nat_le p.offset b && nat_lt b (p.offset + length p.bytes)
 abbrev pub byte_of : StorePart → ℕ → ℕ
 byte_of p b = slice_index p.bytes (b - p.offset)
 
--- A content of the region is a crash image of a state if each cache line by itself has its initial bytes, changed by
--- the first parts of its list, all durable ones among them.
+-- A content of the region is a crash image of a state if each cache line, independently of the others, has its initial
+-- bytes, changed by the first parts of its list, which include all durable ones.
 abbrev pub IsCrashImage : Input → State → List ℕ → Type 0
 IsCrashImage I s content = IsImage covers byte_of I.image s.lines content
 
@@ -37,12 +37,13 @@ is_line_after first content j l q =
     (λ b. nat_eq (slice_index content b) (byte_after covers byte_of (take q l.parts) b (slice_index first b)))
     (range_with_len (LINE_SIZE * j) LINE_SIZE)
 
--- Whether this holds for some number of parts that has all durable ones.
+-- Whether, in line j, the content is `first` changed by some number of the line's first parts, which include all
+-- durable ones.
 abbrev pub is_line_image : List ℕ → List ℕ → ℕ → Line StorePart → Bool
 is_line_image first content j l =
     list_any (is_line_after first content j l) (range_with_len l.durable (suc (length l.parts) - l.durable))
 
--- Whether this holds in each of these lines, the first of which has number j.
+-- Whether each of these lines, the first of which has number j, has a content that a crash may leave.
 abbrev pub are_line_images : List ℕ → List ℕ → ℕ → List (Line StorePart) → Bool
 are_line_images first content j [] = true
 are_line_images first content j (l ∷ ls) = is_line_image first content j l && are_line_images first content (suc j) ls

@@ -13,9 +13,9 @@ pub record IsSameCall (f f' : Frame) : Type 0 where
   pub dest : f'.dest ≡ f.dest
   pub level : f'.level ≡ f.level
 
--- The frames and the count of steps before and after a step. A run that has ended rests. Else one of three things
--- happens to the top frame: it stays; it calls a function, whose frame is put on top; or it returns. The frames below,
--- or below the one that it returns to, do not change.
+-- The frames and the count of steps before and after a step. A run that has ended stays as it is. Otherwise one of
+-- three things happens to the top frame: it stays; it calls a function, whose frame is put on top; or it returns. The
+-- frames below, or below the one that it returns to, do not change.
 pub data Moves (P : Program) (s s' : State) : Type 0 where
   rests : s' ≡ s → Moves P s s'
   stays : (f f' : Frame) (fs : List Frame) → s.frames ≡ f ∷ fs → s'.frames ≡ f' ∷ fs → IsSameCall f f' →

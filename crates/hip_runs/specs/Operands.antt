@@ -42,7 +42,8 @@ abbrev pub scalar_size : Scalar → ℕ
 scalar_size (Int w) = bytes_of w
 scalar_size Ptr = 8
 
--- The alignment of an access: the smaller of its type's, which is its size, and the written one. (LLVM, "load".)
+-- The alignment of an access: the smaller of the written alignment and the alignment of its type, which is the type's
+-- size. (LLVM, "load".)
 abbrev pub access_align : Scalar → Option ℕ → ℕ
 access_align s None = scalar_size s
 access_align s (Some n) = min (scalar_size s) n

@@ -1,11 +1,11 @@
--- What the event of a step says of what the run prints, and of its end.
+-- What the event of a step says about the output and the end of the run.
 use Rattle.std.specs.Prelude.{ℕ, List, [], ◌++◌, Option, Some, None, codes}
 use Rattle.std.specs.Fmt.{signed_decimal}
 use Rattle.hip_runs.specs.declared.event.Ending.{Ending}
 use Rattle.hip_runs.specs.declared.event.Event.{Event}
 use Rattle.hip_runs.specs.declared.event.Event.TheVariants as events
 
--- A number is printed in signed decimal, with a line feed.
+-- What a step with this event prints: the number of a print in signed decimal, with a line feed.
 abbrev pub printed_by : Event → List ℕ
 printed_by (events.Print z) = signed_decimal z ++ codes "\n"
 printed_by _ = []

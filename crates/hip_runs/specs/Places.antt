@@ -50,10 +50,10 @@ body_at P f b = body_of (block_at P f b)
 abbrev pub block_number : List Block → List ℕ → Option ℕ
 block_number blocks label = number_of (map (λ b. b.label) blocks) label
 
--- The instructions from a frame's place on; none if it stands at the block's end.
+-- The instructions from a frame's place on; none at the end of a block.
 abbrev pub code_at : Program → Frame → List Instr
 code_at P f = drop f.place (body_at P f.function f.block)
 
--- The end of the frame's block, wherever the frame stands in it; none if there is no such block.
+-- The end of the frame's block, whatever the frame's place in it; none if there is no such block.
 abbrev pub end_at : Program → Frame → Option End
 end_at P f = end_of (block_at P f.function f.block)

@@ -21,7 +21,7 @@ pub record Seen : Type 0 where
 abbrev pub state_of : Seen → State
 state_of m = run m.program m.input m.taken
 
--- One step more, unless the run has ended.
+-- The run after one more step, unless the run has ended.
 abbrev pub after_step : Seen → Seen
 after_step m = record m { taken = cond (has_ended (state_of m)) m.taken (suc m.taken) }
 

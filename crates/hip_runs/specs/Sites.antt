@@ -13,17 +13,17 @@ use Rattle.hip_runs.specs.State.{Level, Flush, StorePart, State, levels_of}
 
 -- ---- what an instruction is
 
--- Whether an instruction is there and is a `store`.
+-- Whether there is an instruction and it is a `store`.
 abbrev pub is_store : Option Instr → Bool
 is_store (Some (Store ty value addr align)) = true
 is_store _ = false
 
--- An external function that flushes, and takes no fence.
+-- Whether a call is of an external function that flushes, and takes no fence.
 abbrev pub only_flushes : Option ExternCall → Bool
 only_flushes None = false
 only_flushes (Some c) = is_flush c && not (is_fence c)
 
--- The external function that flushes and then fences.
+-- Whether a call is of the external function that flushes and then fences.
 abbrev pub persists : Option ExternCall → Bool
 persists None = false
 persists (Some c) = is_flush c && is_fence c
@@ -44,14 +44,14 @@ abbrev pub called_number : Program → Option Instr → Option ℕ
 called_number P (Some (Call dest ret callee args)) = function_number P callee
 called_number P _ = None
 
--- A call of a function of the program.
+-- Whether an instruction is a call of a function of the program.
 abbrev pub is_defined_call : Program → Option Instr → Bool
 is_defined_call P i = is_some (called_number P i)
 
 -- ---- what a state names
 
--- The site of a part is that of a store. Its first flush is a call that flushes, and takes no fence if the part is not
--- durable. The standing calls, and those of each part, are calls of functions of the program.
+-- The site of a part is the site of a store. Its first flush is a call that flushes, and takes no fence if the part is
+-- not durable. The calls that have not returned, and the calls of each part, are calls of functions of the program.
 pub record HasSites (P : Program) (s : State) : Type 0 where
   pub store : (x : StorePart) → PartOf s.lines x → is_store (instr_of P x.site) ≡ true
   pub flush : (x : StorePart) (f : Flush) → PartOf s.lines x → x.first_flush ≡ Some f →

@@ -21,8 +21,9 @@ abbrev pub Registers : Type 0
 Registers = List (List ℕ × ℕ)
 
 -- A frame: its function, its basic block, and its place there, which is the number of the next instruction in the
--- block's body, or that of its end; its registers; the stack mark at its call; its blocks on the stack, the newest
--- first; the register that its result goes into; and the call that made it, which the bottom frame does not have.
+-- block's body, or the length of the body at the block's end; its registers; the stack mark at its call; its blocks on
+-- the stack, the newest first; the register that its result goes into; and the call that made it, which the bottom
+-- frame does not have.
 pub record Frame : Type 0 where
   pub function : ℕ
   pub block : ℕ
@@ -39,7 +40,7 @@ pub record Flush : Type 0 where
   pub site : Site
 
 -- The part of a store in a cache line: its offset in the region and its bytes; the number of its store's step and of
--- its entry in the trace; the site of its store and the calls that its frame stood in, from the innermost one outward;
+-- its entry in the trace; the site of its store and the calls that had not returned, from the innermost one outward;
 -- the first flush of its line after the store; and whether a fence came after the store.
 pub record StorePart : Type 0 where
   pub offset : ℕ
@@ -66,7 +67,7 @@ pub record Counts : Type 0 where
   pub steps : ℕ
   pub entries : ℕ
 
--- The frames are listed from the top one down.
+-- A state of a run. The frames are listed from the top one down.
 pub record State : Type 0 where
   pub world : World
   pub frames : List Frame

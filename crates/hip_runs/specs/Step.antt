@@ -30,7 +30,7 @@ state w fs ls counts = record { world = w; frames = fs; lines = ls; counts = cou
 abbrev pub first_line : Input → ℕ → ℕ
 first_line I a = I.base + LINE_SIZE * ((a - I.base) / LINE_SIZE)
 
--- 64 times the number of the region's cache lines that have one of the n bytes from a on; n is at least 1
+-- The number of bytes of the region's cache lines that have one of the n bytes from a on; n is at least 1.
 abbrev pub lines_size : Input → ℕ → ℕ → ℕ
 lines_size I a n = LINE_SIZE * (((a - I.base) + n - 1) / LINE_SIZE + 1) - LINE_SIZE * ((a - I.base) / LINE_SIZE)
 
@@ -39,8 +39,8 @@ abbrev pub is_bottom : List Frame → Bool
 is_bottom [] = true
 is_bottom (f ∷ fs) = false
 
--- What an action shows from outside. Stores and flushes of other bytes than the region's show nothing, and a persist
--- that flushes no line is a fence. Each assert shows its range, which lies in the region: another one is a trap.
+-- What an action shows from outside. A store or flush outside the region shows nothing, and a persist that flushes no
+-- line is a fence. Each assert shows its range, which is in the region, since an assert of another range traps.
 abbrev pub event_of : Input → List Frame → Action → Event
 event_of I fs (Traps kind) = events.End (Trap kind)
 event_of I fs (Stores a bytes) =
@@ -54,7 +54,7 @@ event_of I fs (Prints z) = events.Print z
 event_of I fs (Returns v) = cond (is_bottom fs) (events.End (Stop (signed W32 (bits W32 v).value))) events.Quiet
 event_of I fs _ = events.Quiet
 
--- A step has an entry in the trace, unless it is quiet or only prints.
+-- Whether a step has an entry in the trace: it does, unless it is quiet or only prints.
 abbrev pub has_entry : Event → Bool
 has_entry events.Quiet = false
 has_entry (events.Print z) = false
@@ -66,7 +66,7 @@ counted e c = record { steps = suc c.steps; entries = cond (has_entry e) (suc c.
 
 -- ---- effects
 
--- One turn more was taken.
+-- The world after one more turn.
 abbrev pub with_turn : World → World
 with_turn w = record w { turns = suc w.turns }
 
@@ -78,20 +78,20 @@ stop e w fs ls after = state (record w { ending = Some e }) fs ls after
 abbrev pub next : Frame → Frame
 next f = record f { place = suc f.place }
 
--- A register of the frame takes a value; the frame stays as it is if no register does.
+-- A register of the frame takes a value. The frame stays as it is if no register is given.
 abbrev pub with_register : Option (List ℕ) → ℕ → Frame → Frame
 with_register dest value f = record f { registers = assigned dest value f.registers }
 
--- A new block on the stack; all bytes from the old mark to the new one become zeros.
+-- The world after a new block on the stack. All bytes from the old mark up to the new one become zeros.
 abbrev pub with_block : ℕ → ℕ → World → World
 with_block a n w =
     record w { writes = w.writes ++ record { addr = w.mark; bytes = zeros ((a + n) - w.mark) } ∷ []; mark = a + n }
 
--- The frame has one block on the stack more, of n bytes from address a, made by the `alloca` at its place.
+-- The frame with one more block on the stack, of n bytes from address a, made by the `alloca` at its place.
 abbrev pub with_slot : ℕ → ℕ → Frame → Frame
 with_slot a n f = record f { slots = record { addr = a; size = n; site = site_of f } ∷ f.slots }
 
--- Bytes were written from an address on, after all writes before.
+-- The world after a write of bytes from an address on, which follows all earlier writes.
 abbrev pub with_bytes : ℕ → List ℕ → World → World
 with_bytes a bytes w = record w { writes = w.writes ++ record { addr = a; bytes = bytes } ∷ [] }
 
@@ -99,17 +99,17 @@ with_bytes a bytes w = record w { writes = w.writes ++ record { addr = a; bytes 
 abbrev pub with_output : ℤ → World → World
 with_output z w = record w { output = w.output ++ (signed_decimal z ++ codes "\n") }
 
--- These input numbers are left.
+-- The world with these input numbers left.
 abbrev pub with_left : List ℤ → World → World
 with_left rest w = record w { left = rest }
 
--- The return of a value: the frame goes, and the stack's mark is what it was at the call. The run ends with the bottom
--- frame.
+-- The return of a value: the frame is removed, and the stack's mark is what it was at the call. The run ends if this is
+-- the bottom frame.
 unfoldable pub leave : ℕ → World → Frame → List Frame → List (Line StorePart) → Counts → State
 leave v w f [] ls after = stop (Stop (signed W32 (bits W32 v).value)) w (f ∷ []) ls after
 leave v w f (g ∷ fs) ls after = state (record w { mark = f.mark }) (with_register f.dest v g ∷ fs) ls after
 
--- What an action does to a state; a trap changes nothing but the ending. The counts are those before the step and after
+-- What an action does to a state. A trap changes only the ending. The counts are those before the step and those after
 -- it.
 unfoldable pub perform : Input → World → Frame → List Frame → List (Line StorePart) → Counts → Counts
     → Action → State
@@ -147,16 +147,16 @@ perform I w f fs ls before after (Returns v) = leave v w f fs ls after
 
 -- ---- steps
 
--- The turns have reached the limit, and the next step is a turn.
+-- Whether the run is cut: the turns have reached the limit, and the next step is a turn.
 abbrev pub is_cut : Input → World → Deed → Bool
 is_cut I w d = d.turn && not (nat_lt w.turns I.limit)
 
--- The event of a deed above these frames: the cut of the run if it is cut, else that of the action.
+-- The event of a deed above these frames: `Cut` if the run is cut, else the event of the action.
 abbrev pub event_at : Input → World → List Frame → Deed → Event
 event_at I w fs d = cond (is_cut I w d) (events.End Cut) (event_of I fs d.action)
 
--- The state after the top frame's deed: if the run is cut, only its ending and the counts are new; else the action is
--- done, after one more turn if the deed is one.
+-- The state after the top frame's deed. If the run is cut, only its ending and the counts change. Otherwise the action
+-- is done, after one more turn if the deed is a turn.
 unfoldable pub carry_out : Input → World → Frame → List Frame → List (Line StorePart) → Counts → Counts
     → Deed → State
 carry_out I w f fs ls before after d =
@@ -167,7 +167,7 @@ carry_out I w f fs ls before after d =
 abbrev pub deed_at : Program → Input → World → Frame → List Frame → Deed
 deed_at P I w f fs = deed_of P I w (length fs) f (end_at P f) (code_at P f)
 
--- The state after the top frame's next deed; if no frame stands, all stays as it is, the counts too.
+-- The state after the top frame's next deed. If there is no frame, nothing changes, not even the counts.
 unfoldable pub on_frames : Program → Input → World → List (Line StorePart) → Counts → List Frame → State
 on_frames P I w ls counts [] = state w [] ls counts
 on_frames P I w ls counts (f ∷ fs) =
@@ -182,17 +182,17 @@ on_ending P I s None = on_frames P I s.world s.lines s.counts s.frames
 unfoldable pub step : Program → Input → State → State
 step P I s = on_ending P I s s.world.ending
 
--- The event of the top frame's next deed; quiet if no frame stands.
+-- The event of the top frame's next deed; quiet if there is no frame.
 abbrev pub event_on_frames : Program → Input → World → List Frame → Event
 event_on_frames P I w [] = events.Quiet
 event_on_frames P I w (f ∷ fs) = event_at I w fs (deed_at P I w f fs)
 
--- The ending again if the run has ended, else the event of the top frame's next deed.
+-- If the run has ended, its ending; otherwise the event of the top frame's next deed.
 abbrev pub event_on_ending : Program → Input → State → Option Ending → Event
 event_on_ending P I s (Some e) = events.End e
 event_on_ending P I s None = event_on_frames P I s.world s.frames
 
--- The event of the next step; after the end of the run its ending again.
+-- The event of the next step. After the end of the run it is the ending.
 unfoldable pub event : Program → Input → State → Event
 event P I s = event_on_ending P I s s.world.ending
 
@@ -228,8 +228,8 @@ header_entries I = 2 + length I.numbers + image_lines (length I.image / LINE_SIZ
 abbrev pub start_world : Input → World
 start_world I = record { output = []; writes = []; turns = 0; left = I.numbers; mark = stack_start; ending = None }
 
--- The bottom frame before the first step: at the start of the entry block of the function `main`, whose number this
--- is, with no value in a register.
+-- The bottom frame before the first step: at the start of the entry block of `main`, which has this number, with no
+-- value in a register.
 abbrev pub start_frame : ℕ → Frame
 start_frame main =
     record {
@@ -243,7 +243,7 @@ start_frame main =
       level = None;
     }
 
--- `main` stands at its first instruction.
+-- The state before the first step: `main` is at its first instruction.
 abbrev pub start : Program → Input → State
 start P I =
     state (start_world I) (start_frame (main_number P) ∷ []) (fresh_lines (length I.image / LINE_SIZE))

@@ -6,7 +6,7 @@ use Rattle.hip_globals.specs.Addresses.{IsBase, region_size}
 use Rattle.hip_runs.specs.declared.input.Input.{Input}
 use Rattle.hip_runs.specs.declared.limits.TheConstants.{MOST_NUMBERS, MOST_TURNS}
 
--- Each initial byte is below 256, and each number has 64 bits: what the types of an input's fields say.
+-- The types of an input's fields: each initial byte is below 256, and each number has 64 bits.
 pub record IsInput (I : Input) : Type 0 where
   pub bytes : All (λ b. b < 256) I.image
   pub numbers : All (FitsSigned w64) I.numbers

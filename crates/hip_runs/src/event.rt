@@ -11,7 +11,7 @@ pub enum TrapKind {
     ShiftRange,
     /// An access to bytes that are not all valid.
     Address,
-    /// An access at an address that is no multiple of its alignment.
+    /// An access at an address that is not a multiple of its alignment.
     Misaligned,
     /// No room on the stack.
     Stack,
@@ -36,7 +36,7 @@ pub enum Ending {
 /// What a step did that can be seen from outside. Stores, flushes and asserts are of the persistent region.
 #[derive(Clone, Copy, PartialEq, Eq)]
 pub enum Event {
-    /// Nothing of the below.
+    /// None of the following.
     Quiet,
     /// A number was printed.
     Print(i64),
@@ -44,7 +44,7 @@ pub enum Event {
     Store { addr: u64, value: u64, size: u32 },
     /// A flush of cache lines: the first one's address, and 64 times their number.
     Flush { line: u64, size: u64 },
-    /// A flush of cache lines with a fence after it, as of `Flush`.
+    /// A flush of cache lines with a fence after it. The fields are those of `Flush`.
     Persist { line: u64, size: u64 },
     Fence,
     /// `pm_assert` of a range.

@@ -16,7 +16,7 @@ ghost use Rattle.hip_types.specs.Distinct.{met};
 ghost use Rattle.std.specs.List.{IsDistinct};
 ghost use Rattle.std.specs.Prelude.{◌≡◌, ℕ, List, ◌++◌, nat_eq, true};
 
-/// A run has findings, and only one of them.
+/// A run has exactly one record of findings.
 pub fn findings_are_one()
     ensures there { (P : Program) → (I : Input) → (found : Findings) × IsFound P I found }
     ensures one { (P : Program) → (I : Input) → (a b : Findings) → IsFound P I a → IsFound P I b → a ≡ b }
@@ -28,15 +28,16 @@ pub fn same_marks_are_equal()
     ensures equal { (a : Mark) → (b : Mark) → a ≡ b → same_mark a b ≡ true }
 {}
 
-/// A report names a flush exactly if only a fence is missing, fewer calls have returned than its path is long, the path
-/// begins at a store and goes on with calls of functions of the program, and the flush is a call that flushes and takes
-/// no fence.
+/// A report names a flush exactly if only a fence is missing. The number of returned calls is less than the length of
+/// its path. The path begins at a store and continues with calls of functions of the program. The flush is a call that
+/// flushes and takes no fence.
 pub fn reports_are_well_formed()
     ensures { (P : Program) → (I : Input) → (n : ℕ) → (r : Report) → In r (reports P I n)
         → IsWellFormed P r }
 {}
 
-/// No mark and no persistent global is met twice, and items that are met list by list are met as one list.
+/// No mark and no persistent global occurs twice, and to add new items list by list gives the same as to add the items
+/// of the appended lists.
 pub fn marks_are_met_once()
     ensures pointed { (P : Program) → (I : Input) → (n : ℕ) → IsDistinct same_mark (pointed P I n) }
     ensures hit { (P : Program) → (I : Input) → (n : ℕ) → IsDistinct nat_eq (hit P I n) }

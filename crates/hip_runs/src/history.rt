@@ -1,4 +1,4 @@
-//! Laws of runs: what the cache lines have of the steps before, and which contents a crash may leave.
+//! Laws of runs: what the cache lines keep of the earlier steps, and which contents a crash may leave.
 
 ghost use Rattle.hip_tree.specs.declared.program.Program.{Program};
 ghost use Rattle.hip_types.specs.declared.areas.TheConstants.{LINE_SIZE};

@@ -1,4 +1,5 @@
-//! Laws of crash images: line by line, and as what a further run begins with; and of the state at an entry of a trace.
+//! Laws of crash images: line by line, and as the initial region of another run; and of the state at an entry of a
+//! trace.
 
 ghost use Rattle.hip_tree.specs.declared.program.Program.{Program};
 ghost use Rattle.hip_lines.specs.Image.{byte_after};
@@ -36,8 +37,8 @@ pub fn images_make_valid_inputs()
         IsCrashImage I (run P I n) content → IsInput (record I { image = content }) }
 {}
 
-/// A number of entries is reached first after exactly one number of steps, if it is ever reached. The state there has
-/// exactly that number of entries, if it is greater than the header's.
+/// If a number of entries is ever reached, there is exactly one number of steps after which it is first reached. If the
+/// number is greater than the number of entries in the header, the state there has exactly that number of entries.
 pub fn entries_find_one_state()
     ensures there { (P : Program) → (I : Input) → (entry steps : ℕ)
         → entry ≤ (run P I steps).counts.entries →

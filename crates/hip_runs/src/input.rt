@@ -1,7 +1,7 @@
 use hip_image::Image;
 use hip_types::Row;
 
-/// What a run is given: where the persistent region lies and what it holds, the numbers to read, and a limit.
+/// What a run is given: where the persistent region begins and what it contains, the numbers to read, and a limit.
 #[derive(Drop)]
 pub struct Input {
     /// The address of the region's first byte: a multiple of 4,096 from 2^32 to 2^46.
@@ -17,7 +17,7 @@ pub struct Input {
 /// Why an input is not valid for a program.
 #[derive(Debug, Clone, Copy, PartialEq, Eq)]
 pub enum InputFault {
-    /// The base is no multiple of 4,096, or not from 2^32 to 2^46.
+    /// The base is not a multiple of 4,096, or is not in the range from 2^32 to 2^46.
     BadBase,
     /// There are not as many initial bytes as the program's region has.
     BadImage,

@@ -13,8 +13,8 @@ pub fn runs_end()
 {}
 
 /// What each part of a store in the lines of a run carries: an earlier step made it, and its first flush was an earlier
-/// step; the parts of one store share their history of fences; and its calls are those that returned, and then the
-/// outermost ones of the standing calls.
+/// step; the parts of one store share their history of fences; and its calls are calls that have returned, followed by
+/// the outermost ones of the calls that have not returned.
 pub fn parts_carry_their_history()
     ensures { (P : Program) → (I : Input) → (n : ℕ) → HasHistory P (run P I n) }
 {}

@@ -1,4 +1,4 @@
-/// How many frames may stand at once, that of `main` among them.
+/// How many frames there may be at once, with the frame of `main`.
 pub const MOST_FRAMES: u64 = 16_384;
 
 /// How many turns an input may allow.

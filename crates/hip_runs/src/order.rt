@@ -20,7 +20,7 @@ pub fn lines_keep_their_order()
     ensures { (P : Program) → (I : Input) → (n : ℕ) → HasOrder (run P I n) }
 {}
 
-/// A fence met a part exactly if the part's store came before the last fence.
+/// A part is fenced exactly if its store came before the last fence.
 pub fn the_last_fence_tells()
     ensures { (P : Program) → (I : Input) → (n : ℕ) → (part : StorePart) → PartOf (run P I n).lines part →
         part.fenced ≡ is_before part.step (last_fence P I n) }
@@ -32,14 +32,14 @@ pub fn a_step_moves_the_top()
     ensures { (P : Program) → (I : Input) → (n : ℕ) → Moves P (run P I n) (run P I (suc n)) }
 {}
 
-/// The standing calls were made one after another, and so were those of each part, before its store.
+/// The calls that have not returned were made one after another, and so were the calls of each part, before its store.
 pub fn calls_were_made_in_order()
     ensures { (P : Program) → (I : Input) → (n : ℕ) → HasCalls (run P I n) }
 {}
 
-/// The site of a part is that of a store, and the site of its first flush that of a call that flushes, which takes no
-/// fence if the part is not durable; and the standing calls, and those of each part, are calls of functions of the
-/// program.
+/// The site of a part is the site of a store. The site of its first flush is that of a call that flushes, which takes
+/// no fence if the part is not durable. The calls that have not returned, and the calls of each part, are calls of
+/// functions of the program.
 pub fn states_name_what_stands_there()
     ensures { (P : Program) → (I : Input) → (n : ℕ) → HasSites P (run P I n) }
 {}

@@ -2,8 +2,8 @@ use crate::event::Object;
 use hip_tree::Site;
 use hip_types::Row;
 
-/// What a store lacks to be durable, as the Hippocrates paper distinguishes it. A store that lies in two cache lines
-/// has a part in each. A part is loose if it is the last one over a checked byte and is not durable.
+/// What a store lacks to be durable, as the Hippocrates paper distinguishes it. A store over a line boundary has a part
+/// in each of two cache lines. A part is loose if it is the last one over a checked byte and is not durable.
 #[derive(Clone, Copy, PartialEq, Eq)]
 pub enum Kind {
     /// A loose part is not flushed, and a fence came after the store.
@@ -22,7 +22,7 @@ pub struct Report {
     /// The number of the check's entry in the trace, from 1.
     pub check_entry: u128,
     pub kind: Kind,
-    /// The site of the flush that lacks a fence; there exactly for `MissingFence`.
+    /// The site of the flush that lacks a fence. It is given exactly for `MissingFence`.
     pub flush_site: Option<Site>,
     /// The store's site, then the site of the call that made its frame, and so on outward.
     pub path: Row<Site>,
@@ -30,7 +30,7 @@ pub struct Report {
     pub closed: usize,
 }
 
-/// A pointer operand of an instruction pointed into an object.
+/// A mark: a pointer operand of an instruction pointed into an object.
 #[derive(Clone, Copy, PartialEq, Eq, Hash)]
 pub struct Mark {
     pub site: Site,
@@ -39,7 +39,7 @@ pub struct Mark {
     pub object: Object,
 }
 
-/// What the pointers of a run pointed into, without repeats, in the order of first meeting.
+/// What the pointers of a run pointed into, without repeats, in the order in which they first occur.
 #[derive(Drop)]
 pub struct Marks {
     pub pointed: Row<Mark>,

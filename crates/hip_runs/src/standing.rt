@@ -36,7 +36,7 @@ pub fn shown_lines_follow_the_run()
         HoldsLines I (pending_fenced_all ps) (fenced_lines ls) }
 {}
 
-/// If a `Ram` holds the memory of a run, the bytes that are valid in it are those that are valid in the run.
+/// If a `Ram` holds the memory of a run, the same bytes are valid in it as in the run.
 pub fn valid_bytes_are_those_of_the_run()
     ensures { (P : Program) → (I : Input) → (w : World) → (r : Areas) → (addr : ℕ) → (size : ℕ)
         → 0 < size →

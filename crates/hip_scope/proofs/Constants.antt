@@ -10,7 +10,7 @@ use Rattle.hip_code.specs.declared.op.Operand.{Operand}
 use Rattle.hip_code.specs.declared.op.Operand.TheVariants.{Constant, Register}
 use Rattle.hip_scope.specs.Known.{IsConstant}
 
--- An operand on an input whose region begins at the base.
+-- A resolved operand is also resolved on any input whose region begins at the same base.
 pub on_base : {globals : List GlobalVar} {base other : ℕ} {names : List (List ℕ)} {constants : List ℕ} {o : Operand} {x : named.Operand} →
     other ≡ base → IsOperand globals base names constants o x → IsOperand globals other names constants o x
 on_base {globals} {base} {other} {names} {constants} {o} {x} e h = subst (λ r. IsOperand globals r names constants o x) (sym e) h

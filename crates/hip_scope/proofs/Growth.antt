@@ -42,7 +42,7 @@ makes_same t Fact h = record { grows = grows_same t; lasts = λ v g. h v }
 pub makes_also : {t u : Tables} {Fact Other : Tables → Type 0} → Makes t u Fact → ((v : Tables) → Fact v → Other v) → Makes t u Other
 makes_also m f = record { grows = m.grows; lasts = λ v g. f v (m.lasts v g) }
 
--- The same of what a call gives where it gives something.
+-- A fact that holds after a call that succeeds may be replaced by a fact that follows from it.
 pub given_also : {A E : Type 0} (t u : Tables) {Fact Other : A → Tables → Type 0} (r : Result A E) → IfOk r (λ o. Makes t u (Fact o))
     → ((o : A) (v : Tables) → Fact o v → Other o v) → IfOk r (λ o. Makes t u (Other o))
 given_also t u (Ok o) m f = makes_also m (f o)
@@ -65,7 +65,7 @@ there (y ∷ xs) rest x = there xs rest x
 pub get_extended : {A : Type 0} {xs ys : List A} (k : ℕ) (x : A) → Extends xs ys → slice_get xs k ≡ Some x → slice_get ys k ≡ Some x
 get_extended {A} {xs} {ys} k x e h = subst (λ (l : List A). slice_get l k ≡ Some x) (sym e.is) (get_kept xs e.rest k x h)
 
--- The last item stands after those before it.
+-- The place of the last item is the number of the items before it.
 pub get_last : {A : Type 0} (xs : List A) (x : A) → slice_get (xs ++ x ∷ []) (length xs) ≡ Some x
 get_last xs x = there xs [] x
 
@@ -85,7 +85,7 @@ makes_constant t v constants e = record {
 
 -- ---- spans
 
--- What stands from a place to the end, stays where it stands.
+-- The items from a place to the end stay at their places when the list grows.
 pub span_is : {A : Type 0} {xs ys : List A} (from count : ℕ) → Extends xs ys → from + count ≡ length xs → slice_range ys from (from + count) ≡ drop from xs
 span_is {A} {xs} {ys} from count e long =
     let within : from ≤ length xs = omega arith in

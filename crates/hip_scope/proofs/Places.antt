@@ -75,7 +75,7 @@ next_of (z ∷ fs) (suc f) x h = let r = next_of fs f x h in omega (arith, r)
 
 -- ---- the program
 
--- Two places that are the same number are one.
+-- If two places are the same number, they are the same place.
 pub one_place : (P : Program) (f b k g c j : ℕ) (x y : Block) → block_at P f b ≡ Some x → k ≤ length x.body → block_at P g c ≡ Some y → j ≤ length y.body →
     entry P f b + k ≡ entry P g c + j → SamePlace f b k g c j
 unfolding entry

@@ -200,7 +200,7 @@ module _ (P : Program) (s : IsSound P) (f b : ℕ) (fn : Function) (block : Bloc
       (all-at (λ i. TypesFit (InstrItem i)) block.body k i (s.types_fit f b fn block at).body e)
       (all-at (λ i. TypesAgree P fn (InstrItem i)) block.body k i (s.types_agree f b fn block at).body e) (own_known k i e))
 
-  -- And of the end.
+  -- What the resolver has to know about the end of a block.
   pub end_known : EndKnown (names_at P f) block.«end»
   end_known =
       let named = (s.names_exist f b fn block at).last in
@@ -220,7 +220,7 @@ entry_block P s f fn here =
     first_of [] h = absurd (let q : ⊥ = cc in q)
     first_of (b ∷ bs) h = (b, refl)
 
--- Names that stand at two places differ.
+-- Names at two places of a list of different names differ.
 pub earlier_none : (xs : List (List ℕ)) (k j : ℕ) (x : List ℕ) → AllDiffer xs → slice_get xs k ≡ Some x → j < k → slice_get xs j ≡ Some x → ⊥
 earlier_none [] k j x d e lt f = cc
 earlier_none (y ∷ xs) zero j x d e lt f = absurd (let q : ⊥ = omega (arith, lt) in q)

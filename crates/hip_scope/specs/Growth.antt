@@ -1,4 +1,4 @@
--- Tables of a resolved program that grow at their ends, and facts of them that last.
+-- Tables of a resolved program that grow at their ends, and facts that still hold when the tables grow.
 use Rattle.std.specs.Prelude.{◌≡◌, List, ◌++◌}
 use Rattle.hip_code.specs.Numbers.{Tables}
 
@@ -15,7 +15,8 @@ pub record Grows (t u : Tables) : Type 0 where
   pub edges : Extends t.edges u.edges
   pub cases : Extends t.cases u.cases
 
--- The first tables grow to the second, and the fact holds of the second and of all tables that these grow to.
+-- The first tables grow to the second, and the fact holds of the second tables and of all tables to which the second
+-- grow.
 pub record Makes (t u : Tables) (Fact : Tables → Type 0) : Type 0 where
   pub grows : Grows t u
   pub lasts : (v : Tables) → Grows u v → Fact v

@@ -31,7 +31,7 @@ OperandKnown names (Fixed value) = All Fits (types_in value)
 abbrev pub ArgsKnown : List (List ℕ) → List Arg → Type 0
 ArgsKnown names args = All (λ a. OperandKnown names a.value) args
 
--- The register of a call's result, if there is one.
+-- The register of a call's result, if there is one, is a register of the function.
 abbrev pub ResultKnown : List (List ℕ) → Option (List ℕ) → Type 0
 ResultKnown names None = Unit {0}
 ResultKnown names (Some name) = IsAmong names name
@@ -70,11 +70,11 @@ pub record PhiKnown (names : List (List ℕ)) (from : List ℕ) (p : Phi) : Type
   pub edges : All (λ e. OperandKnown names e.value) p.edges
   pub from_is : IsAmong (map (λ e. e.label) p.edges) from
 
--- The same for each of the phis.
+-- Each of the phis is known, and has an operand for control from the label.
 pub record PhisKnown (names : List (List ℕ)) (from : List ℕ) (ps : List Phi) : Type 0 where
   pub at : (k : ℕ) (p : Phi) → slice_get ps k ≡ Some p → PhiKnown names from p
 
--- The operand is the place of a constant, which is this number.
+-- The operand is a place in the table of constants, which has this number there.
 abbrev pub IsConstant : List ℕ → Operand → ℕ → Type 0
 IsConstant constants (Constant place) value = slice_get constants place ≡ Some value
 IsConstant constants (Register slot) value = ⊥

@@ -14,7 +14,7 @@ pub record HasNumbers (tables : List (NameTable ℕ)) (k : ℕ) (p : Phi) : Type
 pub record NumbersPhis (tables : List (NameTable ℕ)) (ps : List Phi) : Type 0 where
   pub at : (k : ℕ) (p : Phi) → slice_get ps k ≡ Some p → HasNumbers tables k p
 
--- The tables at that place are those of phis.
+-- The list of tables at that place has a table for each of these phis.
 pub record HasTables (sources : List (List (NameTable ℕ))) (k : ℕ) (ps : List Phi) : Type 0 where
   pub tables : List (NameTable ℕ)
   pub here : slice_get sources k ≡ Some tables

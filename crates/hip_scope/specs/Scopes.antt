@@ -54,7 +54,7 @@ pub record Describes (s : Scope) : Type 0 where
       → HasTables s.sources b block.phis
   pub extents : HasExtents s.program.now s.number s.extents
 
--- The operand resolves one of the function.
+-- The operand resolves an operand of the function.
 abbrev pub StandsFor : Scope → Tables → Operand → named.Operand → Type 0
 StandsFor s t o x = IsOperandIn s.program.now s.base s.number t o x
 
@@ -66,6 +66,6 @@ pub record Does (P : Program) (base f : ℕ) (t : Tables) (o : Op) (i : Instr) :
 pub record Ends (P : Program) (base f b : ℕ) (t : Tables) (o : Op) (e : End) : Type 0 where
   pub on : (I : Input) → I.base ≡ base → EndResolves P I f b t o e
 
--- The same for an instruction of the function.
+-- The op does what an instruction of the function does, on each input whose region begins at the base.
 abbrev pub DoesHere : Scope → Tables → Op → Instr → Type 0
 DoesHere s t o i = Does s.program.now s.base s.number t o i

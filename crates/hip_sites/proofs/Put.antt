@@ -5,7 +5,7 @@ use Rattle.std.proofs.lemmas.List.Folds.{list_any-append}
 use Rattle.hip_tree.specs.Sites.{has_site, same_site}
 use Rattle.hip_tree.specs.declared.site.Site.{Site}
 
--- The list has these sites, and what was there before.
+-- The list has these sites, and those that it had before.
 pub record HasPut (sites before list : List Site) : Type 0 where
   pub has : (s : Site) → has_site list s ≡ has_site sites s || has_site before s
 

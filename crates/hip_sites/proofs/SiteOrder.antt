@@ -1,5 +1,5 @@
--- The derived order of sites is that of `site_before`, tables by it have what lists of sites have, and sets of numbers
--- have what lists of numbers have.
+-- The derived order of sites is that of `site_before`. Tables in this order have what lists of sites have, and sets of
+-- numbers have what lists of numbers have.
 use Rattle.std.proofs.Common.{◌≡◌, ℕ, Bool, true, false, cond, ◌&&◌, ◌||◌, nat_eq, nat_lt, nat_cmp, List, [], ◌∷◌, Option, refl, sym, ap, ap₂, ◌∙◌, arith}
 use Rattle.std.proofs.lemmas.Bool.Decides.{nat_tests}
 use Rattle.std.proofs.lemmas.Map.Keys.{sorted_head, sorted_tail}
@@ -59,7 +59,7 @@ pub table_has : {X : Type 0} (entries : List (Site × X)) (s : Site)
     → lookup (is_at (site_cmp s)) entries ≡ lookup (same_site s) entries
 table_has entries s = λ i. lookup (λ k. cmp-is_eq s k i) entries
 
--- What a table has after one entry more.
+-- What a table has after one more entry.
 pub table_updated : {X : Type 0} (old new : List (Site × X)) (site : Site) (v : Option X)
     → ((q : Site) → lookup (is_at (site_cmp q)) new ≡ cond (is_at (site_cmp site) q) v (lookup (is_at (site_cmp q)) old))
     → (q : Site) → lookup (same_site q) new ≡ cond (same_site q site) v (lookup (same_site q) old)
@@ -72,7 +72,7 @@ table_updated old new site v updates q =
 pub numbers_have : (numbers : List ℕ) (n : ℕ) → list_any (is_at (nat_cmp n)) numbers ≡ list_any (nat_eq n) numbers
 numbers_have numbers n = λ i. list_any (λ k. number-is_eq n k i) numbers
 
--- What a set has after one number more.
+-- What a set has after one more number.
 pub number_inserted : (old new : List ℕ) (number n : ℕ)
     → list_any (is_at (nat_cmp n)) new ≡ cond (is_at (nat_cmp number) n) true (list_any (is_at (nat_cmp n)) old)
     → list_any (nat_eq n) new ≡ nat_eq n number || list_any (nat_eq n) old

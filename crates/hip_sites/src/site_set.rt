@@ -23,7 +23,7 @@ impl Model for SiteSet {
     ghost view = { λ s. s.sites.keys };
 }
 
-// By hand, so that the drop of a set is proved here and not again in each crate that lets one go.
+// Written by hand, so that the drop of a set is proved here and not again in each crate that drops one.
 impl Drop for SiteSet {
     fn drop(self) {
         let SiteSet { sites: _ } = self;

@@ -12,7 +12,7 @@ use Rattle.hip_tree.specs.declared.constant.Const.TheFolds.{fold-Const, fold-Con
 use Rattle.hip_globals.specs.Constants.{index_of, joined}
 use Rattle.hip_sound.specs.Types.{is_int, is_ptr, is_struct, same_type}
 
--- The names at one level of a constant, with the names of each part inside in its place.
+-- The names in a constant, by one level of it that has the names of each part in the part's place.
 abbrev names_step : Const-F (List (List ℕ)) (List (List ℕ)) (List (List ℕ)) → List (List ℕ)
 names_step (Const-F.Address name) = name ∷ []
 names_step (Const-F.Gep names) = names
@@ -20,11 +20,11 @@ names_step (Const-F.Array items) = joined items
 names_step (Const-F.Struct items) = joined items
 names_step _ = []
 
--- The names in a constant `getelementptr`: its indices are integers, so they are those in its base.
+-- The names in a constant `getelementptr` are the names in its base, since its indices are integers.
 abbrev gep_names_step : ConstGep-F (List (List ℕ)) (List (List ℕ)) (List (List ℕ)) → List (List ℕ)
 gep_names_step gep = gep.base
 
--- The names in a member of an aggregate constant: those in its value, since types have none.
+-- The names in a member of an aggregate constant are the names in its value, since types have none.
 abbrev item_names_step : TypedConst-F (List (List ℕ)) (List (List ℕ)) (List (List ℕ)) → List (List ℕ)
 item_names_step item = item.value
 
@@ -69,9 +69,9 @@ abbrev array_has : List (Ty → Bool) → Ty-F Ty → Bool
 array_has items (Ty-F.Array n t) = length items == n && all_have items t
 array_has items _ = false
 
--- Whether one level of a constant has the shape of a type, with the test of each part inside in its place. An integer
--- has the shape of the type of its width; `null`, an address and a `getelementptr` have that of `ptr`; lists have those
--- of arrays and structs; `zeroinitializer` has that of every type. (LLVM, "Constants".)
+-- Whether a constant has the shape of a type, by one level of it that has the test of each part in the part's place. An
+-- integer has the shape of the type of its width; `null`, an address and a `getelementptr` have that of `ptr`; lists
+-- have those of arrays and structs; `zeroinitializer` has that of every type. (LLVM, "Constants".)
 abbrev shape_step : Const-F (Ty → Bool) Bool (Ty → Bool) → Ty → Bool
 shape_step (Const-F.Int b) t = is_int b.width (out-Ty t)
 shape_step Const-F.Null t = is_ptr (out-Ty t)

@@ -57,7 +57,7 @@ abbrev pub is_struct_constant : List (TypedConst → Bool) → Const-F Const Con
 is_struct_constant tests (Const-F.Struct items) = all_pass tests items
 is_struct_constant tests _ = false
 
--- Whether a constant has this level, with the test of each constant inside in its place.
+-- Whether one level of a constant is equal to another level, which has a test in the place of each part.
 abbrev pub same_level : Const-F (Const → Bool) (ConstGep → Bool) (TypedConst → Bool) →
     Const-F Const ConstGep TypedConst → Bool
 same_level (Const-F.Int b) c = is_int_constant b c
@@ -68,7 +68,7 @@ same_level (Const-F.Gep test) c = is_gep test c
 same_level (Const-F.Array tests) c = is_array_constant tests c
 same_level (Const-F.Struct tests) c = is_struct_constant tests c
 
--- Whether a constant is of this level, with the test of each constant inside in its place.
+-- Whether the outermost level of a constant is equal to a level that has a test in the place of each part.
 abbrev pub same_step : Const-F (Const → Bool) (ConstGep → Bool) (TypedConst → Bool) → Const → Bool
 same_step tests c = same_level tests (out-Const c)
 

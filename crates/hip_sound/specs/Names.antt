@@ -21,11 +21,11 @@ differ_after earlier (x ∷ xs) =
 abbrev pub all_differ : List Named → Check
 all_differ names = differ_after [] names
 
--- The items of a list, each with its number, turned into something else.
+-- What `make` gives for each item of a list and its number; the first item has number n.
 abbrev pub numbered_from : {A B : Type 0} → ℕ → (ℕ → A → B) → List A → List B
 numbered_from n make [] = []
 numbered_from n make (x ∷ xs) = make n x ∷ numbered_from (n + 1) make xs
 
--- The same, with numbers from 0.
+-- What `make` gives for each item of a list and its number, counted from 0.
 abbrev pub numbered : {A B : Type 0} → (ℕ → A → B) → List A → List B
 numbered make xs = numbered_from 0 make xs

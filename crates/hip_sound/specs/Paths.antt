@@ -16,13 +16,13 @@ label_at f b = option_map (λ block. block.label) (slice_get f.blocks b)
 abbrev pub labels_named_at : Function → ℕ → List (List ℕ)
 labels_named_at f b = unwrap_or (option_map (λ block. end_labels block.end) (slice_get f.blocks b)) []
 
--- The end of one block names the label of the other.
+-- The end of block b names the label of block c.
 pub record LeadsTo (f : Function) (b c : ℕ) : Type 0 where
   pub label : List ℕ
   pub here : label_at f c ≡ Some label
   pub named : IsAmong (labels_named_at f b) label
 
--- Each block of the list is led to by the one before it, the first by b.
+-- Block b leads to the first block of the list, and each block of the list leads to the next.
 abbrev pub IsChain : Function → ℕ → List ℕ → Type 0
 IsChain f b [] = Unit {0}
 IsChain f b (c ∷ cs) = LeadsTo f b c × IsChain f c cs

@@ -112,7 +112,7 @@ uses_agree s us = list_all (λ u. use_agrees s.registers u.operand u.ty) us
 
 -- ---- instructions
 
--- From an integer to an integer of more bits.
+-- Whether both are integers, and the second has more bits.
 abbrev pub widens : Scalar → Scalar → Bool
 widens (scalars.Int v) (scalars.Int w) = nat_lt (bits_of v) (bits_of w)
 widens _ _ = false

@@ -215,7 +215,8 @@ abbrev pub block_number_from : ℕ → List Block → List ℕ → List ℕ
 block_number_from n [] label = []
 block_number_from n (b ∷ bs) label = if bytes_eq b.label label then n ∷ [] else block_number_from (n + 1) bs label
 
--- A phi's operand is used at the end of the predecessor.
+-- The use of a register by an edge of a phi, at the end of the predecessor. Empty if the operand is a constant, or if
+-- no block has the label.
 abbrev pub edge_register_uses : List Block → Place → Scalar → Edge → List RegisterUse
 edge_register_uses blocks place ty e =
     flat_map (λ b. map (use_at place b AtEnd) (used_registers (record { operand = e.value; ty = ty } ∷ [])))
@@ -225,7 +226,7 @@ edge_register_uses blocks place ty e =
 abbrev pub phi_register_uses : List Block → Place → Phi → List RegisterUse
 phi_register_uses blocks place p = flat_map (edge_register_uses blocks place p.ty) p.edges
 
--- An instruction's registers are used before it.
+-- The registers that an instruction uses, at the point before it.
 abbrev pub instr_register_uses : ℕ → ℕ → ℕ → Instr → List RegisterUse
 instr_register_uses f b i instr =
     map (use_at (places.Body (site f b i)) b (Before i)) (used_registers (instr_uses instr))
@@ -274,7 +275,8 @@ rules_check P =
     (and_then (externs_check P)
     (and_then (sizes_check P) (and_then (main_check P) (and_then (inner_names_check P) (places_check P))))))
 
--- The path shows that the use is not assigned; every use before it is assigned.
+-- A use of a register has this place, and the path to it does not assign the register. For every use before it, every
+-- path assigns the register.
 pub record IsFirstUnassigned (P : Program) (place : Place) (path : List ℕ) : Type 0 where
   pub function : ℕ
   pub fn : Function
@@ -292,7 +294,7 @@ pub record IsFirstUnassigned (P : Program) (place : Place) (path : List ℕ) : T
 abbrev BreaksFirst : Program → Fault → Place → Type 0
 BreaksFirst P fault place = IsSpelled P × ((rules_check P).found ≡ Some (record { fault = fault; place = place }))
 
--- The first rule that fails, at the first place, in the order of the rules above.
+-- The fault and the place are those of the first rule that fails, at the first place, in the order of the rules above.
 abbrev is_first : Program → Place → TypeFault → Type 0
 is_first P place faults.BadShape = (¬ IsSpelled P) × (place ≡ places.Whole)
 is_first P place faults.Duplicate = BreaksFirst P breaks.Duplicate place
@@ -307,6 +309,6 @@ is_first P place faults.BadEdge = BreaksFirst P breaks.BadEdge place
 is_first P place faults.TooLarge = BreaksFirst P breaks.TooLarge place
 is_first P place faults.NoMemory = ⊥
 
--- The fault and the place of a refusal are the first of the program; out of memory is no fault of the program.
+-- The fault and the place of a refusal are the first ones of the program. `NoMemory` is no fault of a program.
 abbrev pub IsFirstFault : Program → TypeRefusal → Type 0
 IsFirstFault P refusal = is_first P refusal.place refusal.fault

@@ -39,7 +39,7 @@ use Rattle.hip_sound.specs.declared.point.Point.TheVariants.{Before, AtEnd}
 
 -- ---- names
 
--- The names that a call may have.
+-- The names that the callee of a call may have: those of external functions, then those of functions.
 abbrev pub callee_names : Program → List (List ℕ)
 callee_names P = map (λ e. e.name) P.externs ++ map (λ f. f.name) P.functions
 
@@ -224,7 +224,7 @@ EdgesAreSound fn block (EndItem e) = All (λ label. label_at fn 0 ≢ Some label
 
 -- ---- paths
 
--- The operand of a phi is used at the end of the predecessor.
+-- Every path to the end of the predecessor assigns the register that the edge of a phi takes.
 abbrev pub EdgeIsAssigned : Function → Edge → Type 0
 EdgeIsAssigned fn e =
     (c : ℕ) → label_number fn e.label ≡ Some c → All (IsAssigned fn c AtEnd) (operand_registers e.value)
@@ -254,7 +254,7 @@ pub record IsSound (P : Program) : Type 0 where
   pub global_types_fit : All TypesFitIn P.globals
   -- Initialisers have the shape of their globals' types.
   pub initialisers_have_shape : All HasItsShape P.globals
-  -- And name globals.
+  -- Each name in an initialiser is the name of a global.
   pub initialisers_name_globals : All (NamesGlobals P) P.globals
   pub externs : KeepsToTable P
   pub sizes : KeepsToSizes P

@@ -50,14 +50,14 @@ abbrev pub is_struct : List (Ty → Bool) → Ty-F Ty → Bool
 is_struct tests (Ty-F.Struct ts) = all_pass tests ts
 is_struct tests _ = false
 
--- One level of a type, with the test of each type inside in its place.
+-- Whether one level of a type is equal to another level, which has a test in the place of each type inside.
 abbrev pub same_level : Ty-F (Ty → Bool) → Ty-F Ty → Bool
 same_level (Ty-F.Int w) t = is_int w t
 same_level Ty-F.Ptr t = is_ptr t
 same_level (Ty-F.Array n item) t = is_array n item t
 same_level (Ty-F.Struct tests) t = is_struct tests t
 
--- The outermost level of a type is like this one, with a test of each type inside.
+-- Whether the outermost level of a type is equal to a level that has a test in the place of each type inside.
 abbrev pub same_step : Ty-F (Ty → Bool) → Ty → Bool
 same_step tests t = same_level tests (out-Ty t)
 

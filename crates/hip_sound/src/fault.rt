@@ -19,7 +19,7 @@ pub enum TypeFault {
     NoMemory,
 }
 
-/// Where a program breaks a rule, by numbers from 0. In `Phi` the index counts in the block's phis.
+/// Where a program breaks a rule, by numbers from 0. In `Phi` the index is the number of the phi in its block.
 #[derive(Clone, Copy, Debug, PartialEq, Eq)]
 pub enum Place {
     Whole,

@@ -29,7 +29,7 @@ trait KeepsRules {
         ensures { result ≡ test self.now };
 }
 
-/// Whether each of them keeps to the rules.
+/// Whether each of the parts keeps to the rules.
 fn all_keep_rules<T: KeepsRules>(parts: &[T]) -> bool
     ensures { result ≡ list_all T.test parts.now }
 {
@@ -255,14 +255,14 @@ fn spelled_indices(indices: &[Arg]) -> bool
     indices.iter().all(|index| spelled_index(index))
 }
 
-/// The address of a load or a store, and the alignment that is written there.
+/// Whether the address of a load or a store, and the alignment that is written there, meet the rules.
 fn spelled_access(addr: &Operand, align: &Option<u64>) -> bool
     ensures { result ≡ (spelled_operand Ptr addr.now && spelled_align align.now) }
 {
     spelled_operand(Scalar::Ptr, addr) && spelled_align(align)
 }
 
-/// The type that `getelementptr` steps over, and its indices.
+/// Whether the type that a `getelementptr` steps over, its base and its indices meet the rules.
 fn spelled_element(ty: &Ty, base: &Operand, indices: &[Arg]) -> bool
     ensures { result ≡ (spelled_type ty.now && (spelled_operand Ptr base.now
         && (not_empty indices.now && list_all spelled_index indices.now))) }

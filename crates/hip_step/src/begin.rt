@@ -11,7 +11,7 @@ use std::alloc::Global;
 
 /// A value that begins with a sound program and a valid input.
 pub trait Begin<'a>: Sized {
-    /// Before the first step.
+    /// The value before the first step.
     fn new(alloc: Global, checked: &'a Checked, input: &'a Input) -> Result<Self, NoMemory>
         requires { IsValid checked.now input.now };
 }

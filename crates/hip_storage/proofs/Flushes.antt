@@ -10,7 +10,7 @@ use Rattle.hip_runs.specs.declared.event.TrapKind.TheVariants as traps
 use Rattle.hip_storage.specs.Calls.{ShowsFlush}
 use Rattle.hip_storage.specs.Contents.{Contents, range_trap, region_of}
 
--- A range in the region of the code, whose base and size are those of the contents, has bytes.
+-- A range with at least one byte is in the region, whose base and size are those of the contents.
 pub record IsReached (s : Contents) (base size a n : ℕ) : Type 0 where
   pub base_is : base ≡ s.areas.base
   pub size_is : size ≡ length s.areas.region

@@ -8,7 +8,7 @@ use Rattle.hip_storage.specs.Contents.{Contents, access_trap, block_trap, range_
 use Rattle.hip_storage.specs.declared.refusal.StorageRefusal.{StorageRefusal}
 use Rattle.hip_storage.specs.declared.refusal.StorageRefusal.TheVariants.{Trap, NoMemory}
 
--- The number of the n bytes from address a on, the lowest first, was loaded.
+-- The value is the number of the n bytes from address a on, the lowest first, and the access does not trap.
 pub record HasLoaded (s : Contents) (a n align value : ℕ) : Type 0 where
   pub allowed : access_trap s a n align ≡ None
   pub loaded : value ≡ little_endian (bytes_in s.areas a n)
@@ -25,12 +25,12 @@ pub record HasPushed (old new : Contents) (block size align : ℕ) : Type 0 wher
   pub contents : new ≡ after_push size align old
   pub address : block ≡ block_address old.areas align
 
--- The cache lines of a range may be flushed, and a flush of it is seen as this event.
+-- The cache lines of a range may be flushed, and this event shows the flush.
 pub record ShowsFlush (s : Contents) (event : Event) (a n : ℕ) : Type 0 where
   pub allowed : range_trap s a n ≡ None
   pub seen : event ≡ flush_event s a n
 
--- The cache lines of a range may be flushed with a fence after it, and a persist of it is seen as this event.
+-- The cache lines of a range may be flushed with a fence after it, and this event shows the persist.
 pub record ShowsPersist (s : Contents) (event : Event) (a n : ℕ) : Type 0 where
   pub allowed : range_trap s a n ≡ None
   pub seen : event ≡ persist_event s a n

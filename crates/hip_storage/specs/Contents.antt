@@ -16,7 +16,7 @@ use Rattle.hip_runs.specs.declared.event.TrapKind.{TrapKind}
 use Rattle.hip_runs.specs.declared.event.TrapKind.TheVariants as traps
 use Rattle.hip_runs.specs.declared.input.Input.{Input}
 
--- The bytes of the memory.
+-- The contents of a storage: the bytes of the memory.
 pub record Contents : Type 0 where
   pub areas : Areas
 
@@ -31,7 +31,7 @@ initial P I =
 abbrev pub region_of : Contents → Input
 region_of s = record { base = s.areas.base; image = s.areas.region; numbers = []; limit = 0 }
 
--- Whether the n bytes from address a on lie in the region.
+-- Whether the n bytes from address a on are in the region.
 abbrev pub lies_in_region : Contents → ℕ → ℕ → Bool
 lies_in_region s a n = in_region (region_of s) a n
 
@@ -42,7 +42,7 @@ abbrev pub kind_of : MemTrap → TrapKind
 kind_of mem_traps.Misaligned = traps.Misaligned
 kind_of mem_traps.BadAddress = traps.Address
 
--- Why an access of n bytes traps: first by its alignment, and then by its bytes.
+-- Why an access of n bytes traps, if it traps: first for its alignment, then for its bytes.
 abbrev pub access_trap : Contents → ℕ → ℕ → ℕ → Option TrapKind
 access_trap s a n align = option_map kind_of (areas.access_trap s.areas a n align)
 
@@ -56,7 +56,7 @@ block_trap s size align = cond (nat_le (pushed_mark s.areas size align) stack_en
 
 -- ---- changes
 
--- The low n bytes of a number are written from address a on.
+-- The contents after a store of the low n bytes of a number from address a on.
 abbrev pub after_store : ℕ → ℕ → ℕ → Contents → Contents
 after_store a n value s = record { areas = after_write (record { addr = a; bytes = bytes_of n value }) s.areas }
 

@@ -4,7 +4,7 @@ use Rattle.hip_types.specs.declared.limits.TheConstants.{LARGEST_REGION}
 use Rattle.hip_storage.specs.Contents.{Contents}
 use Rattle.hip_storage.specs.declared.storage.Storage.TheInside.{Inside}
 
--- The bytes of the memory.
+-- The contents that a storage represents: the bytes of its memory.
 abbrev pub contents_of : Inside → Contents
 contents_of s = record { areas = s.ram }
 

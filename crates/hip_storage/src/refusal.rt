@@ -5,6 +5,6 @@ use hip_runs::TrapKind;
 pub enum StorageRefusal {
     /// The run ends here with this trap.
     Trap(TrapKind),
-    /// Memory ran out.
+    /// Out of memory.
     NoMemory,
 }

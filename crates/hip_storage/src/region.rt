@@ -24,7 +24,7 @@ pub fn kind_of(trap: MemTrap) -> TrapKind
     }
 }
 
-/// Whether `count` bytes from an address lie in the region, which has a base and a size.
+/// Whether `count` bytes from an address on are in the region, which has a base and a size.
 #[inline(always)]
 pub fn is_inside(base: u64, size: u64, addr: u64, count: u64) -> bool
     requires { base + size < 2 ^ 64 }
@@ -34,7 +34,7 @@ pub fn is_inside(base: u64, size: u64, addr: u64, count: u64) -> bool
     base <= addr && addr - base <= size && count <= size - (addr - base)
 }
 
-/// The number of the low bytes of a number.
+/// The number that the low bytes of a number hold.
 #[inline(always)]
 #[tactic(auto, using(crate::proofs::LowBytes::remainder_is))]
 pub fn low_bytes(value: u64, count: u32) -> u64
@@ -95,7 +95,7 @@ pub fn first_line(base: u64, offset: u64) -> u64
     base + LINE_SIZE * (offset / LINE_SIZE)
 }
 
-/// How many bytes the cache lines with a byte of a range have.
+/// The size in bytes of the cache lines that have a byte of a range.
 #[inline(always)]
 pub fn lines_size(offset: u64, len: u64) -> u64
     requires some { 0 < len }

@@ -13,8 +13,8 @@ use hip_types::{LINE_SIZE, NoMemory};
 use std::alloc::Global;
 use std::marker::Model;
 
-/// The memory of a run; contracts see the bytes that are valid. It knows where the region lies, and shows what is
-/// stored into it and flushed; it keeps no cache lines.
+/// The memory of a run; contracts see the bytes that are valid. It knows where the region is, and gives the events of
+/// stores and flushes in the region; it keeps no cache lines.
 #[derive(Drop)]
 pub struct Storage {
     // Where the region begins, and how many bytes it has.
@@ -125,7 +125,7 @@ impl Storage {
         self.ram.mark()
     }
 
-    /// Sets the mark back, from the stack's start to the current one.
+    /// Sets the mark back to an earlier one, not below the start of the stack.
     #[inline(always)]
     pub fn pop(&mut self, mark: u64)
         requires low { stack_start ≤ mark }
@@ -135,7 +135,7 @@ impl Storage {
         self.ram.pop_stack(mark);
     }
 
-    /// The event of a flush of the cache line of an address. It flushes no line if the address lies outside the region.
+    /// The event of a flush of the cache line of an address. It flushes no line if the address is outside the region.
     #[inline(always)]
     pub fn flush(&self, addr: u64) -> Result<Event, TrapKind>
         ensures ok { IfOk result (λ event. ShowsFlush self.now event addr 1) }
@@ -154,7 +154,7 @@ impl Storage {
         Err(TrapKind::Address)
     }
 
-    /// The event of a flush of the cache lines of a range. It flushes no line if the range has no bytes or lies outside
+    /// The event of a flush of the cache lines of a range. It flushes no line if the range has no bytes or is outside
     /// the region.
     pub fn flush_range(&self, addr: u64, size: u64) -> Result<Event, TrapKind>
         ensures ok { IfOk result (λ event. ShowsFlush self.now event addr size) }
@@ -182,7 +182,7 @@ impl Storage {
         Ok(with_fence(event))
     }
 
-    /// Whether a range lies in the region.
+    /// Whether a range is in the region.
     #[inline(always)]
     pub fn is_in_region(&self, addr: u64, size: u64) -> bool
         ensures { result ≡ lies_in_region self.now addr size }

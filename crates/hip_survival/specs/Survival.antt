@@ -93,8 +93,8 @@ pub record IsOfStep (P : Program) (I : Input) (steps : ℕ) (r : Report) : Type 
   pub entry : r.entry ≡ (run P I steps).counts.entries + 1
 
 -- A report is of a byte of the range that was checked. In working memory the byte has the value that the report's store
--- gave it. The part of that store is the last one over the byte and is not durable, and some crash image has there what
--- the parts before it give. So if the store changed the byte, a crash may undo the change.
+-- gave it. The part of that store is the last part over the byte and is not durable, and in some crash image the byte
+-- is what the parts before it give. So if the store changed the byte, a crash may undo the change.
 pub record IsOfByte (P : Program) (I : Input) (s : State) (range : Range) (r : Report) : Type 0 where
   pub byte : ℕ
   pub low : range.offset ≤ byte

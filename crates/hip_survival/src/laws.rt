@@ -27,7 +27,8 @@ pub fn working_memory_is_a_crash_image()
         IsWholeImage P I (run P I n) }
 {}
 
-/// A byte of the region that is not loose survives a crash: every crash image has the value that working memory has there.
+/// A byte of the region that is not loose survives a crash: every crash image has the value that working memory has
+/// there.
 pub fn durable_bytes_survive()
     ensures { (P : Program) → IsSound P → (I : Input) → IsValid P I → (n : ℕ) → (b : ℕ) →
         b < length I.image → ¬ IsLooseAt (run P I n) b → Survives P I (run P I n) b }
@@ -67,7 +68,7 @@ pub fn lines_tell_loose_bytes()
         In x (loose_bytes (run P I n) b 1) → IsLooseAt (run P I n) b }
 {}
 
-/// A check reports nothing exactly if no byte of its range is loose, and its range lies in the region.
+/// A check reports nothing exactly if no byte of its range is loose, and its range is in the region.
 pub fn checks_tell_loose_bytes()
     ensures none { (P : Program) → (I : Input) → (n : ℕ) → (range : Range) →
         check_reports (run P I n) (Some range) ≡ [] →

@@ -234,8 +234,8 @@ const LAST_STORE: &[Bytes] = &[Bytes {
     is_flushed: false,
 }];
 
-/// A region of a million lines: each of 50,000 fences takes the time of one line, and each check that of the lines that
-/// hold something.
+/// A region of a million lines: each of 50,000 fences takes time for one line, and each check takes time only for the
+/// lines that hold something.
 #[test]
 fn many_lines(rt: HostRuntime) {
     let mut lines = Lines::new(rt.alloc(), 67_108_864).expect(&rt, AMPLE);

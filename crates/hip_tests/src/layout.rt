@@ -119,7 +119,7 @@ fn largest(rt: &impl Abort, alloc: Global) -> Ty {
     array(rt, alloc, 67_108_864, int(Width::W8))
 }
 
-/// No element of a type that is too large.
+/// An array of no elements, whose element type is too large.
 fn none_of_large(rt: &impl Abort, alloc: Global) -> Ty {
     let two = array(rt, alloc, 2, largest(rt, alloc));
     array(rt, alloc, 0, two)

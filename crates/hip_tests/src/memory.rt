@@ -52,7 +52,7 @@ enum Call {
     },
 }
 
-/// Takes blocks of the stack away down to a mark, if they reach that far.
+/// Removes the blocks of the stack down to a mark, if they reach that far.
 fn has_popped(ram: &mut Ram, mark: u64) -> bool {
     let reaches = STACK <= mark && mark <= ram.mark();
     if reaches {
@@ -358,7 +358,7 @@ const FULL_STACK: &[Call] = &[
     },
 ];
 
-/// What the full stack has left.
+/// Loads from the full stack: the stored value, and zeros elsewhere.
 const LEFT: &[Call] = &[
     Call::Load {
         addr: 285_212_664,

@@ -13,20 +13,21 @@ use hip_write::write;
 use std::alloc::Global;
 use std::process::Abort;
 
-/// The program is written as this text.
+/// Asserts that the program is written as this text.
 fn assert_written(rt: &impl Abort, alloc: Global, program: &Program, text: &str) {
     let mut sink = MemSink::new(alloc, 10_000).expect(rt, AMPLE);
     assert!(rt; write(program, &mut sink).is_ok(), "{text}");
     assert_eq!(rt; sink.bytes(), text.as_bytes());
 }
 
-/// The program of this text is the same.
+/// Asserts that this text is read as the same program.
 fn assert_read(rt: &impl Abort, alloc: Global, text: &str, program: &Program) {
     let again = parse(alloc, text.as_bytes()).expect(rt, "the canonical text is read");
     assert!(rt; same(program, &again), "{text}");
 }
 
-/// A text is read, its program is spelled and written as the canonical text, and that text is read as the same program.
+/// Asserts that a text is read, that its program is spelled and written as the canonical text, and that this text is
+/// read as the same program.
 fn assert_written_as(rt: &impl Abort, alloc: Global, text: &str, canonical: &str) {
     let program = parse(alloc, text.as_bytes()).expect(rt, "the text is read");
     assert!(rt; spelled(&program), "{text}");

@@ -63,7 +63,7 @@ fn refuses_by_name(rt: HostRuntime) {
     assert_refused(&rt, rt.alloc(), &mut cabinet, "b", 6, ReadRefusal::Missing);
 }
 
-/// The file `a`, which fails there.
+/// A cabinet whose file `a` fails at this point.
 fn failing(rt: &impl Abort, alloc: Global, at: FailAt) -> FailingCabinet {
     let inner = cabinet_of(rt, alloc, b"a", b"seven b", 3);
     FailingCabinet::new(inner, bytes_of(rt, alloc, b"a"), at)

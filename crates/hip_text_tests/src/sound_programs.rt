@@ -38,13 +38,13 @@ entry:
 }
 ";
 
-/// The program of a text that is sound.
+/// The sound program of a text.
 fn checked(rt: &impl Abort, alloc: Global, text: &str) -> Checked {
     let program = parse(alloc, text.as_bytes()).expect(rt, "the text is read");
     check(alloc, program).expect(rt, "the program is sound")
 }
 
-/// Names, and the number of the function of each name that is one.
+/// Names, and the number of the function of each name that is a function's.
 const NUMBERS: &[(&str, Option<usize>)] = &[
     ("f", Some(0)),
     ("main", Some(1)),

@@ -19,7 +19,7 @@ fn is_spelled_end(rt: &impl Abort, alloc: Global, label: &str, end: End) -> bool
     spelled(&program)
 }
 
-/// Whether a program with a global of this name besides is spelled.
+/// Whether a program that also has a global of this name is spelled.
 fn is_spelled_global(rt: &impl Abort, alloc: Global, text: &str) -> bool {
     let mut program = one_store(rt, alloc, Some(64));
     program
@@ -188,7 +188,7 @@ fn limits_of_spelling(rt: HostRuntime) {
     }
 }
 
-/// `switch i64 1, label %entry [ .. ]` with one case of this width
+/// `switch i64 1, label %entry [ .. ]` with one case of this width.
 fn switch(rt: &impl Abort, alloc: Global, width: Width) -> End {
     let case = Case {
         value: Bits::new(width, 1),

@@ -106,7 +106,7 @@ fn copied_program(rt: HostRuntime) {
     assert!(rt; !same(&program, &unaligned));
 }
 
-/// `getelementptr (ptr, ptr @x, i64 1)`, inside an object or not
+/// `getelementptr (ptr, ptr @x, i64 1)`, inside an object or not.
 fn address(rt: &impl Abort, alloc: Global, inbounds: bool) -> Const {
     let gep = ConstGep {
         inbounds,

@@ -1,4 +1,4 @@
-//! The command that repairs a program by clones that do not flush stores which never lie in the region, with its
+//! The command that repairs a program with clones that do not flush stores which are never in the region, with its
 //! answers.
 #![tactic(auto)]
 

@@ -86,7 +86,7 @@ string_long t rest h = rw (prefix_exact in_string t 34 rest h refl, at_len t 34 
 tail_is : (a b : ℕ) (xs ys : List ℕ) → a ∷ xs ≡ b ∷ ys → (a ≡ b) × (xs ≡ ys)
 tail_is a b xs ys e = (cc, cc)
 
--- What holds of the first byte and the rest of a token holds of the place.
+-- A bound on the piece of a text is a bound on the piece of an equal text.
 placed : (b c : ℕ) (bs tail : List ℕ) (k : ℕ) → b ∷ bs ≡ c ∷ tail → k ≤ (piece_at c tail).more → k ≤ (piece_at b bs).more
 placed b c bs tail k e h = let t = tail_is b c bs tail e in rw (t.0, t.1) h
 
@@ -204,7 +204,7 @@ mark_by : (b : ℕ) (bs : List ℕ) (c : Bool) → begins_name b ≡ false → i
 mark_by b bs true n d e = (refl, e)
 mark_by b bs false n d e = (refl, rw (n, d, e) refl)
 
--- One test after the other.
+-- The piece that a test chooses is spelled here, if each of the two pieces is spelled here where it is chosen.
 by_test : (b : ℕ) (bs : List ℕ) (c : Bool) (p q : Piece) → (c ≡ true → SpelledHere b bs p) → (c ≡ false → SpelledHere b bs q) → SpelledHere b bs (cond c p q)
 by_test b bs true p q h k = h refl
 by_test b bs false p q h k = k refl

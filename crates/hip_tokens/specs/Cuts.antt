@@ -1,4 +1,4 @@
--- A text that is cut inside a token or a comment goes on after it.
+-- A cut that begins inside a token or a comment goes on after it.
 use Rattle.std.proofs.Common.{◌≡◌, ℕ, zero, suc, true, false, eqb, List, [], ◌∷◌, drop, refl, sym, ap, ◌∙◌}
 use Rattle.std.specs.List.{prefix_len}
 use Rattle.hip_tokens.specs.Bytes.{is_blank, in_comment}

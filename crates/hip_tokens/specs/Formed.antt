@@ -13,7 +13,7 @@ is_formed (Local t) = is_name t
 is_formed (Global t) = is_name t
 is_formed _ = true
 
--- Each token that has a name has one of this form.
+-- The name in each token that has one has the form of a name.
 abbrev pub AreFormed : List At → Type 0
 AreFormed [] = Unit {0}
 AreFormed (t ∷ ts) = (is_formed t.tok ≡ true) × AreFormed ts
@@ -43,11 +43,11 @@ name_front (b ∷ bs) e = rw (goes, one-add, e, prefix_all goes_on_name bs) refl
 
 -- ---- tokens
 
--- The same for a piece's token.
+-- If the token of the piece has a name, the name has the form of a name.
 record IsFormed (p : Piece) : Type 0 where
   formed : is_formed p.tok ≡ true
 
--- The same for one of two pieces, by a test.
+-- The piece that a test chooses is formed, if each of the two pieces is formed where it is chosen.
 by_test : (c : Bool) (p q : Piece) → (c ≡ true → IsFormed p) → (c ≡ false → IsFormed q)
     → IsFormed (cond c p q)
 by_test true p q h k = h refl
@@ -113,6 +113,6 @@ cut_formed line zero (b ∷ bs) =
     (cut_formed (line_after line b) 0 bs) (cut_formed line (prefix_len in_comment bs) bs) (piece_formed b bs).formed
     (cut_formed line (piece_at b bs).more bs)
 
--- The tokens of a text.
+-- The names in the tokens of a text have the form of names.
 pub tokens_formed : (text : List ℕ) → AreFormed (tokens text)
 tokens_formed text = cut_formed 1 0 text

@@ -1,4 +1,4 @@
--- The bytes that spell a token, and that the piece at a place is the longest.
+-- The bytes that spell a token, and what it means that the piece at a place is the longest.
 use Rattle.std.specs.Prelude.{◌≡◌, ℕ, ◌+◌, ◌≤◌, Bool, true, false, not, ◌&&◌, ◌||◌, List, [], ◌∷◌, ◌++◌, codes, length, take, ◌==◌}
 use Rattle.std.specs.List.{list_all}
 use Rattle.hip_tokens.specs.Bytes.{byte, is_digit, begins_name, goes_on_name, is_mark, in_string}
@@ -15,7 +15,7 @@ abbrev pub are_digits : List ℕ → Bool
 are_digits [] = false
 are_digits (d ∷ ds) = is_digit d && list_all is_digit ds
 
--- One or more decimal digits, after a `-` or none.
+-- One or more decimal digits, with or without a `-` before them.
 abbrev pub is_number : List ℕ → Bool
 is_number [] = false
 is_number (d ∷ ds) = ((d == byte "-") && are_digits ds) || are_digits (d ∷ ds)

@@ -4,7 +4,7 @@ use Rattle.hip_tokens.specs.declared.lexer.Token.{Token}
 use Rattle.hip_tokens.specs.declared.lexer.Token.TheVariants as code
 use Rattle.hip_tokens.specs.Tokens.{Tok, Word, Label, Local, Global, Num, Str, Mark, Odd, At}
 
--- The token of the definitions that a token of the code is: the same kind, with the same text or byte.
+-- A token of the code as a token of the definitions: of the same kind, with the same text or byte.
 abbrev pub seen : Token → Tok
 seen (code.Word t) = Word t.now
 seen (code.Label t) = Label t.now

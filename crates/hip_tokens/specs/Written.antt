@@ -1,4 +1,4 @@
--- A token that is written is cut again, unless the bytes after it continue it.
+-- The cut of a written token is the token, unless the bytes after it continue it.
 use Rattle.std.proofs.Common.{◌≡◌, ℕ, suc, ◌+◌, Bool, true, false, eqb, List, [], ◌∷◌, ◌++◌, drop, length, not, ◌&&◌, refl, ◌∙◌, arith}
 use Rattle.std.specs.Prelude.{slice_index, ◌==◌}
 use Rattle.std.specs.List.{prefix_len, list_all}
@@ -15,7 +15,7 @@ abbrev pub begins_without : (ℕ → Bool) → List ℕ → Bool
 begins_without p [] = true
 begins_without p (b ∷ bs) = not (p b)
 
--- The bytes continue no name, and make none a label.
+-- The first byte neither continues a name nor makes it a label; true if there is none.
 abbrev pub ends_word : List ℕ → Bool
 ends_word [] = true
 ends_word (b ∷ bs) = not (goes_on_name b) && not (b == byte ":")
@@ -93,7 +93,7 @@ word_cut line (b ∷ bs) rest p e =
     cut_token line b (bs ++ rest) (Word (b ∷ bs)) (length bs) o.0 o.1 token
     ∙ rw (drop_at bs rest (length bs) refl) refl
 
--- A name before `:`.
+-- A name and `:` are cut as a label.
 pub label_cut : (line : ℕ) (name rest : List ℕ) → is_name name ≡ true
     → cut line 0 (name ++ 58 ∷ rest) ≡ at_line line (Label name) ∷ cut line 0 rest
 unfolding piece_at word_piece

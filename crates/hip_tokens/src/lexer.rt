@@ -7,7 +7,7 @@ ghost use Rattle.hip_tokens.specs.Seen.{seen, IsNext};
 
 use crate::bytes::*;
 
-/// A token. Its text lies in the program's text, without the sigil, the `:` or the quotes.
+/// A token. Its text is a part of the program's text, without the sigil, the `:` or the quotes.
 #[derive(Clone, Copy)]
 pub enum Token<'a> {
     Word(&'a [u8]),

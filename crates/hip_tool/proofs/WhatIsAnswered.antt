@@ -29,7 +29,7 @@ not_counted true old new s h = absurd (not_risen old new s h.0 h.1)
 not_cut : (old new : SinkState) (text : List ℕ) → Stays old.faults new.faults → AppendsPrefix old new text → ⊥
 not_cut old new text s p = not_risen old.faults new.faults s p.later p.rose
 
--- A text that was cut short, and then a line that may have been written.
+-- If the count of faults stays the same, no text was cut short before a line that may have been written.
 not_cut_then : (old mid new : SinkState) (text : List ℕ) (status : Status) → Stays old.faults new.faults
     → AppendsPrefix old mid text → PutsLine status mid new → ⊥
 not_cut_then old mid new text status s p (inl whole) =
@@ -94,7 +94,7 @@ module _ (old new : CabinetState) (s : Sinks) (nothing : NothingFails old new s)
       go CutShort e a = absurd (never_cut table a)
       go RanOut e a = inl (ran_out status e)
 
-  -- What it is if the table has only such answers.
+  -- If all answers of the table are of one kind, the call has an answer of that kind.
   pub gives : (table Is : Answer → Type 0) (begins : Bool) (status : Status) → ((a : Answer) → table a → Is a)
       → HasAnswered table begins old new s status → Gives Is s status
   gives table Is begins status only h = go (has_answer table begins status h)

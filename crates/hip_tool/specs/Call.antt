@@ -36,7 +36,7 @@ AnswersTo (Some (Crash program trace entry picks)) old new answer =
     CrashAnswers old new program trace entry picks answer
 AnswersTo (Some (Thin program trace)) old new answer = ThinAnswers old new program trace answer
 
--- Whether the command of an order writes its text while it makes it.
+-- Whether the command of an order writes its text before the whole text is made.
 abbrev pub begins : Option Order → Bool
 begins (Some (Run program limit numbers)) = true
 begins (Some (Record program base limit numbers)) = true

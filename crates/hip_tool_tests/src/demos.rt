@@ -1,4 +1,4 @@
-//! `demo`: the whole job on a generated program.
+//! `demo`: a generated program is recorded, repaired and run again.
 
 use crate::commands::{Case, assert_cases, outcome_in_room};
 

@@ -21,7 +21,7 @@ pub const COPY_TRACE: &str =
 
 pub const COPY_FILES: &[(&str, &str)] = &[("a", COPY), ("b", COPY_TRACE)];
 
-/// The file fails at each of its bytes, and after the last one.
+/// Asserts a read fault if the file fails at any of its bytes, or after the last one.
 fn assert_faults(rt: &impl Abort, alloc: Global, words: &[&str], name: &str, length: usize) {
     for byte in 0..=length {
         let at = FailAt::Byte(byte as u64);
@@ -100,7 +100,7 @@ fn output_has_room_for_some_bytes(rt: HostRuntime) {
     }
 }
 
-/// The output is whole if the notes have too little room.
+/// The output is whole even if the notes have too little room.
 #[test]
 fn notes_have_room_for_some_bytes(rt: HostRuntime) {
     let notes = COUNTS.as_bytes();
@@ -119,7 +119,7 @@ fn notes_have_room_for_some_bytes(rt: HostRuntime) {
     }
 }
 
-/// The refusal is answered if its line has no room.
+/// The refusal is answered even if there is no room for its line.
 #[test]
 fn line_of_a_refusal_has_room_for_some_bytes(rt: HostRuntime) {
     let files = &[("a", ONE_STORE), ("b", "")];

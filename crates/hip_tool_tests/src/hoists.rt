@@ -14,7 +14,7 @@ hoists 1
 clones 1
 ";
 
-/// `ASSERT_INSIDE_CALLEE` repaired at the store: the call has not returned where it is checked.
+/// `ASSERT_INSIDE_CALLEE` repaired at the store: the call has not returned where the copied bytes are checked.
 const ASSERT_INSIDE_CALLEE_REPAIRED: &str = "@p = global i64 0, section \".pm\"
 @q = global i64 9
 declare void @pm_assert(ptr, i64)

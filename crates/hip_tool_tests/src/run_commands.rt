@@ -4,7 +4,7 @@ use crate::commands::{Case, assert_cases, assert_outcome, outcome_in_room, outco
 use hip_examples::{DIVIDE_BY_ZERO, ENDLESS_LOOP, KEY_VALUE_LOG, ONE_STORE, SUM_OF_NUMBERS};
 use hip_io::FailAt;
 
-/// It prints three numbers, each on a line of two bytes or more, and returns a negative number.
+/// A program that prints three numbers, each on a line of two bytes or more, and returns a negative number.
 const THREE_LINES: &str = "declare void @print_i64(i64)
 define i32 @main() {
 entry:

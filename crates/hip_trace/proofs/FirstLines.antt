@@ -1,4 +1,4 @@
--- The line that stands first, put together from its word and its fields.
+-- The first line of some bytes, put together from its word and its fields.
 use Rattle.std.proofs.Common.{◌≡◌, ℕ, suc, ◌+◌, ◌-◌, ◌*◌, ◌<◌, ◌≤◌, ◌^◌, Bor, get_or, Bool, true, false, ◌||◌, List, [], ◌∷◌, ◌++◌, length, take, drop, Option, Some, None, IfSome, Ok, refl, sym, ap, subst, ◌∙◌, arith, append_assoc, length-append}
 use Rattle.std.specs.Prelude.{MatchOption, position, nat_lt, codes, ◌==◌, option_map, if◌then◌else◌}
 use Rattle.std.specs.Char.{digit_value}
@@ -51,7 +51,7 @@ digits_inner : (ds : List ℕ) → AllDigits 16 ds → list_any is_separator ds 
 digits_inner [] h = refl
 digits_inner (d ∷ ds) h = rw (digit_inner d h.0) (digits_inner ds h.1)
 
--- The number whose digits stand up to a place.
+-- The digits before a place are the number at the start of the bytes.
 pub digits_first : (bytes : List ℕ) (at n : ℕ) → at ≤ length bytes → 0 < at → AllDigits 16 (take at bytes) → n ≡ digits_value 16 (take at bytes) → n < 2 ^ 64
     → HasDigits bytes n (take (length bytes - at) (drop at bytes))
 digits_first bytes at n within some all e small =
@@ -65,7 +65,7 @@ digits_first bytes at n within some all e small =
       is = number_is (take at bytes) n (omega (arith, len, some)) all e small;
     }
 
--- One digit more.
+-- The number after one more digit.
 pub digit_next : (bytes : List ℕ) (at n d b : ℕ) → at < length bytes → AllDigits 16 (take at bytes) → n ≡ digits_value 16 (take at bytes) → d ≡ digit_value b → b ≡ get_or bytes at 0 → d < 16
     → AllDigits 16 (take (at + 1) bytes) × (n * 16 + d ≡ digits_value 16 (take (at + 1) bytes))
 digit_next bytes at n d b lt all e is at_b low =
@@ -74,7 +74,7 @@ digit_next bytes at n d b lt all e is at_b low =
     let small : digit_value (get_or bytes at 0) < 16 = subst (λ (x : ℕ). x < 16) here low in
     (digits_more 16 bytes at lt all small, omega (arith, here, next, e))
 
--- A number of at most k digits.
+-- A number of at most k digits is below 16 ^ k.
 pub few_digits : (bytes : List ℕ) (at k n : ℕ) → at ≤ k → at ≤ length bytes → AllDigits 16 (take at bytes) → n ≡ digits_value 16 (take at bytes) → n < 16 ^ k
 few_digits bytes at k n few within all e =
     let below = digits_value-lt 16 (take at bytes) all in
@@ -84,7 +84,7 @@ few_digits bytes at k n few within all e =
 
 -- ---- fields
 
--- What stands after a word.
+-- What follows a word.
 pub stripped : (bytes word : List ℕ) (r : Option (Bor (List ℕ))) (P : Type 0) (Q : Bor (List ℕ) → Type 0)
     → MatchOption r P (λ x. (bytes_eq (take (length word) bytes) word ≡ true) × (x.now ≡ drop (length word) bytes) × Q x) → IfSome r (λ rest. bytes ≡ word ++ rest.now)
 stripped bytes word None P Q h = tt
@@ -214,7 +214,7 @@ line_first bytes rest more line h e len few =
 
 -- ---- the answer
 
--- The entry of the line that stands first is what `next` answers where the line is dropped.
+-- If the first line is dropped, `next` may give its entry as the answer.
 pub line_read : (r r' : ReaderState) (s : CabinetState) (line : Line) → IsFirstLine r.held line → s.is_current ≡ true → r' ≡ record { held = drop (line.len + 1) r.held; count = one_more r.count; progress = Reading }
     → ReadsOn r r' s s (Ok (Some (usual_entry line.usual)))
 line_read r r' s line h current e =

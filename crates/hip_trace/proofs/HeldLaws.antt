@@ -15,7 +15,7 @@ after_front front n held xs e =
     let all : front + n - 0 ≡ front + n = omega arith in
     ap (λ (j : ℕ). take j xs) all ∙ take-add front n xs ∙ ap (λ (h : List ℕ). h ++ take n (drop front xs)) e
 
--- Bytes that were got after the held ones are held.
+-- Bytes that are read to the place after the held ones are held too.
 pub got_more : (held held' buffer : List ℕ) (n : ℕ) (s s' : CabinetState) → HasGot s s' buffer n → held' ≡ held ++ take n buffer → HasTakenSome held held' s s'
 got_more held held' buffer n s s' got e =
     let len = length-append held (take n buffer) in

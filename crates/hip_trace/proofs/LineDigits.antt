@@ -1,4 +1,4 @@
--- Hexadecimal digits before a text that is there.
+-- Hexadecimal digits that are written before a text.
 use Rattle.std.proofs.Common.{◌≡◌, ◌⊎◌, inl, inr, ℕ, zero, suc, ◌+◌, ◌-◌, ◌/◌, ◌%◌, ◌^◌, ◌<◌, ◌≤◌, false, List, [], ◌∷◌, ◌++◌, length, drop, set, sym, ap, subst, ◌∙◌, arith}
 use Rattle.std.specs.Fmt.{digits, digit_glyph}
 use Rattle.std.proofs.lemmas.Bool.{cases_order}
@@ -21,7 +21,7 @@ by_size k n written more rest t = go t
     go (inr (inl less)) = onto_last k n (written ++ more) less ∙ ap (λ xs. xs ++ more) (sym (onto_last k n written less))
     go (inr (inr large)) = several (omega (arith, large))
 
--- The digits stand before all that was written.
+-- The digits of a number are written before the text that is already written.
 onto_append : (k n : ℕ) (written more : List ℕ) → n < 16 ^ (k + 1)
     → onto (suc k) n (written ++ more) ≡ onto (suc k) n written ++ more
 onto_append zero n written more h =
@@ -36,7 +36,7 @@ pub onto_before : (n : ℕ) (more : List ℕ) → n < 2 ^ 64 → onto 64 n more 
 onto_before n more h =
     onto_append 63 n [] more (omega (arith, h)) ∙ ap (λ xs. xs ++ more) (onto_all n)
 
--- One digit more is written at a place before the others, and the rest of the number is left.
+-- One more digit is written before the others, and the rest of the number is left.
 pub next_before : (k i rest x : ℕ) (text all : List ℕ) → 16 ≤ rest → 1 ≤ k → 1 ≤ i → i < length text
     → x ≡ digit_glyph false (rest % 16) → onto (k + 49) rest (drop (i + 1) text) ≡ all
     → onto (k - 1 + 49) (rest / 16) (drop (i - 1 + 1) (set text i x)) ≡ all
@@ -54,7 +54,7 @@ last_before k i rest x text all less inside x_is is =
     rw (drop-set text i x inside, x_is)
     (sym (onto_last (k + 48) rest (drop (i + 1) text) less) ∙ ap (λ (j : ℕ). onto j rest (drop (i + 1) text)) (sym e) ∙ is)
 
--- Two digits more are written at a place and the one before it, and the rest of the number is left.
+-- Two more digits are written before the others, and the rest of the number is left.
 pub pair_before : (k i rest x y : ℕ) (text all : List ℕ) → 256 ≤ rest → 2 ≤ k → 2 ≤ i → i < length text
     → x ≡ digit_glyph false (rest % 256 % 16) → y ≡ digit_glyph false (rest % 256 / 16)
     → onto (k + 49) rest (drop (i + 1) text) ≡ all
@@ -81,7 +81,7 @@ last_pair k i rest x y text all more less some first inside x_is y_is is =
     last_before (k - 1) (i - 1) (rest / 16) y (set text i x) all (omega (arith, less)) (omega (arith, inside, size)) y_is
     (next_before k i rest x text all more some first inside x_is is)
 
--- Numbers of two digits or more have two places.
+-- A number of three digits or more has at least two digits before its last one.
 pub has_places : (at n : ℕ) → 256 ≤ n → n < 16 ^ (at + 1) → 2 ≤ at
 has_places zero n h k = absurd (omega arith)
 has_places (suc zero) n h k = absurd (omega (arith, h, k))

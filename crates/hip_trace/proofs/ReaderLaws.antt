@@ -1,4 +1,4 @@
--- From what stands first in what a reader holds to what `next` answers.
+-- How the front of the held bytes decides what `next` answers.
 use Rattle.std.proofs.Common.{◌≡◌, ℕ, ◌+◌, ◌<◌, ◌≤◌, true, false, List, [], ◌∷◌, ◌++◌, length, take, drop, get_or, slice_get, Option, Some, None, IfSome, Result, Ok, Err, inl, inr, refl, sym, ap, subst, ◌∙◌, arith, append_assoc, length-append}
 use Rattle.std.specs.Prelude.{option_map, position, if◌then◌else◌}
 use Rattle.std.proofs.lemmas.List.{append-nil, take_all, drop_all}
@@ -104,7 +104,7 @@ rest_answered r mid r' s s' (b ∷ bs) result same count f a =
     }) in
     answered r mid r' s s' (take n mid.held) n result (entry_of (take n mid.held)) refl count f.more.reading takes a
 
--- What stands first, and the answer to it, are what `next` does.
+-- To find the front and to answer it is what `next` does.
 pub reads_on : (r mid r' : ReaderState) (s s' : CabinetState) (front : Front) (result : Result (Option Entry) TraceRefusal) → mid.count ≡ r.count → FindsFront r.held mid.held s s' front → AnswersFront mid r' front result → ReadsOn r r' s s' result
 reads_on r mid r' s s' (fronts.Piece n) result count f a =
     let cut = cut_at mid.held n f.here in
@@ -158,7 +158,7 @@ pub same_rest : (rest : Option (List ℕ)) → rest ≡ option_map (λ r. [] ++ 
 same_rest None = refl
 same_rest (Some r) = refl
 
--- Where the cabinet is not called, nothing is taken.
+-- If the cabinet is not called, nothing is taken.
 abbrev pub takes_nothing : (held : List ℕ) (s : CabinetState) → TakesAtNeed held s s
 takes_nothing held s = record { taken = []; bytes = same_rest s.rest; needed = inl refl }
 
@@ -179,7 +179,7 @@ then_current s mid s' p q = record { files = q.files ∙ p.files; fetches = q.fe
 then_reading : (s mid s' : CabinetState) → IsReading s mid → IsReading mid s' → IsReading s s'
 then_reading s mid s' p q = record { stays = then_current s mid s' p.stays q.stays; faults = q.faults ∙ p.faults }
 
--- What is ahead stays, where bytes of the file are held.
+-- The bytes ahead stay the same when bytes of the file become held bytes.
 moved : (held t : List ℕ) (old new : Option (List ℕ)) → old ≡ option_map (λ rest. t ++ rest) new → option_map (λ rest. (held ++ t) ++ rest) new ≡ option_map (λ rest. held ++ rest) old
 moved held t old None e = rw e refl
 moved held t old (Some r) e = rw e (ap (λ (x : List ℕ). Some x) (append_assoc held t r))
@@ -192,7 +192,7 @@ taken_both t u old mid (Some r) p q = p ∙ ap (option_map (λ rest. t ++ rest))
 pub may_go_on : (held : List ℕ) (len : ℕ) → None ≡ position is_separator held → len ≡ length held → len ≤ 256 → MayGoOn held
 may_go_on held len none is few = record { whole = none_found held (sym none); few = subst (λ (n : ℕ). n ≤ 256) is few }
 
--- One read more, made since the bytes held may go on.
+-- One more read is needed, since the held bytes have no separator and are at most 256.
 pub holds_on : (held mid held' : List ℕ) (s t s' : CabinetState) → HoldsMore held mid s t → MayGoOn mid → HasTakenSome mid held' t s' → HoldsMore held held' s s'
 holds_on held mid held' s t s' p m q =
     let first = p.takes.taken in

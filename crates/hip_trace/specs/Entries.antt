@@ -48,11 +48,11 @@ register fs = option_map (λ n. Register n.0 n.1) (two_numbers fs)
 unfoldable pub input : List (List ℕ) → Option Entry
 input fs = option_and_then (λ n. option_map (λ number. Input number) (signed_of (2 ^ 63) n)) (one_field fs)
 
--- 128 hexadecimal digits: the 64 bytes of a cache line
+-- The 64 bytes of a cache line, from 128 hexadecimal digits.
 abbrev pub line_bytes : List ℕ → Option (List ℕ)
 line_bytes text = result_ok (decode_sized text 64)
 
--- A line's address is a multiple of 64.
+-- The IMAGE entry of a line at an address, if the address is a multiple of 64.
 abbrev pub image_at : ℕ → Option (List ℕ) → Option Entry
 image_at addr bytes = if addr % 64 == 0 then option_map (λ bs. Image addr bs) bytes else None
 
@@ -61,11 +61,11 @@ unfoldable pub image : List (List ℕ) → Option Entry
 image fs = option_and_then (λ f. option_and_then (λ addr. image_at addr (line_bytes f.1)) (hex_of f.0))
     (two_fields fs)
 
--- Sizes are 1, 2, 4 and 8.
+-- Whether a store may have this size: 1, 2, 4 or 8.
 abbrev pub is_store_size : ℕ → Bool
 is_store_size size = (size == 1) || ((size == 2) || ((size == 4) || (size == 8)))
 
--- The value has at most as many bytes as the size says.
+-- Whether the size is one that a store may have, and the value has at most as many bytes.
 abbrev pub is_sized : ℕ → ℕ → Bool
 is_sized value size = is_store_size size && nat_lt value (2 ^ (8 * size))
 
@@ -82,7 +82,7 @@ store fs =
     option_and_then (λ size. sized_store addr value size) (hex_of f.2)) (hex_of f.1)) (hex_of f.0))
     (three_fields fs)
 
--- One or more whole cache lines, below 2^64.
+-- Whether an address and a size are those of one or more whole cache lines, which end at most at 2^64.
 abbrev pub are_lines : ℕ → ℕ → Bool
 are_lines addr size = (addr % 64 == 0) && ((size % 64 == 0) && (nat_lt 0 size && nat_le (addr + size) (2 ^ 64)))
 
@@ -106,7 +106,7 @@ assert fs = option_map (λ n. Assert n.0 n.1) (two_numbers fs)
 unfoldable pub stop : List (List ℕ) → Option Entry
 stop fs = option_and_then (λ c. option_map (λ code. Stop code) (signed_of (2 ^ 31) c)) (one_field fs)
 
--- The words for why a run trapped.
+-- The word for why a run trapped.
 abbrev pub trap_text : TrapWord → List ℕ
 trap_text traps.DivZero = codes "divzero"
 trap_text traps.DivOverflow = codes "divoverflow"
@@ -140,7 +140,7 @@ trap_of text =
 unfoldable pub trap : List (List ℕ) → Option Entry
 trap fs = option_and_then (λ k. option_map (λ kind. Trap kind) (trap_of k)) (one_field fs)
 
--- `FENCE` and `CUT` have no fields.
+-- An entry without fields: `FENCE` or `CUT`.
 abbrev pub alone : Entry → List (List ℕ) → Option Entry
 alone e [] = Some e
 alone e (f ∷ fs) = None

@@ -142,7 +142,7 @@ AnswersFront r r' fronts.TooLong result =
     })
 AnswersFront r r' fronts.Failed result = (result ≡ Err ReadFault) × (r' ≡ failed r)
 
--- A piece and its separator lie in what is held.
+-- If the front is a piece, the piece and its separator are in the bytes that are held.
 abbrev pub IsFrontOf : List ℕ → Front → Type 0
 IsFrontOf held (fronts.Piece n) = n < length held
 IsFrontOf held fronts.Rest = Unit {0}

@@ -11,14 +11,14 @@ use Rattle.hip_trace.specs.declared.entry.Entry.{Entry}
 use Rattle.hip_trace.specs.declared.line.Line.{Line}
 use Rattle.hip_trace.specs.Usuals.{usual_entry}
 
--- Hexadecimal digits of a number come first.
+-- The bytes begin with the hexadecimal digits of a number.
 pub record HasDigits (bytes : List ℕ) (number : ℕ) (rest : List ℕ) : Type 0 where
   pub digits : List ℕ
   pub whole : bytes ≡ digits ++ rest
   pub all : AllDigits 16 digits
   pub is : number_of 16 digits ≡ Some number
 
--- A field comes first, after its semicolon, and is a hexadecimal number.
+-- The bytes begin with a semicolon and a field that is a hexadecimal number.
 pub record HasField (bytes : List ℕ) (number : ℕ) (rest : List ℕ) : Type 0 where
   pub field : List ℕ
   pub whole : bytes ≡ (byte ";" ∷ field) ++ rest
@@ -26,14 +26,14 @@ pub record HasField (bytes : List ℕ) (number : ℕ) (rest : List ℕ) : Type 0
   pub plain : IsPlain field
   pub inner : list_any is_separator field ≡ false
 
--- The fields of an entry come first.
+-- The bytes begin with the word and the fields of an entry.
 pub record HasEntry (bytes : List ℕ) (entry : Entry) (rest : List ℕ) : Type 0 where
   pub text : List ℕ
   pub whole : bytes ≡ text ++ rest
   pub is : entry_by (fields text) ≡ Some entry
   pub inner : list_any is_separator text ≡ false
 
--- The piece that comes first spells an entry.
+-- The first piece of the bytes spells the entry of the line.
 pub record IsFirstLine (bytes : List ℕ) (line : Line) : Type 0 where
   pub here : position is_separator bytes ≡ Some line.len
   pub spells : entry_of (take line.len bytes) ≡ Some (usual_entry line.usual)

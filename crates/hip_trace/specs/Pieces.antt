@@ -6,7 +6,7 @@ use Rattle.hip_num.specs.Texts.{is_nonempty}
 use Rattle.hip_trace.specs.Entries.{entry_of}
 use Rattle.hip_trace.specs.declared.entry.Entry.{Entry}
 
--- `|` or a line feed.
+-- Whether a byte is `|` or a line feed.
 abbrev pub is_separator : ℕ → Bool
 is_separator b = (b == byte "|") || (b == byte "\n")
 
@@ -14,8 +14,8 @@ is_separator b = (b == byte "|") || (b == byte "\n")
 abbrev pub parts : List ℕ → List (List ℕ)
 parts bytes = slice_split is_separator bytes
 
--- The last part of a whole file is a piece if it is not empty. If more of the file may follow, it is a piece only if it
--- has more than 256 bytes, and so can spell no entry however it goes on.
+-- Whether the last part is a piece. In a whole file it is a piece if it is not empty. If more of the file may follow,
+-- it is a piece only if it has more than 256 bytes, since then it spells no entry, whatever follows.
 abbrev pub counts_last : Bool → List ℕ → Bool
 counts_last true last = is_nonempty last
 counts_last false last = nat_lt 256 (length last)

@@ -30,19 +30,19 @@ ahead r s = after_held r.held s
 abbrev pub entries_left : ReaderState → CabinetState → Option (List (Option Entry))
 entries_left r s = option_map (spelled true) (ahead r s)
 
--- One more, up to the greatest number of 128 bits.
+-- A count plus one, or the greatest number of 128 bits if the sum is greater.
 abbrev pub one_more : ℕ → ℕ
 one_more count = min (count + 1) (2 ^ 128 - 1)
 
 -- ---- what is taken of the file
 
--- These bytes may yet be the front of an entry's text: they have no separator, and are at most 256.
+-- More bytes of the same piece may follow these bytes: they have no separator, and there are at most 256 of them.
 pub record MayGoOn (bytes : List ℕ) : Type 0 where
   pub whole : list_any is_separator bytes ≡ false
   pub few : length bytes ≤ 256
 
--- The bytes that were held before the last read, which gave `last`, may go on, and they begin with those that were held
--- at first.
+-- The last read, which gave `last`, was needed: the bytes that were held before it have no separator and are at most
+-- 256. They begin with the bytes that were held at first.
 pub record WasNeeded (held taken : List ℕ) : Type 0 where
   pub before : List ℕ
   pub last : List ℕ
@@ -50,8 +50,8 @@ pub record WasNeeded (held taken : List ℕ) : Type 0 where
   pub longer : length held ≤ length before
   pub goes_on : MayGoOn before
 
--- A reader that holds some bytes takes more of the file, one read after the other, only as long as those that it holds
--- may go on. So it takes nothing if it holds the end of a text, or 257 bytes of one.
+-- A reader that holds some bytes takes more of the file, in one read after another, only while it holds at most 256
+-- bytes and no separator. So it takes nothing if it holds the end of a text, or 257 bytes of one.
 pub record TakesAtNeed (held : List ℕ) (old new : CabinetState) : Type 0 where
   pub taken : List ℕ
   pub bytes : old.rest ≡ option_map (λ rest. taken ++ rest) new.rest
@@ -114,8 +114,8 @@ pub record HasMalformed (r r' : ReaderState) (s s' : CabinetState) : Type 0 wher
   pub count : r'.count ≡ one_more r.count
   pub progress : r'.progress ≡ Refused Malformed
 
--- A read failed. The bytes that were taken before are held, and have no piece whose end is known. The reader has begun
--- a text if it holds a byte of it.
+-- A read failed. The reader holds the bytes that were taken before, which contain no whole piece. It has begun a text
+-- if it holds a byte of one.
 pub record HasFailed (r r' : ReaderState) (s s' : CabinetState) : Type 0 where
   pub stays : StaysOpen s s'
   pub later : s.faults ≤ s'.faults

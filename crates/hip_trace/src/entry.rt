@@ -20,13 +20,13 @@ pub enum TrapWord {
 pub enum Entry {
     /// The limit of turns.
     Start { limit: u64 },
-    /// Where the persistent region lies, and how many bytes it has.
+    /// Where the persistent region begins, and how many bytes it has.
     Register { base: u64, size: u64 },
     /// A number that the run reads.
     Input { number: i64 },
     /// The initial bytes of a cache line of the region.
     Image { addr: u64, bytes: [u8; 64] },
-    /// A store into the region, of 1, 2, 4 or 8 bytes; the value is that of its bytes, the lowest first.
+    /// A store into the region, of 1, 2, 4 or 8 bytes. The value is the number in its bytes, the lowest byte first.
     Store { addr: u64, value: u64, size: u32 },
     /// A flush of cache lines: the first one's address, and 64 times their number.
     Flush { addr: u64, size: u64 },

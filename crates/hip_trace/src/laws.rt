@@ -26,12 +26,12 @@ pub fn entries_that_fit_are_spelled()
     ensures fits { (text : List ℕ) → (e : Entry) → entry_of text ≡ Some e → ValuesFit e }
 {}
 
-/// Entries whose values fit are read back from the text that is written of them, a line each.
+/// Entries whose values fit are read back from their text, which has a line for each entry.
 pub fn written_entries_are_read_back()
     ensures { (es : List Entry) → All ValuesFit es → spelled true (lines_of es) ≡ map (λ e. Some e) es }
 {}
 
-/// The first piece of a file, or of a front of one, is what comes before its first separator.
+/// The first piece of a file, or of the front of a file, is what comes before its first separator.
 pub fn pieces_are_stated_one_by_one()
     ensures { (whole : Bool) → (piece : List ℕ) → (separator : ℕ) → (rest : List ℕ) →
         list_any is_separator piece ≡ false → is_separator separator ≡ true →

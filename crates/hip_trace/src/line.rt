@@ -1,5 +1,5 @@
-//! The line that comes first in some bytes, read in one pass if it has one of the usual entries in its canonical text.
-//! All others are left to `spelled`.
+//! The line at the start of some bytes, read in one pass if it is the canonical text of a usual entry. `spelled` reads
+//! all other lines.
 
 ghost use Rattle.std.specs.Prelude.{◌≡◌, ◌<◌, ◌++◌, codes, IfSome};
 ghost use Rattle.std.specs.Char.{digit_value};
@@ -16,7 +16,7 @@ pub(crate) struct Line {
     pub len: usize,
 }
 
-// For each byte, the digit that it is to base 16, in lower case, or 16 if it is none.
+// For each byte, its value as a lower-case digit to base 16, or 16 if it is not a digit.
 static DIGITS: [u8; 256] = [
     16, 16, 16, 16, 16, 16, 16, 16, 16, 16, 16, 16, 16, 16, 16, 16, 16, 16, 16, 16, 16, 16, 16, 16,
     16, 16, 16, 16, 16, 16, 16, 16, 16, 16, 16, 16, 16, 16, 16, 16, 16, 16, 16, 16, 16, 16, 16, 16,
@@ -31,7 +31,7 @@ static DIGITS: [u8; 256] = [
     16, 16, 16, 16, 16, 16, 16, 16, 16, 16, 16, 16, 16, 16,
 ];
 
-// The digit that a byte is to base 16, in lower case.
+// The value of a byte as a lower-case digit to base 16, if it is a digit.
 #[inline(always)]
 fn digit_of(byte: u8) -> Option<u64>
     ensures value { IfSome result (λ digit. digit ≡ digit_value byte) }

@@ -66,9 +66,9 @@ impl Reader {
         }
     }
 
-    /// Keeps the entry of the first line, if the reader holds the whole line and some bytes after it, and the line is the
-    /// canonical text of a usual entry; it answers whether that is so. `next` answers the same entry, and reads all
-    /// other lines too.
+    /// Keeps the entry of the first line and returns true, if the reader holds the whole line and some bytes after it,
+    /// and the line is the canonical text of a usual entry. Otherwise it returns false. `next` gives the same entry,
+    /// and reads all other lines too.
     pub fn keep_usual(&mut self, kept: &mut KeptEntry) -> bool
         requires { self.old.progress ≡ Reading }
         ensures read { IsTrue result → HasNextHeld self.old self.new kept.new }
@@ -99,7 +99,7 @@ impl Reader {
         }
     }
 
-    // Reads a usual line that is held already; `read_on` reads all else.
+    // Reads a usual line that is already held. `read_on` reads all other lines.
     fn read_first<C: Cabinet>(&mut self, cabinet: &mut C) -> Result<Option<Entry>, TraceRefusal>
         requires current { IsTrue (C.state cabinet.old).is_current }
         requires reading { self.old.progress ≡ Reading }

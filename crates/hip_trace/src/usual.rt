@@ -31,8 +31,7 @@ impl Usual {
     }
 }
 
-/// An entry that is kept to be compared. A usual one takes the place of another one without a copy of the room that an
-/// image needs.
+/// An entry that is kept to be compared. To keep a usual entry copies fewer bytes than an image has.
 #[derive(Drop)]
 pub struct KeptEntry {
     usual: Option<Usual>,

@@ -15,7 +15,7 @@ use crate::usual::Usual;
 use hip_io::{Put, Sink, WriteFault, put_after};
 use std::marker::Model;
 
-/// A line of a trace, which is made from its end on: each piece is put before those that are there.
+/// A line of a trace, built from its end: each piece is put before the pieces that are there.
 #[derive(Drop)]
 struct EntryLine {
     bytes: [u8; 64],
@@ -101,7 +101,7 @@ fn copy_before(bytes: &mut [u8; 64], end: usize, piece: &[u8])
     bytes[start..end].copy_from_slice(piece);
 }
 
-/// Puts what comes before the digits of a number, and answers where it begins.
+/// Puts what comes before the digits of a number, and returns where it begins.
 #[inline(always)]
 fn prefix_before(bytes: &mut [u8; 64], end: usize) -> usize
     requires room { 3 ≤ end }
@@ -115,7 +115,7 @@ fn prefix_before(bytes: &mut [u8; 64], end: usize) -> usize
     end - 3
 }
 
-/// Writes the digits of a number to base 16 before a place, and answers where they begin.
+/// Writes the digits of a number to base 16 before a place, and returns where they begin.
 #[inline(always)]
 fn digits_before(bytes: &mut [u8; 64], end: usize, number: u64) -> usize
     requires room { 16 ≤ end }
@@ -291,8 +291,8 @@ fn put_image<S: Sink>(addr: u64, bytes: &[u8; 64], out: &mut S) -> Result<(), Wr
     }
 }
 
-/// Writes the canonical text of an entry, with a line feed after it. Any entry is written, also one that no text
-/// spells (as a store of 3 bytes).
+/// Writes the canonical text of an entry, with a line feed after it. It writes any entry, even one that no text spells,
+/// such as a store of 3 bytes.
 #[tactic(auto, unfolding(crate::specs::Texts::text_of))]
 pub fn write_entry<S: Sink>(entry: &Entry, out: &mut S) -> Result<(), WriteFault>
     ensures { Wrote (S.state out.old) (S.state out.new) (line_of entry.now) result }
@@ -328,7 +328,7 @@ pub fn write_usual<S: Sink>(usual: Usual, out: &mut S) -> Result<(), WriteFault>
     }
 }
 
-/// Writes a line that is made.
+/// Writes a complete line.
 #[inline(always)]
 fn put_line<S: Sink>(line: &[u8], out: &mut S) -> Result<(), WriteFault>
     ensures { Wrote (S.state out.old) (S.state out.new) line.now result }

@@ -23,7 +23,7 @@ LacksRun old new program_name trace_name answer =
     ⊎ (IsUnread old new program_name answer ⊎ LacksTrace old new program_name trace_name answer)
 
 -- What loading a run answers. Notes are as they were, or the refusal is the whole answer of the command, whether or not
--- it writes its text while it makes it.
+-- the command writes its text before the whole text is made.
 abbrev pub LoadsRun : List ℕ → List ℕ → CabinetState → CabinetState → SinkState → SinkState
     → Result LoadedRun Status → Type 0
 LoadsRun program_name trace_name old new notes notes_new (Ok loaded) =

@@ -15,7 +15,7 @@ pub struct LoadedRun {
     pub replayed: Replayed,
 }
 
-/// The program of a file, and the run of it whose trace another file has. If there is none, the line of the status was
+/// The program of a file, and its run whose trace another file has. If there is no such run, the line of the status was
 /// written to notes, as far as it could be.
 pub fn load_run<C: Cabinet, N: Sink>(
     alloc: Global,

@@ -29,12 +29,12 @@ abbrev pub body_sites : ℕ → ℕ → ℕ → List Instr → List Site
 body_sites f b k [] = []
 body_sites f b k (i ∷ is) = record { function = f; block = b; index = k } ∷ body_sites f b (suc k) is
 
--- The same for blocks of function f, from block b on; phis and ends of blocks are left out.
+-- The sites of these blocks of function f; the first block has number b. Phis and ends of blocks have no sites.
 abbrev pub block_sites : ℕ → ℕ → List Block → List Site
 block_sites f b [] = []
 block_sites f b (x ∷ xs) = body_sites f b 0 x.body ++ block_sites f (suc b) xs
 
--- The same for functions, from function f on.
+-- The sites of these functions; the first function has number f.
 abbrev pub function_sites : ℕ → List Function → List Site
 function_sites f [] = []
 function_sites f (x ∷ xs) = block_sites f 0 x.blocks ++ function_sites (suc f) xs

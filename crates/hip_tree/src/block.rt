@@ -17,7 +17,7 @@ pub struct Phi {
     pub edges: Row<Edge>,
 }
 
-/// Where a switch goes at one value.
+/// A case of a switch: where it goes for one value.
 #[derive(Drop)]
 pub struct Case {
     pub value: Bits,

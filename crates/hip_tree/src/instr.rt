@@ -1,7 +1,7 @@
 use crate::constant::Const;
 use hip_types::{BinaryOp, CastOp, Link, Name, Pred, Row, Scalar, Ty, Width};
 
-/// A value that an instruction takes: a register's or a constant.
+/// A value that an instruction takes: the value of a register, or a constant.
 pub enum Operand {
     Reg(Name),
     Fixed(Const),
@@ -23,8 +23,8 @@ pub struct Arg {
     pub value: Operand,
 }
 
-/// A flag of an operation on integers: the result does not wrap as a number without sign, or as one with a sign;
-/// nothing is lost by a division or a shift to the right. It changes no value.
+/// A flag of an operation on integers. It states that the result does not wrap as a number without a sign, that it does
+/// not wrap as a number with a sign, or that a division or a shift to the right loses nothing. It changes no value.
 #[derive(Clone, Copy, PartialEq, Eq)]
 pub enum Flag {
     Nuw,

@@ -73,7 +73,8 @@ pub struct Program {
     pub functions: Row<Function>,
 }
 
-// By hand, so that the drop of a whole tree is proved here and not again in each crate that lets a program go.
+// This is written by hand, so that the drop of a whole tree is proved once here, and not again in each crate that drops
+// a program.
 impl Drop for Program {
     fn drop(self) {
         let Program {

@@ -1,4 +1,4 @@
--- All bits of a width leave of a number what it is modulo 2 ^ N.
+-- A number masked with all bits of a width is the number modulo 2 ^ N.
 use Rattle.std.proofs.Common.{◌≡◌, ℕ, ◌+◌, ◌-◌, ◌%◌, sym, subst, arith}
 use Rattle.std.proofs.lemmas.Nat.{and_mask}
 use Rattle.std.specs.Int.Bits.{bit_and}

@@ -1,4 +1,4 @@
--- Where the areas of memory lie. These addresses are this project's own.
+-- The addresses of the areas of memory. They are this project's own.
 use Rattle.std.specs.Prelude.{ℕ}
 use Rattle.hip_types.specs.declared.areas.TheConstants.{STACK_END, STACK_START, VOLATILE_START}
 

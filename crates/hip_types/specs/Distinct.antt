@@ -1,4 +1,4 @@
--- Lists without repeats, in the order of first meeting.
+-- Lists without repeats, in the order of first occurrence.
 use Rattle.std.specs.Prelude.{Bool, cond, List, [], ◌∷◌, ◌++◌}
 use Rattle.std.specs.List.{list_any}
 

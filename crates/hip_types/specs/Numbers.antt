@@ -16,19 +16,19 @@ use Rattle.hip_types.specs.Widths.{bits_of}
 abbrev pub modulus : Width → ℕ
 modulus w = 2 ^ bits_of w
 
--- The integer of this width that a number is modulo 2 ^ N.
+-- The number modulo 2 ^ N, as an integer of this width.
 abbrev pub bits : Width → ℕ → Bits
 bits w n = record { width = w; value = n % modulus w; in_range = mod-lt n (pow_pos (bits_of w)) }
 
--- The first integer of this width that has a sign.
+-- The least integer of this width that has a sign, which is 2 ^ (N - 1).
 abbrev pub sign_of : Width → ℕ
 sign_of w = 2 ^ (bits_of w - 1)
 
--- An integer read with a sign: 2 ^ N is subtracted from 2 ^ (N - 1) on.
+-- An integer read with a sign: minus 2 ^ N if it is 2 ^ (N - 1) or more.
 abbrev pub signed : Width → ℕ → ℤ
 signed w n = if nat_lt n (sign_of w) then pos n else pos n -ℤ pos (modulus w)
 
--- The integer of this width that a number with a sign is modulo 2 ^ N.
+-- A number with a sign modulo 2 ^ N, which is an integer of this width.
 abbrev pub wrapped : Width → ℤ → ℕ
 wrapped w (pos n) = n % modulus w
 wrapped w (negsuc n) = modulus w - 1 - n % modulus w

@@ -10,5 +10,5 @@ pub const STACK_SIZE: u64 = 16_777_216;
 /// The address after the stack's last byte.
 pub const STACK_END: u64 = STACK_START + STACK_SIZE;
 
-/// The number of bytes of a cache line, which lies at a multiple of it (Intel's manual).
+/// The number of bytes of a cache line. Each line begins at a multiple of it (Intel's manual).
 pub const LINE_SIZE: u64 = 64;

@@ -12,7 +12,7 @@ pub enum Ty {
     Int(Width),
     /// A pointer, of 64 bits.
     Ptr,
-    /// The number of elements, all of one type, one after another.
+    /// An array: the number of its elements, and their type. The elements follow one another.
     Array(u64, Link<Ty>),
     /// Fields in order, each at the next multiple of its alignment.
     Struct(Row<Ty>),

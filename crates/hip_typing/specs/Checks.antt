@@ -35,12 +35,13 @@ abbrev pub refusal_on_paths : NotAssigned → TypeRefusal
 refusal_on_paths (unassigned.Use place path) = record { fault = faults.Unassigned path; place = place }
 refusal_on_paths unassigned.NoMemory = record { fault = faults.NoMemory; place = places.Whole }
 
--- Out of memory has no place of its own, but the whole program.
+-- The fault and the place are right. Out of memory has no place of its own, so its place is the whole program; any
+-- other fault is the first fault of the program.
 abbrev refuses : Program → TypeFault → Place → Type 0
 refuses P faults.NoMemory place = place ≡ places.Whole
 refuses P fault place = IsRefused P (record { fault = fault; place = place })
 
--- The program is not sound, and the refusal is its first fault. Out of memory says nothing of the program, and its
+-- The program is not sound, and the refusal is its first fault. Out of memory says nothing about the program, and its
 -- place is the whole program.
 abbrev pub Refuses : Program → TypeRefusal → Type 0
 Refuses P refusal = refuses P refusal.fault refusal.place

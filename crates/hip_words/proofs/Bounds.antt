@@ -49,7 +49,7 @@ any_made o f k = made (λ _. Unit {0}) o f (always o) (λ x u. k x)
 
 -- ---- the limit and the numbers
 
--- What passes a test has what the test decides.
+-- A number that passes a test has the property that the test decides.
 passed : (P : ℕ → Type 0) (test : ℕ → Bool) (o : Option ℕ) → ((n : ℕ) → test n ≡ true → P n) → IfSome (option_and_then (where_so test) o) P
 passed P test None h = tt
 passed P test (Some n) h = go (test n) refl

@@ -27,7 +27,7 @@ row id values = record { id = id; values = values; count = None; source = Some C
 abbrev limit_row : Row
 limit_row = record { id = codes "limit"; values = codes "1000000000" ∷ []; count = None; source = Some DefaultValue; reading = AsWritten }
 
--- After the program; after the first number; and after more of them.
+-- The walk after the program, after the first number, and after more numbers.
 abbrev after_program : Text → Walk
 after_program p = record { held = record { rows = []; pending = Some (codes "program", p ∷ []); skip = 0 }; waiting = idle; position = 2; is_trailing = false; stopped = None }
 

@@ -39,7 +39,7 @@ RunsAreValid =
     → order words ≡ Some (Run program limit numbers)
     → (limit ≤ MOST_TURNS) × (length numbers ≤ MOST_NUMBERS)
 
--- An order to record allows no more, and the region may begin at its base.
+-- An order to record allows at most 2^40 turns and 1,048,576 numbers, and the region may begin at its base.
 abbrev pub RecordsAreValid : Type 0
 RecordsAreValid =
     (words : List Text) (program : Text) (base limit : ℕ) (numbers : List ℤ)

@@ -173,7 +173,7 @@ verb_of word =
     else (if bytes_eq word (codes "thin") then Some verbs.Thin
     else None))))))))
 
--- The first word names the command.
+-- The order that all words give. The first word names the command.
 unfoldable pub order : List Text → Option Order
 order [] = None
 order (word ∷ rest) = option_and_then (λ verb. order_by verb (word ∷ rest)) (verb_of word)

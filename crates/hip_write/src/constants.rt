@@ -30,7 +30,7 @@ fn put_negative<S: Sink>(before: Put, out: &mut S, magnitude: u64) -> Put
     put_natural(put, out, magnitude)
 }
 
-/// The signed value of a number up to `last`: the numbers from `half` on are negative.
+/// Puts the signed value of a number up to `last`, where the numbers from `half` on are negative.
 fn put_signed<S: Sink>(before: Put, out: &mut S, n: u64, half: u64, last: u64) -> Put
     requires below { n ≤ last }
     requires half { 0 < half }

@@ -70,7 +70,7 @@ fn put_operands<S: Sink>(before: Put, out: &mut S, a: &Operand, b: &Operand) -> 
     put_operand(put, out, b)
 }
 
-/// Puts the begin of an operation: its register, its word and its flags.
+/// Puts the beginning of an operation: its register, its word and its flags.
 fn put_operation<S: Sink>(before: Put, out: &mut S, dest: &Name, op: BinaryOp, flags: Flags) -> Put
     ensures { Writes before result (S.state out.old) (S.state out.new)
         (assigned_text dest.now ++ (binary_text op ++ (codes " " ++ flags_text flags))) }
@@ -81,7 +81,7 @@ fn put_operation<S: Sink>(before: Put, out: &mut S, dest: &Name, op: BinaryOp, f
     put_flags(put, out, flags)
 }
 
-/// Puts the begin of a comparison: its register and its predicate.
+/// Puts the beginning of a comparison: its register and its predicate.
 fn put_comparison<S: Sink>(before: Put, out: &mut S, dest: &Name, pred: Pred) -> Put
     ensures { Writes before result (S.state out.old) (S.state out.new)
         (assigned_text dest.now ++ (codes "icmp " ++ (pred_text pred ++ codes " "))) }
@@ -108,7 +108,7 @@ fn put_typed_operands<S: Sink, K: Keyword>(
     put_operands(put, out, a, b)
 }
 
-/// Puts the begin of a choice: its register and its condition.
+/// Puts the beginning of a `select`: its register and its condition.
 fn put_condition<S: Sink>(before: Put, out: &mut S, dest: &Name, cond: &Operand) -> Put
     ensures { Writes before result (S.state out.old) (S.state out.new)
         (assigned_text dest.now ++ (codes "select i1 " ++ (operand_text cond.now ++ codes ", "))) }
@@ -119,7 +119,7 @@ fn put_condition<S: Sink>(before: Put, out: &mut S, dest: &Name, cond: &Operand)
     put_after(put, out, b", ")
 }
 
-/// Puts the two operands of a choice, each after their type.
+/// Puts the two operands of a `select`, each after its type.
 fn put_choices<S: Sink>(before: Put, out: &mut S, ty: Scalar, a: &Operand, b: &Operand) -> Put
     ensures { Writes before result (S.state out.old) (S.state out.new)
         (scalar_text ty ++ (codes " " ++ (operand_text a.now
@@ -134,7 +134,7 @@ fn put_choices<S: Sink>(before: Put, out: &mut S, ty: Scalar, a: &Operand, b: &O
     put_operand(put, out, b)
 }
 
-/// Puts the begin of a conversion: its register, its word and the type that it converts from.
+/// Puts the beginning of a conversion: its register, its word and the type that it converts from.
 fn put_conversion<S: Sink>(before: Put, out: &mut S, dest: &Name, op: CastOp, from: Scalar) -> Put
     ensures { Writes before result (S.state out.old) (S.state out.new)
         (assigned_text dest.now ++ (cast_text op ++ (codes " " ++ scalar_text from))) }
@@ -205,7 +205,7 @@ fn put_store<S: Sink>(
     put_align(put, out, align)
 }
 
-/// Puts the begin of an address: its register and the type that the indices go into.
+/// Puts the beginning of a `getelementptr`: its register and the type that the indices go into.
 fn put_indexed_type<S: Sink>(before: Put, out: &mut S, dest: &Name, inbounds: bool, ty: &Ty) -> Put
     ensures { Writes before result (S.state out.old) (S.state out.new)
         (assigned_text dest.now ++ (codes "getelementptr " ++ (inbounds_text inbounds ++ type_text ty.now))) }
@@ -216,7 +216,7 @@ fn put_indexed_type<S: Sink>(before: Put, out: &mut S, dest: &Name, inbounds: bo
     put_type(put, out, ty)
 }
 
-/// Puts the pointer that an address is computed from, and the indices.
+/// Puts the base pointer of a `getelementptr`, and the indices.
 fn put_indexed<S: Sink>(before: Put, out: &mut S, base: &Operand, indices: &Row<Arg>) -> Put
     ensures { Writes before result (S.state out.old) (S.state out.new)
         (codes ", ptr " ++ (operand_text base.now ++ after_commas (map arg_text indices.now))) }

@@ -17,7 +17,7 @@ pub trait Written {
         ensures { Writes before result (S.state out.old) (S.state out.new) (text self.now) };
 }
 
-/// Appends them one after the other.
+/// Appends the items one after another.
 pub fn put_all<S: Sink, T: Written>(before: Put, out: &mut S, items: &Row<T>) -> Put
     ensures { Writes before result (S.state out.old) (S.state out.new) (flat_map T.text items.now) }
 {
@@ -28,7 +28,7 @@ pub fn put_all<S: Sink, T: Written>(before: Put, out: &mut S, items: &Row<T>) ->
     put
 }
 
-/// Appends them with a comma between each two.
+/// Appends the items with a comma between each two.
 pub fn put_joined<S: Sink, T: Written>(before: Put, out: &mut S, items: &Row<T>) -> Put
     ensures { Writes before result (S.state out.old) (S.state out.new) (commas (map T.text items.now)) }
 {
@@ -42,7 +42,7 @@ pub fn put_joined<S: Sink, T: Written>(before: Put, out: &mut S, items: &Row<T>)
     put
 }
 
-/// Appends each after a comma.
+/// Appends each item after a comma.
 pub fn put_more<S: Sink, T: Written>(before: Put, out: &mut S, items: &Row<T>) -> Put
     ensures { Writes before result (S.state out.old) (S.state out.new) (after_commas (map T.text items.now)) }
 {
@@ -54,7 +54,7 @@ pub fn put_more<S: Sink, T: Written>(before: Put, out: &mut S, items: &Row<T>) -
     put
 }
 
-/// Appends them in parentheses, with a comma between each two.
+/// Appends the items in parentheses, with a comma between each two.
 pub fn put_parenthesized<S: Sink, T: Written>(before: Put, out: &mut S, items: &Row<T>) -> Put
     ensures { Writes before result (S.state out.old) (S.state out.new) (parenthesized (map T.text items.now)) }
 {

@@ -51,7 +51,7 @@ numeral-differs : (i j : ℕ) → numeral i ≡ numeral j → i ≡ j
 numeral-differs i j e =
     sym (numeral-value (suc i) i (omega arith)) ∙ ap (number_from 0) e ∙ numeral-value (suc j) j (omega arith)
 
--- It is the text that `decimal` gives, for numbers that `decimal` can write.
+-- The numeral is the text that `decimal` gives, for numbers that `decimal` can write.
 numeral_in-decimal : (fuel n : ℕ) → n < fuel → n < 10 ^ 64 → numeral_in fuel n ≡ decimal n
 numeral_in-decimal zero n h small = absurd (omega arith)
 numeral_in-decimal (suc fuel) n h small = by_size (nat_lt n 10) refl (λ below. numeral_in-decimal fuel (n / 10) below)
@@ -129,7 +129,7 @@ distinct-candidates_from name (suc n) k =
 
 -- ---- a fresh name
 
--- Where the name that is found is taken, all candidates up to it are.
+-- If the name that is found is taken, all candidates up to it are taken.
 all_taken : (taken : List (List ℕ)) (name : List ℕ) (more k : ℕ)
     → is_among taken (fresh_from taken name more k) ≡ true →
     (q : List ℕ) → list_any (bytes_eq q) (candidates_from name (suc more) k) ≡ true
@@ -245,7 +245,7 @@ first_alike xs ys name fresh same f = record {
   earlier = λ j below. sym (same (candidate name j)) ∙ f.earlier j below;
 }
 
--- Each is the first candidate of its name that is not taken and is no earlier one.
+-- Each fresh name is the first candidate of its name that is not taken and is not an earlier fresh name.
 pub fresh_for-first : (taken names : List (List ℕ)) (k : ℕ) (fresh : List ℕ)
     → slice_get (fresh_for taken names) k ≡ Some fresh →
     (name : List ℕ) × (slice_get names k ≡ Some name)
@@ -298,12 +298,12 @@ fresh_for-distinct taken (name ∷ names) = (
 
 -- ---- no external function has such a name
 
--- The text begins with `.pm`.
+-- Whether the text begins with `.pm`.
 begins_marked : List ℕ → Bool
 begins_marked (a ∷ b ∷ c ∷ rest) = nat_eq a 46 && (nat_eq b 112 && nat_eq c 109)
 begins_marked _ = false
 
--- `.pm` stands in the text.
+-- Whether `.pm` occurs in the text.
 has_mark : List ℕ → Bool
 has_mark [] = false
 has_mark (a ∷ rest) = begins_marked (a ∷ rest) || has_mark rest
@@ -319,7 +319,7 @@ candidate-marked : (name : List ℕ) (k : ℕ) → has_mark (candidate name k) �
 candidate-marked name zero = marked_at name []
 candidate-marked name (suc k) = marked_at name (numeral (suc k))
 
--- The name of an external function has no `.pm` in it.
+-- Whether the name of an external function has no `.pm` in it.
 abbrev unmarked : ExternCall → Bool
 unmarked c = not (has_mark (row_of c).name)
 

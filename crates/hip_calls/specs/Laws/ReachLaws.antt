@@ -1,5 +1,5 @@
 -- Laws of the functions that calls can reach: the least list that has the callees of the calls and is closed under
--- calls. Each of them is there once, and is the first function of its name.
+-- calls. It has each function once, and each is the first function of its name.
 use Rattle.std.specs.Prelude.{◌≡◌, ◌≤◌, ◌||◌, ◌<◌, ℕ, zero, suc, ◌+◌, nat_eq, Bool, true, false, List, [], ◌∷◌, Option, Some, None, slice_get, option_to_list, length}
 use Rattle.std.specs.Cmp.{nat_eq_equiv}
 use Rattle.std.specs.List.{flat_map, list_any, IsDistinct}
@@ -52,7 +52,7 @@ flat-all f Q (x ∷ xs) each q h =
     ⊎_elim (λ front. each 0 x q refl front) (λ back. flat-all f Q xs (λ k y r e g. each (suc k) y r e g) q back)
     (any_either (nat_eq q) (f x) (flat_map f xs) h)
 
--- A call of a defined function is one of its function's.
+-- A call of a defined function in a function is among the calls of that function.
 pub called-has : (P : Program) (f b k : ℕ) (fn : Function) (block : Block) (dest : Option (List ℕ))
     (ret : Option Scalar) (callee : List ℕ) (args : List Arg) (g : ℕ) →
     slice_get P.functions f ≡ Some fn → slice_get fn.blocks b ≡ Some block
@@ -121,7 +121,7 @@ reached-distinct P (suc steps) place seen d =
     reached-distinct P steps (suc place) (extended P seen (slice_get seen place))
     (extended-distinct P seen (slice_get seen place) d)
 
--- What holds of the numbers in the list, and of each number that a function of one of them calls.
+-- If a number is in the set, each function that its function calls is in the set too.
 abbrev pub IsClosed : Program → (ℕ → Type 0) → Type 0
 IsClosed P Q = (f q : ℕ) → Q f → Has (called_from P f) q → Q q
 
@@ -139,7 +139,7 @@ reached-all P Q closed (suc steps) place seen all q h =
         (all f (any_at (nat_eq f) seen place f e (nat_eq_equiv.refl f))) new)
         (met-only nat_eq_equiv r seen (called_from P f) g)
 
--- What the functions before that place call is in the list.
+-- The list has every function that the functions before that place call.
 abbrev IsDone : Program → List ℕ → ℕ → Type 0
 IsDone P seen place = (k f q : ℕ) → k < place → slice_get seen k ≡ Some f → Has (called_from P f) q
     → Has seen q
@@ -187,13 +187,13 @@ nothing-distinct : IsDistinct nat_eq []
 unfolding IsDistinct
 nothing-distinct = tt
 
--- No function is there twice.
+-- No function is in the list twice.
 pub callees-distinct : (P : Program) (sites : List Site) → IsDistinct nat_eq (callees P sites)
 callees-distinct P sites =
     reached-distinct P (length P.functions) 0 _
     (met-distinct nat_eq_equiv [] (flat_map (λ s. called_at P (instr_of P s)) sites) nothing-distinct)
 
--- What holds of the callees of these calls, and is closed under calls, holds of all.
+-- If a fact holds for the callees of these calls and is closed under calls, it holds for all functions of the list.
 pub callees-least : (P : Program) (sites : List Site) (Q : ℕ → Type 0)
     → ((k : ℕ) (s : Site) (q : ℕ) → slice_get sites k ≡ Some s → Has (called_at P (instr_of P s)) q → Q q)
     → IsClosed P Q → (q : ℕ) → Has (callees P sites) q → Q q
@@ -203,7 +203,7 @@ callees-least P sites Q first closed q h =
     (λ k s q e c. first k s q e c) r new)
     (met-only nat_eq_equiv r [] (flat_map (λ s. called_at P (instr_of P s)) sites) g)) q h
 
--- Each of them is the first function of its name.
+-- Each function of the list is the first function of its name.
 pub callees-named : (P : Program) (sites : List Site) (q : ℕ) → Has (callees P sites) q → IsNamed P q
 callees-named P sites q h =
     callees-least P sites (IsNamed P) (λ _ s r _ g. called_at-named P (instr_of P s) r g)
@@ -212,13 +212,13 @@ callees-named P sites q h =
 pub callees-within : (P : Program) (sites : List Site) (q : ℕ) → Has (callees P sites) q → q < length P.functions
 callees-within P sites q h = function_number-within P (name_of P q) q (callees-named P sites q h)
 
--- So they are at most as many as the functions are.
+-- The list has at most as many functions as the program.
 pub callees-length : (P : Program) (sites : List Site) → length (callees P sites) ≤ length P.functions
 callees-length P sites =
     length-le_from_distinct_below (callees P sites) (length P.functions) (callees-distinct P sites)
     (λ q h. callees-within P sites q h)
 
--- The callees of these calls are there.
+-- The callees of these calls are in the list.
 pub callees-first : (P : Program) (sites : List Site) (k : ℕ) (s : Site) (q : ℕ) → slice_get sites k ≡ Some s
     → Has (called_at P (instr_of P s)) q → Has (callees P sites) q
 callees-first P sites k s q e h =
@@ -226,7 +226,7 @@ callees-first P sites k s q e h =
     (met-second nat_eq_equiv q [] (flat_map (λ s. called_at P (instr_of P s)) sites)
     (flat-has (λ s. called_at P (instr_of P s)) sites k s q e h))
 
--- What one of them calls is there.
+-- Each function that a function of the list calls is in the list.
 pub callees-closed : (P : Program) (sites : List Site) → IsClosed P (Has (callees P sites))
 callees-closed P sites f q h c =
     let at = any_found (nat_eq f) (callees P sites) h in

@@ -1,4 +1,4 @@
--- Operands that are checked by tables, and by the meaning of the tables.
+-- Operands that are checked by tables give the same answers as by the meaning of the tables.
 use Rattle.std.specs.Prelude.{ℕ, ◌≡◌, ◌&&◌, Bool, true, false, List, [], ◌∷◌, Option, is_some}
 use Rattle.std.specs.List.{list_all}
 use Rattle.std.proofs.Common.{refl, sym, ap, ◌∙◌}
@@ -25,7 +25,7 @@ and_swap true false c = refl
 and_swap false true c = refl
 and_swap false false c = refl
 
--- A table knows all of these names exactly if all of them are there.
+-- A table contains all of these names exactly if the list that it knows contains them all.
 pub known_alike : (known names asked : List (List ℕ)) → Knows known names
     → list_all (is_among known) asked ≡ list_all (is_among names) asked
 known_alike known names [] knows = refl

@@ -6,12 +6,12 @@ use Rattle.hip_sound.specs.declared.fault.Place.{Place}
 use Rattle.hip_checks.specs.declared.refused.Refused.{Refused}
 use Rattle.hip_checks.specs.declared.refused.Refused.TheVariants as refused
 
--- The first finding, unless memory was short.
+-- The answer is the first finding, if there is one. Out of memory says nothing about the findings.
 abbrev pub Answers : {T : Type 0} → Result T Refused → Option Finding → Type 0
 Answers (Ok _) found = found ≡ None
 Answers (Err (refused.Found f)) found = found ≡ Some f
 Answers (Err refused.NoMemory) found = Unit {0}
 
--- What a rule with this test finds at the place: nothing where it passes, else the fault.
+-- What a rule with this test finds at the place: nothing if the test passes, else the fault.
 abbrev pub asked : Bool → Fault → Place → Option Finding
 asked test fault place = if test then None else Some (record { fault = fault; place = place })

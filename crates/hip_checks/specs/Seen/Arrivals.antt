@@ -7,12 +7,12 @@ use Rattle.hip_tree.specs.declared.block.Block.{Block}
 use Rattle.hip_names.specs.Names.{is_among, Knows}
 use Rattle.hip_sound.specs.Places.{predecessors}
 
--- The set of names at a name.
+-- The set of names that a table has under a name, if it has one.
 abbrev pub found_at : {S : Type 0} → IndexMap (Bor (List ℕ)) (List (List ℕ)) S → List ℕ
     → Option (List (List ℕ))
 found_at m label = get_by (λ k. bytes_eq label k.now) m
 
--- The set of names at a name, empty if the table has none.
+-- The set of names that a table has under a name; empty if it has none.
 abbrev pub names_at : {S : Type 0} → IndexMap (Bor (List ℕ)) (List (List ℕ)) S → List ℕ → List (List ℕ)
 names_at m label = unwrap_or (found_at m label) []
 

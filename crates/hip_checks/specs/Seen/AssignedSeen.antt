@@ -16,14 +16,14 @@ use Rattle.hip_sound.specs.declared.fault.Place.{Place}
 use Rattle.hip_checks.specs.declared.tables.inner_table.Inner.{Inner}
 use Rattle.hip_checks.specs.declared.tables.inner_table.Inner.TheVariants.{Parameter, Assigned}
 
--- A register that can be used after n instructions of its block can be used at the point.
+-- Whether a register that can be used after n instructions of its block can be used at the point.
 abbrev pub is_there : Point → ℕ → Bool
 is_there (Before k) after = nat_le after k
 is_there AtEnd after = true
 
--- The block that each path to a use at the point has to pass: the one that assigns the register, unless that is the
--- use's own block and assigns it before the use. Where nothing assigns the register, the number is `count`, which no
--- block has.
+-- The block that each path to a use at the point has to pass: the one that assigns the register. `None` if the register
+-- is a parameter, or if the block of the use assigns it before the use. If nothing assigns the register, the number is
+-- `count`, which no block has.
 abbrev pub to_pass : ℕ → ℕ → Point → Option Inner → Option ℕ
 to_pass count block point (Some Parameter) = None
 to_pass count block point (Some (Assigned b after)) = if b == block && is_there point after then None else Some b
@@ -36,7 +36,7 @@ pub record Describes (fn : Function) (names : List (List ℕ)) (values : List In
   pub graph_is : graph ≡ graph_of fn
   pub differ : AllDiffer (names_in_function fn)
 
--- The path shows that the first of the uses that is not assigned on every path is at the place.
+-- The path shows that a use at the place is not assigned on every path, and all uses before it are.
 pub record IsFirstOf (fn : Function) (uses : List RegisterUse) (place : Place) (path : List ℕ) : Type 0 where
   pub before : List RegisterUse
   pub it : RegisterUse
@@ -46,13 +46,14 @@ pub record IsFirstOf (fn : Function) (uses : List RegisterUse) (place : Place) (
   pub at : it.place ≡ place
   pub shown : IsUnassigned fn it.block it.point it.name path
 
--- All uses are assigned on every path, or the first that is not is named, unless memory was short.
+-- The answer for these uses: all are assigned on every path, or the first one that is not is named. Out of memory says
+-- nothing about them.
 abbrev pub AnswersUses : {T : Type 0} → Function → Result T NotAssigned → List RegisterUse → Type 0
 AnswersUses fn (Ok _) uses = All (UseIsAssigned fn) uses
 AnswersUses fn (Err (unassigned.Use place path)) uses = IsFirstOf fn uses place path
 AnswersUses fn (Err unassigned.NoMemory) uses = Unit {0}
 
--- The same for all functions of a program.
+-- The answer for all functions of a program, in the same way.
 abbrev pub AnswersAssigned : {T : Type 0} → Result T NotAssigned → Program → Type 0
 AnswersAssigned (Ok _) P = (f : ℕ) (fn : Function) → slice_get P.functions f ≡ Some fn → AllAssigned fn f
 AnswersAssigned (Err (unassigned.Use place path)) P = IsFirstUnassigned P place path

@@ -8,7 +8,7 @@ use Rattle.hip_sound.specs.Places.{repeats_agree}
 use Rattle.hip_names.specs.Tables.{Entry, StandsFor}
 use Rattle.hip_names.specs.declared.table.NameTable.{NameTable}
 
--- The operand is the one that an earlier edge carries; true if there is none.
+-- Whether the operand is the one that an earlier edge carries; true if there is no earlier edge.
 abbrev pub carries_again : Option (Bor Operand) → Operand → Bool
 carries_again None o = true
 carries_again (Some first) o = same_operand first.now o
@@ -21,14 +21,14 @@ edge_entry e = record { name = e.label; value = e.value }
 abbrev pub carried_seen : Entry (Bor Operand) → Entry Operand
 carried_seen e = record { name = e.name; value = e.value.now }
 
--- Names and values denote what edges that agree carry.
+-- Names and values are a table of what the edges carry, and the edges agree.
 pub record Carries (names : List (List ℕ)) (values : List (Bor Operand)) (edges : List Edge) : Type 0 where
   pub entries : List (Entry (Bor Operand))
   pub stands : StandsFor names values entries
   pub are : map carried_seen entries ≡ map edge_entry edges
   pub agree : repeats_agree edges ≡ true
 
--- There is a table exactly where the edges agree.
+-- There is a table exactly if the edges agree.
 abbrev pub CarriesWhere : List Edge → Option (NameTable (Bor Operand)) → Type 0
 CarriesWhere edges None = repeats_agree edges ≡ false
 CarriesWhere edges (Some t) = Carries t.names t.values edges

@@ -19,7 +19,8 @@ use Rattle.hip_sound.specs.declared.fault.Finding.{Finding}
 use Rattle.hip_sound.specs.declared.fault.Place.{Place}
 
 -- What is found first at the end of a block, given whether its names exist, the types written there fit and its types
--- agree, and then whether the values of its cases differ and no label that it names is the entry block's.
+-- agree. After these come the rules that the values of its cases differ and that none of its labels is the entry
+-- block's.
 abbrev pub end_found_by : Bool → Bool → Bool → Function → End → Place → Option Finding
 end_found_by known fit agree function e place =
     or_else (asked known breaks.Unknown place)
@@ -54,7 +55,7 @@ module _ (s : Scope) (names : List (List ℕ)) (values : List (Option Scalar)) (
       ≡ (uses_agree s (end_uses e) && end_agrees s e)
   agree e = ap (λ b. b && returns s.function.ret e) (uses_agree-by_tables s names values finds (end_uses e))
 
-  -- By the tables the end of a block is checked as the rules say.
+  -- The check of the end of a block by the tables finds what the rules say.
   pub end_found-is : (e : End) (place : Place) →
       end_found names values globals known_labels s.function e place ≡ (end_check s e place).found
   end_found-is e place =

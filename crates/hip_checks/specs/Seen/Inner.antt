@@ -12,8 +12,8 @@ use Rattle.hip_checks.specs.declared.tables.inner_table.Inner.TheVariants.{Param
 abbrev pub entry : List ℕ → Inner → Entry Inner
 entry name value = record { name = name; value = value }
 
--- A phi assigns its register before the body begins; the register that an instruction assigns is there from the next
--- one on.
+-- How declarations become entries. A phi assigns its register before the body begins. The register that an instruction
+-- assigns can be used from the next instruction on.
 abbrev pub entries : Declares (Entry Inner)
 entries = record {
   parameter = λ p. entry p.name Parameter;
@@ -28,12 +28,12 @@ inner_entries f = declared_by entries f
 
 -- ---- the graph of the blocks
 
--- The number of the block, as a list, where a label was found; empty where anything else or nothing was.
+-- The number of the block that a label denotes, as a list; empty if the name denotes something else or nothing.
 abbrev pub block_number : Option Inner → List ℕ
 block_number (Some (Label n)) = n ∷ []
 block_number _ = []
 
--- The numbers of the blocks of these labels, in order, each as often as it is named; labels of no block are left out.
+-- The numbers of the blocks of these labels, in order, with repeats. Labels of no block are left out.
 abbrev pub successor_numbers : List (Entry Inner) → List (List ℕ) → List ℕ
 successor_numbers entries labels = flat_map (λ label. block_number (value_of entries label)) labels
 
@@ -41,6 +41,6 @@ successor_numbers entries labels = flat_map (λ label. block_number (value_of en
 abbrev pub graph_of : Function → List (List ℕ)
 graph_of f = map (λ block. successor_numbers (inner_entries f) (end_labels block.end)) f.blocks
 
--- The numbers of the blocks of these labels by a table, where `successor_numbers` has them by the entries.
+-- The numbers of the blocks of these labels, found by a table; `successor_numbers` finds them by the entries.
 abbrev pub label_numbers : List (List ℕ) → List Inner → List (List ℕ) → List ℕ
 label_numbers names values labels = flat_map (λ label. block_number (value_beside names values label)) labels

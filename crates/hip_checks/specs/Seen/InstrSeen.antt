@@ -90,7 +90,7 @@ module _ (s : Scope) (names : List (List ℕ)) (values : List (Option Scalar)) (
       ap (λ b. b && instr_agrees_in callee_names callees i) (uses_agree-by_tables s names values finds (instr_uses i))
       ∙ ap (λ b. uses_agree s (instr_uses i) && b) (agrees_alike i)
 
-  -- By the tables an instruction is checked as the rules say.
+  -- The check of an instruction by the tables finds what the rules say.
   pub instr_found-is : (i : Instr) (place : Place) →
       instr_found names values globals callee_names callees i place ≡ (instr_check s i place).found
   instr_found-is i place =

@@ -73,7 +73,8 @@ at_each p (x ∷ xs) all =
     or_true true = refl
     or_true false = refl
 
--- A test passes at all names of one exactly if it does at all names of the other.
+-- A test passes for all names of one list exactly if it passes for all names of the other list, if both have the same
+-- names.
 pub all_alike : (p : List ℕ → Bool) (xs ys : List (List ℕ)) → Knows xs ys → list_all p xs ≡ list_all p ys
 all_alike p xs ys knows =
     both_ways (list_all p xs) (list_all p ys)
@@ -101,7 +102,7 @@ module _ (s : Scope) (names : List (List ℕ)) (values : List (Option Scalar))
       ∙ ap (λ b. uses_known s (phi_uses p) && b)
       (known_alike known_labels (label_names s.function) (edge_labels p.edges) knows_labels)
 
-  -- By the tables a phi is checked as the rules say.
+  -- The check of a phi by the tables finds what the rules say.
   pub phi_found-is : (p : Phi) (place : Place) →
       phi_found names values globals known_labels before p place ≡ (phi_check s label p place).found
   phi_found-is p place =

@@ -14,7 +14,7 @@ use Rattle.hip_checks.specs.declared.tables.callees.Params.TheVariants.{Scalars,
 
 -- ---- registers
 
--- A register's type under its name.
+-- The entry of a register: its type under its name.
 abbrev pub register_entry : Register → Entry (Option Scalar)
 register_entry r = record { name = r.name; value = r.ty }
 
@@ -30,15 +30,16 @@ pub record Finds (names : List (List ℕ)) (values : List (Option Scalar)) (regi
 
 -- ---- callees
 
--- An external function's signature under its name.
+-- The entry of an external function: its signature under its name.
 abbrev pub extern_entry : Extern → Entry Signature
 extern_entry e = record { name = e.name; value = record { ret = e.ret; params = e.params } }
 
--- A function's signature under its name, its parameters by their types.
+-- The entry of a function: its signature under its name. The signature has only the types of the parameters.
 abbrev pub function_entry : Function → Entry Signature
 function_entry f = record { name = f.name; value = record { ret = f.ret; params = map (λ p. p.ty) f.params } }
 
--- The types of parameters, in order, whether they are an external function's or a function's, which have names too.
+-- The types of parameters, in order. Parameters of a function have names too, and those of an external function have
+-- none.
 abbrev pub params_seen : Params → List Scalar
 params_seen (Scalars types) = types.now
 params_seen (Named params) = map (λ p. p.ty) params.now
@@ -51,7 +52,7 @@ callee_seen c = record { ret = c.ret; params = params_seen c.params }
 abbrev pub entry_seen : Entry Callee → Entry Signature
 entry_seen e = record { name = e.name; value = callee_seen e.value }
 
--- Names and values that denote the entries and some more, which have these names and signatures.
+-- Names and values are a table of the entries and some more entries, which have these names and signatures.
 pub record Grown (names : List (List ℕ)) (values : List Callee) (entries : List (Entry Callee))
     (signatures : List (Entry Signature)) : Type 0 where
   pub more : List (Entry Callee)

@@ -29,37 +29,39 @@ uses_seen us = use_seen us.first ++ (use_seen us.second ++ (use_seen us.third ++
 
 -- ---- operands by the tables of the code
 
--- The table of registers has the register, or all names in the constant are those of globals.
+-- Whether an operand exists: the table of registers has the register, or all names in the constant are names of
+-- globals.
 abbrev pub operand_known : List (List ℕ) → List (Option Scalar) → List (List ℕ) → Operand → Bool
 operand_known names values globals (Reg name) = is_some (value_beside names values name)
 operand_known names values globals (Fixed value) = list_all (is_among globals) (names_in value)
 
--- Each operand of the uses is known so by the tables; true if there are none.
+-- Whether each operand of the uses exists, by the tables; true if there are no uses.
 abbrev pub operands_known : List (List ℕ) → List (Option Scalar) → List (List ℕ) → List Use → Bool
 operands_known names values globals us = list_all (λ u. operand_known names values globals u.operand) us
 
--- The table of registers has this type for the register, or the constant has the type's shape; false for a register
--- that has no type.
+-- Whether an operand has a type: the table of registers gives the register this type, or the constant has the type's
+-- shape. False for a register that has no type.
 abbrev pub operand_agrees : List (List ℕ) → List (Option Scalar) → Operand → Scalar → Bool
 operand_agrees names values (Reg name) ty = has_type ty (value_beside names values name)
 operand_agrees names values (Fixed value) ty = has_shape value (type_of ty)
 
--- Each operand agrees so with the type that its use states; true if there are none.
+-- Whether each operand has the type that its use states; true if there are no uses.
 abbrev pub operands_agree : List (List ℕ) → List (Option Scalar) → List Use → Bool
 operands_agree names values us = list_all (λ u. operand_agrees names values u.operand u.ty) us
 
--- Each type that is written in a constant fits; a register has none.
+-- Whether each type that is written in a constant fits; true for a register.
 abbrev pub operand_fits : Operand → Bool
 operand_fits (Reg name) = true
 operand_fits (Fixed value) = list_all fits_test (types_in value)
 
--- Each type that is written in the uses' constants fits.
+-- Whether each type that is written in the uses' constants fits.
 abbrev pub operands_fit : List Use → Bool
 operands_fit us = list_all (λ u. operand_fits u.operand) us
 
 -- ---- instructions by the tables of the code
 
--- Conversions, paths of elements and calls agree, calls by the table of callees; true of any other instruction.
+-- Whether the types of a conversion, a path of elements or a call agree, with calls checked by the table of callees;
+-- true for any other instruction.
 abbrev pub instr_agrees_in : List (List ℕ) → List Callee → Instr → Bool
 instr_agrees_in names values (Cast dest op from a to) = cast_agrees op from to
 instr_agrees_in names values (Gep dest inbounds ty base indices) = gep_agrees indices ty
@@ -67,11 +69,11 @@ instr_agrees_in names values (Call dest ret callee args) =
     signature_agrees ret args (option_map callee_seen (value_beside names values callee)) && register_agrees dest ret
 instr_agrees_in names values _ = true
 
--- The table of callees has the name that a call names; true of any other instruction.
+-- Whether the table of callees has the name that a call names; true for any other instruction.
 abbrev pub callee_known_in : List (List ℕ) → List Callee → Instr → Bool
 callee_known_in names values (Call dest ret callee args) = is_some (value_beside names values callee)
 callee_known_in names values _ = true
 
--- The type that is written in an `alloca` or a `getelementptr` fits; true of any other instruction.
+-- Whether the type that is written in an `alloca` or a `getelementptr` fits; true for any other instruction.
 abbrev pub written_fits : Instr → Bool
 written_fits instr = list_all fits_test (written_types instr)

@@ -17,7 +17,7 @@ use hip_tree::{Block, Edge, End, Function, Instr, Phi, Program, Site};
 use hip_types::{Row, Scalar};
 use std::alloc::Global;
 
-/// The operand of a phi's edge is assigned on every path to the end of the predecessor.
+/// Checks that the operand of a phi's edge is assigned on every path to the end of the predecessor.
 fn check_edge(body: &Body<'_, '_>, place: Place, ty: Scalar, edge: &Edge) -> Result<(), NotAssigned>
     requires { Describes body.now.function.now body.now.names.now.names body.now.names.now.values body.now.paths.now }
     ensures { AnswersUses body.now.function.now result
@@ -29,7 +29,7 @@ fn check_edge(body: &Body<'_, '_>, place: Place, ty: Scalar, edge: &Edge) -> Res
     }
 }
 
-/// The operands of a phi are assigned in this way.
+/// Checks the operands of a phi.
 fn check_phi(body: &Body<'_, '_>, place: Place, phi: &Phi) -> Result<(), NotAssigned>
     requires { Describes body.now.function.now body.now.names.now.names body.now.names.now.values body.now.paths.now }
     ensures { AnswersUses body.now.function.now result (phi_register_uses body.now.function.now.blocks place phi.now) }
@@ -44,7 +44,7 @@ fn check_phi(body: &Body<'_, '_>, place: Place, phi: &Phi) -> Result<(), NotAssi
     Ok(())
 }
 
-/// The operands of a block's phis are assigned in this way.
+/// Checks the operands of a block's phis.
 fn check_phis(
     body: &Body<'_, '_>,
     function: usize,
@@ -72,7 +72,7 @@ fn check_phis(
     Ok(())
 }
 
-/// What an instruction uses is assigned on every path to it.
+/// Checks that what an instruction uses is assigned on every path to it.
 fn check_instr(body: &Body<'_, '_>, site: Site, instr: &Instr) -> Result<(), NotAssigned>
     requires body { Describes body.now.function.now
         body.now.names.now.names body.now.names.now.values body.now.paths.now }
@@ -90,7 +90,7 @@ fn check_instr(body: &Body<'_, '_>, site: Site, instr: &Instr) -> Result<(), Not
     )
 }
 
-/// What the instructions of a block use is assigned in this way.
+/// Checks what the instructions of a block use.
 fn check_instrs(
     body: &Body<'_, '_>,
     function: usize,
@@ -118,7 +118,7 @@ fn check_instrs(
     Ok(())
 }
 
-/// What the end of a block uses is assigned on every path to it.
+/// Checks that what the end of a block uses is assigned on every path to it.
 fn check_end(
     body: &Body<'_, '_>,
     function: usize,
@@ -140,7 +140,7 @@ fn check_end(
     )
 }
 
-/// What a block uses is assigned in this way: by its phis, its instructions, its end.
+/// Checks what a block uses: in its phis, its instructions, its end.
 fn check_block(
     body: &Body<'_, '_>,
     function: usize,
@@ -162,7 +162,7 @@ fn check_block(
     check_end(body, function, number, &block.end)
 }
 
-/// What a function uses is assigned in this way, block by block.
+/// Checks what a function uses, block by block.
 fn check_blocks(body: &Body<'_, '_>, function: usize) -> Result<(), NotAssigned>
     requires { Describes body.now.function.now body.now.names.now.names body.now.names.now.values body.now.paths.now }
     ensures { AnswersUses body.now.function.now result (register_uses function body.now.function.now) }
@@ -177,7 +177,7 @@ fn check_blocks(body: &Body<'_, '_>, function: usize) -> Result<(), NotAssigned>
     Ok(())
 }
 
-/// What a function uses is assigned in this way, by its names and its graph.
+/// Checks what a function uses, by its names and its graph.
 fn check_on_graph(
     alloc: Global,
     number: usize,
@@ -198,8 +198,8 @@ fn check_on_graph(
     check_blocks(&body, number)
 }
 
-/// Each use of a register in a function is assigned on every path to it. The time is that of the function's names and
-/// steps, times little more than the logarithm of the number of its blocks.
+/// Checks that each use of a register in a function is assigned on every path to it. The time is linear in the
+/// function's names and steps, times little more than the logarithm of the number of its blocks.
 fn check_function(alloc: Global, number: usize, function: &Function) -> Result<(), NotAssigned>
     requires { AllDiffer (names_in_function function.now) }
     ensures { AnswersUses function.now result (register_uses number function.now) }
@@ -209,7 +209,8 @@ fn check_function(alloc: Global, number: usize, function: &Function) -> Result<(
     check_on_graph(alloc, number, function, &names, graph.as_slice())
 }
 
-/// Each use of a register is assigned on every path to it; the first that is not is refused, with such a path.
+/// Checks that each use of a register is assigned on every path to it. The first use that is not is refused, with a
+/// path that does not assign it.
 pub fn check_assigned(alloc: Global, program: &Program) -> Result<(), NotAssigned>
     requires { (inner_names_check program.now).Holds }
     ensures { AnswersAssigned result program.now }

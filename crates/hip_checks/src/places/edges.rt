@@ -10,7 +10,7 @@ use hip_tree::{Edge, Operand};
 use hip_types::NoMemory;
 use std::alloc::Global;
 
-/// What a phi carries from the blocks that it names.
+/// The operands that a phi has for the labels of its edges.
 pub type OperandTable<'a> = NameTable<'a, &'a Operand>;
 
 fn is_same_operand(a: &Operand, b: &Operand) -> bool
@@ -55,7 +55,7 @@ pub fn edge_labels_known(known: &NameSet<'_>, edges: &[Edge]) -> bool
     true
 }
 
-/// Whether each predecessor is named, and nothing else, and repeats of a label carry the same operand.
+/// Whether the edges name exactly the predecessors, and edges with the same label carry the same operand.
 pub fn edges_agree(alloc: Global, before: &NameSet<'_>, edges: &[Edge]) -> Result<bool, NoMemory>
     ensures { IfOk result (λ agree. agree ≡ places.edges_agree before.now edges.now) }
 {

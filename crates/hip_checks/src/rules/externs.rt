@@ -52,7 +52,7 @@ fn is_declared(external: &Extern, ret: Option<Scalar>, params: &[Scalar]) -> boo
     is_same_result(external.ret, ret) && params_are(external.params.as_slice(), params)
 }
 
-/// Whether the declaration is the one that the external function has.
+/// Whether the declaration has the types of the external function.
 pub fn is_declared_as(external: &Extern, call: ExternCall) -> bool
     ensures { result ≡ is_of external.now (Some (signature call)) }
 {
@@ -122,7 +122,7 @@ fn check_free_functions(functions: &[Function]) -> Result<(), Refused>
     Ok(())
 }
 
-/// Externs are declared as the functions that they name, and nothing else has such a name.
+/// Checks that externs are declared as the functions that they name, and that nothing else has such a name.
 pub fn check_externs(program: &Program) -> Result<(), Refused>
     ensures { Answers result (externs_check program.now).found }
 {

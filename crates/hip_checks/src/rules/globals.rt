@@ -55,7 +55,7 @@ fn check_each_global(known: &NameSet<'_>, globals: &[GlobalVar]) -> Result<(), R
     Ok(())
 }
 
-/// The types of globals fit, and their initialisers have their types' shape and name globals.
+/// Checks that the types of globals fit, and that their initialisers have their types' shape and name globals.
 pub fn check_globals(alloc: Global, program: &Program) -> Result<(), Refused>
     ensures { Answers result (globals_check program.now).found }
 {

@@ -144,8 +144,8 @@ fn check_functions(alloc: Global, functions: &[Function]) -> Result<(), Refused>
     Ok(())
 }
 
-/// Parameters, labels and registers of a function differ: first the parameters, then block by block its label, its
-/// phis and its body.
+/// Checks that the parameters, labels and registers of a function differ: first the parameters, then for each block its
+/// label, its phis and its body.
 pub fn check_registers(alloc: Global, program: &Program) -> Result<(), Refused>
     ensures { Answers result (inner_names_check program.now).found }
 {

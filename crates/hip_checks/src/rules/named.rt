@@ -18,7 +18,7 @@ pub struct NamedPlace<'a> {
     pub place: Place,
 }
 
-/// Each name differs from all before it.
+/// Checks that each name differs from all before it.
 pub fn check_all_differ(alloc: Global, names: &[NamedPlace<'_>]) -> Result<(), Refused>
     ensures { Answers result (all_differ (seen names.now)).found }
 {
@@ -80,7 +80,7 @@ fn push_functions<'a>(
     Ok(())
 }
 
-/// The names of globals, externs and functions differ, the three lists taken in this order.
+/// Checks that the names of globals, externs and functions differ, with the three lists in this order.
 pub fn check_names(alloc: Global, program: &Program) -> Result<(), Refused>
     ensures { Answers result (names_check program.now).found }
 {

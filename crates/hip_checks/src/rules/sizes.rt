@@ -7,7 +7,7 @@ use hip_globals::are_within_limits;
 use hip_sound::{Fault, Place};
 use hip_tree::Program;
 
-/// The region and the volatile globals are not too large.
+/// Checks that the region and the volatile globals are not too large.
 pub fn check_sizes(program: &Program) -> Result<(), Refused>
     requires { OwnTypesFit program.now.globals }
     ensures { Answers result (sizes_check program.now).found }

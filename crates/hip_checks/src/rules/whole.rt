@@ -24,7 +24,7 @@ fn has_main(functions: &[Function]) -> bool
     false
 }
 
-/// There is a function `main` without parameters that returns an i32.
+/// Checks that there is a function `main` without parameters that returns an i32.
 pub fn check_main(program: &Program) -> Result<(), Refused>
     ensures { Answers result (main_check program.now).found }
 {

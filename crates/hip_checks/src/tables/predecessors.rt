@@ -25,7 +25,7 @@ impl<'a> Predecessors<'a> {
         self.sets.get(label)
     }
 
-    /// The labels of the blocks whose end names the label, or the empty set that is passed.
+    /// The labels of the blocks whose end names the label; if there are none, the empty set that is passed.
     pub fn at<'b>(&'b self, label: &[u8], nobody: &'b NameSet<'a>) -> &'b NameSet<'a>
         requires { nobody.now ≡ [] }
         ensures { result.now ≡ names_at self.now.sets label.now }

@@ -112,7 +112,7 @@ module _ (P : Program) (I : Input) (f : ℕ) (tables : Tables) where
       says (instrs.Call dest ret callee args) p = p
       says _ p = tt
 
-  -- And it does the same, as long as the function has these slots.
+  -- A call that keeps another number of slots of its caller does the same, as long as the function has these slots.
   pub resolves_kept : (call : Call) (frame : ℕ) (i : Instr) → frame ≤ length (names_at P f)
       → Resolves P I f tables (ops.Control (controls.Call call)) i
       → Resolves P I f tables (ops.Control (controls.Call (record call { frame = frame }))) i

@@ -31,7 +31,8 @@ use Rattle.hip_code.specs.declared.op.Span.{Span}
 use Rattle.hip_code.specs.declared.op.Term.{Term}
 use Rattle.hip_code.specs.declared.op.Value.TheVariants as values
 
--- What holds of a term and of all terms after it holds of all.
+-- If what a term names is there, and also what each term after it names, then what each term of the list names is
+-- there.
 terms_more : (n : Numbers) (t : Term) (ts : List Term) → is_within n t.index → TermsWithin n ts
     → TermsWithin n (t ∷ ts)
 terms_more n t ts h r = record { at = go }
@@ -40,7 +41,7 @@ terms_more n t ts h r = record { at = go }
     go zero x e = let same : t ≡ x = cc in subst (λ (y : Term). is_within n y.index) same h
     go (suc k) x e = r.at k x e
 
--- These indices lead into the type at an offset, and the terms add the rest.
+-- These indices lead into the type, by the offset plus the sum of the terms.
 pub record Comes (n : Numbers) (t : Ty) (indices : List ℕ) (offset : ℕ) (terms : List Term) : Type 0 where
   pub part : Part
   pub there : part_at indices t ≡ Some part
@@ -53,7 +54,7 @@ module _ (globals : List GlobalVar) (region : ℕ) (names : List (List ℕ)) (n 
   abbrev indices_of : List Arg → List ℕ
   indices_of args = index_values globals region rs args
 
-  -- An index that a register holds.
+  -- The value of a term is the index times the size.
   scaled : (a : Arg) (size : ℕ) (t : Term) → IsScaled globals region names n.tables.constants a size t
       → are_known rs (arg_uses (a ∷ [])) →
       term_value n t ≡ index_value a.ty (value_of globals region rs a.value) * size
@@ -111,7 +112,7 @@ module _ (globals : List GlobalVar) (region : ℕ) (names : List (List ℕ)) (n 
     pub far : unwrap_or (gep_of t (indices_of args)) 0 ≡ (offset + sum_of n terms) % 2 ^ 64
     pub within : TermsWithin n terms
 
-  -- The offset of all indices.
+  -- The indices of a `getelementptr` give its offset and its terms.
   pub gep_far : (args : List Arg) (t : Ty) (offset : ℕ) (terms : List Term)
       → IsGep globals region names n.tables.constants t args offset terms → are_known rs (arg_uses args)
       → Far t args offset terms
@@ -161,7 +162,7 @@ module _ (P : Program) (I : Input) (f : ℕ) (tables : Tables) where
   abbrev names_here : List (List ℕ)
   names_here = names_at P f
 
-  -- A `getelementptr` with constant indices alone is resolved.
+  -- An op with an offset alone resolves a `getelementptr` whose indices are all constants.
   pub resolves_fixed : (name : List ℕ) (dest : ℕ) (base : Operand) (x : named.Operand) (ty : Ty) (args : List Arg)
       (inbounds : Bool) (offset whole : ℕ) →
       number_of names_here name ≡ Some dest → IsOperandIn P I.base f tables base x
@@ -183,7 +184,7 @@ module _ (P : Program) (I : Input) (f : ℕ) (tables : Tables) where
     names = λ slots base rs h k. record { is = tt; pointed = tt };
   }
 
-  -- So is one with one index that is no constant.
+  -- An op with one scaled index resolves a `getelementptr` that has exactly one index that is not a constant.
   pub resolves_scaled : (name : List ℕ) (dest : ℕ) (base : Operand) (x : named.Operand) (ty : Ty) (args : List Arg)
       (inbounds : Bool) (offset whole : ℕ) (term : Term) →
       number_of names_here name ≡ Some dest → IsOperandIn P I.base f tables base x
@@ -207,7 +208,7 @@ module _ (P : Program) (I : Input) (f : ℕ) (tables : Tables) where
     names = λ slots base rs h k. record { is = tt; pointed = tt };
   }
 
-  -- And one with any indices.
+  -- An op with terms in the table resolves a `getelementptr` with any indices.
   pub resolves_terms : (name : List ℕ) (dest : ℕ) (base : Operand) (x : named.Operand) (ty : Ty) (args : List Arg)
       (inbounds : Bool) (offset whole : ℕ) (span : Span) →
       number_of names_here name ≡ Some dest → IsOperandIn P I.base f tables base x → HasSpan span tables.terms →

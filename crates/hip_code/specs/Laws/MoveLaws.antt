@@ -101,7 +101,8 @@ from_edge globals region rs from (d ∷ es) x e = go (bytes_eq d.label from) e (
     go true q rest = let same : d.value ≡ x = cc in ap (value_of globals region rs) (sym same)
     go false q rest = rest q
 
--- An edge's operand for control from its label has a value.
+-- The operand that a phi has for control from a label has a value, if the operand of each of its edges with that label
+-- has one.
 known_edge : (rs : Registers) (from : List ℕ) (es : List Edge) (x : named.Operand)
     → ((k : ℕ) (e : Edge) → slice_get es k ≡ Some e → e.label ≡ from → IsKnown rs e.value)
     → edge_from es from ≡ Some x

@@ -38,7 +38,7 @@ pub record SameValue (n : Numbers) (o : Operand) (v : ℕ) : Type 0 where
   pub within : is_within n o
   pub same : operand_value n o ≡ v
 
--- A resolved operand has the operand's value.
+-- An op's operand has the value of the operand that it resolves.
 pub operand_same : (globals : List GlobalVar) (region : ℕ) (names : List (List ℕ)) (n : Numbers) (rs : Registers)
     (o : Operand) (x : named.Operand) →
     IsOperand globals region names n.tables.constants o x → HoldsFrame names n.slots n.base rs → IsKnown rs x

@@ -11,12 +11,12 @@ use Rattle.hip_runs.specs.State.{Registers}
 use Rattle.hip_code.specs.Frames.{is_assigned, HoldsFrame}
 use Rattle.hip_code.specs.Moves.{name_at}
 
--- A slot of one name.
+-- The slot of a name is below the number of names.
 pub slot_within : (names : List (List ℕ)) (name : List ℕ) (slot : ℕ) → number_of names name ≡ Some slot
     → slot < length names
 slot_within names name slot e = slice_get_within names slot name (number_of-there names name slot e)
 
--- The name of a slot is the one whose slot it is.
+-- The name at the slot of a name is that name.
 pub name_there : (names : List (List ℕ)) (name : List ℕ) (slot : ℕ) → number_of names name ≡ Some slot
     → name_at names slot ≡ name
 name_there names name slot e = ap (λ o. unwrap_or o []) (number_of-there names name slot e)

@@ -39,7 +39,7 @@ use Rattle.hip_code.specs.declared.op.Other.TheVariants as others
 use Rattle.hip_code.specs.declared.op.Rest.TheVariants as rests
 use Rattle.hip_code.specs.declared.op.Value.TheVariants as values
 
--- What is done with a result of an operation.
+-- An op does with the result of an operation what the instruction does with it.
 gave_calculated : (dest : List ℕ) (r : Result Bits NumTrap) → gave dest (number_in r) ≡ calculated dest r
 gave_calculated dest (Ok b) = refl
 gave_calculated dest (Err trap) = refl

@@ -17,7 +17,7 @@ module _ (P : Program) (I : Input) where
   pub quiet_goes_on : (n : ℕ) → event P I (run P I n) ≡ events.Quiet → (run P I (suc n)).world.ending ≡ None
   quiet_goes_on n q = (run_stated P I n).ending ∙ ap ending_by q
 
-  -- And has printed what it had printed before the step.
+  -- A step without an event prints nothing.
   quiet_prints : (n : ℕ) → event P I (run P I n) ≡ events.Quiet
       → (run P I (suc n)).world.output ≡ (run P I n).world.output
   quiet_prints n q =
@@ -32,7 +32,7 @@ module _ (P : Program) (I : Input) where
       ∙ quiet_prints (start + k) (quiet k (omega arith))
       ∙ same_output start k (λ n lt. quiet n (omega (arith, lt)))
 
--- A run that goes some quiet steps further has printed what it had printed before them.
+-- A run that takes some steps without an event has the same output after them as before.
 pub quiet_output : (old new : Seen) → GoesQuietly old new
     → (state_of new).world.output ≡ (state_of old).world.output
 quiet_output old new g =
@@ -40,7 +40,7 @@ quiet_output old new g =
 
 -- ---- the next event
 
--- One step more is the run's step.
+-- One more step is the run's step.
 after_step_is : (m : Seen) → state_of (after_step m) ≡ step m.program m.input (state_of m)
 unfolding run step on_ending
 after_step_is m = go (state_of m).world.ending refl
@@ -70,7 +70,7 @@ ending_then : (m : Seen) (x : Ending) → (state_of m).world.ending ≡ Some x �
 unfolding event
 ending_then m x q = ap (λ o. ending_by (event_on_ending m.program m.input (state_of m) o)) q
 
--- Up to an event that is no end a run takes at least one step.
+-- To come to an event that is not an ending, a run takes at least one step.
 pub comes_further : (old new : Seen) (e : Event) → ComesTo old new e → ending_by e ≡ None
     → old.taken < new.taken
 comes_further old new e c going = go (state_of at).world.ending refl

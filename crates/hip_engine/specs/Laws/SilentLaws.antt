@@ -20,7 +20,7 @@ prints_nothing events.Fence s = refl
 prints_nothing (events.Assert a n) s = refl
 prints_nothing (events.End e) s = absurd (let z : ⊥ = cc in z)
 
--- And is no end.
+-- A silent event is not an ending.
 pub ends_nothing : (e : Event) → is_silent e ≡ true → ending_by e ≡ None
 ends_nothing events.Quiet s = refl
 ends_nothing (events.Print z) s = refl
@@ -37,7 +37,7 @@ module _ (P : Program) (I : Input) where
       → (run P I (suc n)).world.ending ≡ None
   silent_goes_on n s = (run_stated P I n).ending ∙ ends_nothing (event P I (run P I n)) s
 
-  -- And has printed what it had printed before the step.
+  -- The output after a silent step is the output before it.
   silent_prints : (n : ℕ) → is_silent (event P I (run P I n)) ≡ true
       → (run P I (suc n)).world.output ≡ (run P I n).world.output
   silent_prints n s =

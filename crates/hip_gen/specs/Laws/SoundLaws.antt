@@ -182,7 +182,7 @@ all_groups Q seed size h (suc n) =
     All-append Q (instrs_before seed size n) (group_instrs size n (kind seed n)) (all_groups Q seed size h n)
     (h n (kind seed n))
 
--- What holds of the three instructions that groups are made of holds of those of each group.
+-- What holds of each store, each flush and each call of `put` holds of the instructions of each group.
 each_group : (Q : Instr → Type 0) (size : ℕ) → size ≤ LARGEST_SIZE
     → ((c : Const) (value : ℕ) → IsElement c → Q (store c value))
     → ((c : Const) → IsElement c → Q (flush c))
@@ -215,7 +215,7 @@ each_group Q size small stores flushes puts group k = by_kind k
         All-cons Q (put (volatile_element group) (group + 1)) [] (puts (volatile_element group) (group + 1) temp_is)
         (All-nil Q)
 
--- They assign no register.
+-- The instructions of a group assign no register.
 group_assigns_none : (size group : ℕ) (k : Kind) → body_registers (group_instrs size group k) ≡ []
 group_assigns_none size group kinds.Store = refl
 group_assigns_none size group kinds.FlushedStore = refl
@@ -228,7 +228,7 @@ groups_assign_none seed size (suc n) =
     flat_map-append assigned_by (instrs_before seed size n) (group_instrs size n (kind seed n))
     ∙ ap₂ (λ a b. a ++ b) (groups_assign_none seed size n) (group_assigns_none size n (kind seed n))
 
--- And use none.
+-- The instruction uses no register.
 abbrev UsesNone : Instr → Type 0
 UsesNone i = used_registers (instr_uses i) ≡ []
 
@@ -337,7 +337,7 @@ module _ (size : ℕ) (small : size ≤ LARGEST_SIZE) (body : List Instr) where
   places_hold : All IsChecked body → (places_check P).Holds
   places_hold checked = (put_function_holds, ((main_holds checked, tt), tt))
 
-  -- What the store of `put` uses.
+  -- The use of a register by the store in `put`.
   abbrev used : List ℕ → RegisterUse
   used name = use_at (places.Body (site 0 0 0)) 0 (Before 0) name
 

@@ -28,7 +28,7 @@ use Rattle.hip_gen.specs.Generated.{array_of, zeroed_array, element, store, flus
 
 -- ---- constants
 
--- A number without a sign.
+-- A literal below 2 ^ 63 is written without a sign.
 literal-is : (n : ℕ) → n < 2 ^ 63 → literal_text (bits W64 n) ≡ decimal n
 literal-is n h =
     let fits : n < 2 ^ 64 = omega arith in
@@ -86,7 +86,7 @@ element_joined d name e =
     ∙ ap (λ t. d ++ (codes " x i64], ptr @" ++ (name ++ (codes ", i64 0, i64 " ++ t))))
     (append_assoc e [] (codes ")")))
 
--- The text by the texts of its parts.
+-- The text of an element's address, by the texts of its type, its base and its two indices.
 abbrev by_parts : List ℕ → List ℕ → List ℕ → List ℕ → List ℕ
 by_parts t b z i =
     codes "getelementptr (" ++ (t ++ (codes ", ptr "

@@ -44,7 +44,7 @@ after true base at g page divides =
     in assoc)
 after false base at g page divides = refl
 
--- What lies from a base on lies from 0 on, moved by the base.
+-- The place of a global that is laid from a base on is the base plus its place if it is laid from 0 on.
 pub start_of-from : (persistent : Bool) (base at : ℕ) (gs : List GlobalVar) (number : ℕ)
     → base % BASE_ALIGNMENT ≡ 0
     → AllDivide gs → start_of persistent (base + at) gs number ≡ base + start_of persistent at gs number
@@ -66,6 +66,6 @@ end_of-from persistent base at (g ∷ gs) page all =
 
 -- ---- types
 
--- The types of globals fit, where those in their initialisers do too.
+-- If the types of globals and those in their initialisers fit, the types of the globals fit.
 pub globals-fit : (globals : List GlobalVar) → All TypesFitIn globals → OwnTypesFit globals
 globals-fit globals h = λ k d within. h k d within 0 (get_or globals k d).ty (omega arith)

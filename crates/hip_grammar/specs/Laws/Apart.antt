@@ -1,4 +1,4 @@
--- Pairs of tests that no token passes both of.
+-- Pairs of tests of which no token passes both.
 use Rattle.std.proofs.Common.{◌≡◌, ℕ, true, false, Bool, cond, not, List, [], ◌∷◌, Option, Some, None, is_some, refl, ap}
 use Rattle.std.specs.List.{list_all}
 use Rattle.std.proofs.lemmas.Bool.{and_parts}
@@ -83,7 +83,8 @@ words_apart f d h (Str t) e = absurd cc
 words_apart f d h (Mark b) e = absurd cc
 words_apart f d h (Odd b) e = absurd cc
 
--- A table of words, by its first entry.
+-- A table of words that is apart from another is also apart from the other with one more entry, if it does not have the
+-- word of the entry.
 pub entry_apart : {A B : Type 0} (f : List ℕ → Option A) (w : List ℕ) (x : B) (g : List ℕ → Option B)
     → is_some (f w) ≡ false → Apart (is_word_of f) (is_word_of g)
     → Apart (is_word_of f) (is_word_of (λ t. cond (bytes_eq t w) (Some x) (g t)))
@@ -112,7 +113,7 @@ no_entry_apart B f (Str t) e = refl
 no_entry_apart B f (Mark b) e = refl
 no_entry_apart B f (Odd b) e = refl
 
--- A table of values; none of them is written as a word of the first.
+-- A table of words is apart from a table of values, if no value is written as a word of the first table.
 pub table_apart : {A B : Type 0} (f : List ℕ → Option A) (text : B → List ℕ) (xs : List B)
     → list_all (λ x. not (is_some (f (text x)))) xs ≡ true
     → Apart (is_word_of f) (is_word_of (written_as text xs))

@@ -59,7 +59,7 @@ phi_read dest =
 next_operand_exact : (s : Scalar) → Exact (one_more_by comma (operand s)) never
 next_operand_exact s = one_more_exact (operand s) comma never (operand_read s).exact
 
--- A test is apart from a word and from what comes after it.
+-- If a table does not have a word and is apart from a test, it is apart from both together.
 from_word : {A : Type 0} (f : List ℕ → Option A) (w : List ℕ) (d : Tok → Bool)
     → is_word_of f (Word w) ≡ false
     → Apart (is_word_of f) d → Apart (is_word_of f) (joined (is_word w) d)
@@ -221,7 +221,7 @@ begins_cast =
     joined (is_word_of int_cast_word)
     (joined (is_word (codes "ptrtoint")) (joined (is_word (codes "inttoptr")) begins_memory))
 
--- Words with a meaning of another kind.
+-- A table that has none of the first words of `memory_instr` is apart from them.
 memory_apart : {A : Type 0} (f : List ℕ → Option A) → is_word_of f (Word (codes "alloca")) ≡ false
     → is_word_of f (Word (codes "load")) ≡ false → is_word_of f (Word (codes "getelementptr")) ≡ false
     → is_word_of f (Word (codes "tail")) ≡ false → is_word_of f (Word (codes "call")) ≡ false

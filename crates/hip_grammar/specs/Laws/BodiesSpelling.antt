@@ -66,7 +66,7 @@ phi_yields dest d =
 abbrev suits : Bool → Bool → Flags → Bool
 suits wraps exact f = (wraps || not (f.nuw || f.nsw)) && (exact || not f.exact)
 
--- A flag that an operation of this kind may have.
+-- Whether an operation of this kind may have the flag.
 abbrev may_stand : Bool → Bool → Flag → Bool
 may_stand wraps exact Nuw = wraps
 may_stand wraps exact Nsw = wraps

@@ -11,6 +11,6 @@ use Rattle.hip_grammar.specs.Laws.WrittenText.{spelled_is_read}
 pub spelled_exact : (program : Program) → (spelled_program program ≡ true) ↔ IsSpelled program
 spelled_exact program = (spelled_is_read program, reads_spelled (show program) program)
 
--- What some text reads as, its canonical text reads as.
+-- A program that some text reads as is the one that its own canonical text reads as.
 pub read_is_spelled : (bytes : List ℕ) (program : Program) → Reads bytes program → IsSpelled program
 read_is_spelled bytes program r = spelled_is_read program (reads_spelled bytes program r)

@@ -49,14 +49,14 @@ pub label_is : (t : Tok) (n : List ℕ) → is_formed t ≡ true → a_label t �
 label_is (Label x) n f e = subst (λ z. is_name z ≡ true) (yes_is x n e) f
 label_is t n f e = absurd cc
 
--- A word that means something by a table.
+-- What holds of each meaning that a table gives to a word holds of the meaning of a token.
 pub word_is : {A : Type 0} (f : List ℕ → Option A) (Q : A → Type 0)
     → ((t : List ℕ) (a : A) → or_no (f t) ≡ Yes a → Q a)
     → (t : Tok) (a : A) → is_formed t ≡ true → a_word_of f t ≡ Yes a → Q a
 word_is f Q h (Word t) a g e = h t a e
 word_is f Q h t a g e = absurd cc
 
--- An entry of a table, and what comes after it.
+-- What holds of an entry of a table and of the entries after it holds of the value that is found.
 pub entry_is : {A : Type 0} (Q : A → Type 0) (b : Bool) (x : A) (o : Option A) (a : A) → Q x
     → (or_no o ≡ Yes a → Q a)
     → or_no (if b then Some x else o) ≡ Yes a → Q a
@@ -66,7 +66,7 @@ entry_is Q false x o a q h e = h e
 pub no_entry : {A : Type 0} (Q : A → Type 0) (a : A) → or_no None ≡ Yes a → Q a
 no_entry Q a e = absurd cc
 
--- A value of a table passes each test that all of them pass.
+-- A test that all values of a table pass is passed by the value that is found.
 pub table_is : {A : Type 0} (test : A → Bool) (text : A → List ℕ) (xs : List A) (t : List ℕ) (a : A)
     → list_all test xs ≡ true → or_no (written_as text xs t) ≡ Yes a → test a ≡ true
 table_is test text [] t a h e = absurd cc
@@ -134,7 +134,7 @@ int_const_is : (w : Width) (t : Tok) (c : Const) → is_formed t ≡ true → an
 int_const_is w t c f e =
     int_const_by w (is_word (codes "zeroinitializer") t) (a_literal w t) c (λ b k. literal_is w t b f k) e
 
--- `zeroinitializer` alone.
+-- A fact that holds of `zeroinitializer` holds of the constant that its token gives.
 zero_by : (b : Bool) (c : Const) (Q : Const → Type 0) → Q consts.Zero
     → ◌≡◌ {A = Verdict Fault Const} (if b then Yes consts.Zero else No) (Yes c) → Q c
 zero_by true c Q q e = subst Q (yes_is consts.Zero c e) q
@@ -160,7 +160,7 @@ simple_is g (Global t) c f e =
     (rw (out-Const-Address t) f)
 simple_is g t c f e = absurd cc
 
--- What opens a level too many derives nothing.
+-- A token that opens one level too many derives nothing.
 deep_by : {A : Type 0} (b : Bool) (Q : A → Type 0) (a : A)
     → ◌≡◌ {A = Verdict Fault A} (if b then Because TooDeep else No) (Yes a) → Q a
 deep_by true Q a e = absurd cc

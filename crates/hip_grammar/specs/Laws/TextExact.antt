@@ -164,7 +164,7 @@ item_apart = joined_apart comma (is_word_of unnamed_word) begins_item (mark_apar
             apart_joined (is_word_of unnamed_word) (is_word w) d
             (apart_sym (is_word w) (is_word_of unnamed_word) (word_apart w (is_word_of unnamed_word) h)) p
 
--- What may follow the items of a text and belong to it: what begins one more item, or goes on the last one.
+-- What may follow the items of a text and belong to it: what begins one more item, or continues the last one.
 abbrev pub goes_on_text : Tok → Bool
 goes_on_text = joined begins_item goes_on_item
 
@@ -261,7 +261,7 @@ derived_is ts program t = taken ts program (text.read ts) (text_exact.reads ts) 
 ok_is : (x y : Program × List At) → ◌≡◌ {A = Outcome Fault Program} (Ok x) (Ok y) → x ≡ y
 ok_is x y e = cc
 
--- What is read is all that is derived.
+-- The tokens derive no program but the one that is read.
 pub only_is : (ts : List At) (found program : Program) (rest : List At) → whole_text ts ≡ Ok (found, rest)
     → text.rule.Derives ts program [] → found ≡ program
 only_is ts found program rest e t =

@@ -113,7 +113,7 @@ item_yields =
     either_yields _ _ _ _ global_yields (either_yields _ _ _ _ extern_yields
     (either_yields _ _ _ _ function_yields (either_yields _ _ _ _ source_filename_yields target_item_yields)))
 
--- One more at the end.
+-- If all items pass and so does one more at the end, all pass.
 one_more : {A : Type 0} (test : A → Bool) (xs : List A) (x : A) → list_all test xs ≡ true → test x ≡ true
     → list_all test (xs ++ x ∷ []) ≡ true
 one_more test xs x h k = list_all-append test xs (x ∷ []) ∙ both_true h (both_true k refl)

@@ -1,4 +1,4 @@
--- A block that is written is read again.
+-- The text of a block reads as the block.
 use Rattle.std.proofs.Common.{◌≡◌, ℕ, true, List, [], ◌∷◌, ◌++◌, map, Some, None, ◌&&◌, refl, subst, append_assoc, codes}
 use Rattle.std.specs.List.{list_all, flat_map}
 use Rattle.std.proofs.lemmas.Bool.{and_parts}
@@ -155,7 +155,7 @@ end_is ends.Unreachable h =
 
 -- ---- blocks
 
--- On a line of its own.
+-- The text of a part on its own line reads as the part.
 line_is : {A : Type 0} {l : Rule Fault A} {s : List ℕ} {x : A} → IsTextOf ends_word l s x
     → IsTextOf anything l (line_of s) x
 line_is p = blank_text 32 refl (blank_text 32 refl (blank_past 10 refl (λ rest h. refl) p))

@@ -1,4 +1,4 @@
--- A constant that is written is read again, and so is an operand.
+-- The text of a constant reads as the constant, and the text of an operand as the operand.
 use Rattle.std.proofs.Common.{◌≡◌, ℕ, zero, suc, Bool, true, false, List, [], ◌∷◌, ◌++◌, map, ◌&&◌, refl, subst, codes}
 use Rattle.std.specs.List.{list_all}
 use Rattle.std.proofs.lemmas.Bool.{and_parts}

@@ -1,4 +1,4 @@
--- An instruction that is written is read again.
+-- The text of an instruction reads as the instruction.
 use Rattle.std.proofs.Common.{◌≡◌, ℕ, Bool, true, false, List, [], ◌∷◌, ◌++◌, map, Option, Some, None, not, ◌&&◌, ◌||◌, refl, codes}
 use Rattle.std.specs.List.{list_all}
 use Rattle.std.proofs.lemmas.Bool.{and_parts}

@@ -1,4 +1,4 @@
--- A number that is written is read again.
+-- The text of a number reads as the number.
 use Rattle.std.proofs.Common.{◌≡◌, ◌⊎◌, inl, inr, ℕ, zero, suc, ◌+◌, ◌-◌, ◌*◌, ◌/◌, ◌%◌, ◌^◌, ◌≤◌, ◌<◌, Bool, true, false, eqb, leb, List, [], ◌∷◌, ◌++◌, length, length-append, refl, subst, ◌∙◌, arith, codes}
 use Rattle.std.specs.Prelude.{nat_lt}
 use Rattle.std.specs.List.{list_all}
@@ -63,7 +63,7 @@ decimal_is = decimal_by_steps IsNumber one_digit more_digits
 not_minus : (d : ℕ) → is_digit d ≡ true → eqb d 45 ≡ false
 not_minus d e = grind (arith, nat_tests)
 
--- Digits are a number without a sign.
+-- The digits write n without a sign; after a `-`, their magnitude is n too.
 record IsPlain (n : ℕ) (ds : List ℕ) : Type 0 where
   digits : are_digits ds ≡ true
   value : magnitude ds ≡ n

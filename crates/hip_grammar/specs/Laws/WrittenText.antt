@@ -1,4 +1,4 @@
--- A program that meets the rules of spelling is what its canonical text reads as.
+-- The canonical text of a program that meets the rules of spelling reads as the program.
 use Rattle.std.proofs.Common.{◌≡◌, ℕ, Bool, true, false, List, [], ◌∷◌, ◌++◌, map, Option, Some, None, ◌&&◌, refl, subst, append_assoc, append-nil, codes}
 use Rattle.std.specs.List.{list_all, flat_map}
 use Rattle.std.proofs.lemmas.Bool.{and_parts}
@@ -182,7 +182,7 @@ items_are p h =
     (mapped_texts item.rule function_text FunctionItem anything spelled_function function_listed
     (λ f rest. refl) p.functions r.1) (λ rest h. refl)) (λ rest h. refl)
 
--- Each goes to the end of its list.
+-- Each function goes to the end of the list of functions.
 functions_taken : (gs : List GlobalVar) (es : List Extern) (fs ms : List Function)
     → folded with_item (record { globals = gs; externs = es; functions = fs })
     (map FunctionItem ms) ≡ record { globals = gs; externs = es; functions = fs ++ ms }
@@ -212,7 +212,7 @@ end_of_tokens : (line : ℕ) → cut line 0 [] ≡ []
 unfolding cut
 end_of_tokens line = refl
 
--- What meets the rules is read back from its canonical text.
+-- A program that meets the rules is spelled: its canonical text reads as it.
 pub spelled_is_read : (p : Program) → spelled_program p ≡ true → IsSpelled p
 spelled_is_read p h =
     let q = (text_is p h).derives 1 [] refl in

@@ -1,4 +1,4 @@
--- A type that is written is read again.
+-- The text of a type reads as the type.
 use Rattle.std.proofs.Common.{◌≡◌, ℕ, zero, suc, Bool, true, List, [], ◌∷◌, ◌++◌, map, Option, Some, None, refl, sym, ap, subst, ◌∙◌, codes}
 use Rattle.std.specs.Prelude.{nat_lt}
 use Rattle.std.specs.List.{list_all}
@@ -71,7 +71,7 @@ scalar_type_is scalars.Ptr = word_text _ _ refl refl
 
 -- ---- types
 
--- The text of a type by its level.
+-- The text of a type that is opened one level.
 abbrev level_text : Ty-F Ty → List ℕ
 level_text level = type_step (map-Ty Ty (List ℕ) type_text level)
 

@@ -1,4 +1,4 @@
--- A program without one of the program's flushes has a crash history that the program does not have.
+-- The program without one of its flushes has a crash history that the program with the flush does not have.
 use Rattle.std.proofs.Common.{◌≡◌, ℕ, zero, suc, ◌≤◌, true, false, List, [], ◌∷◌, length, take, Option, Some, slice_get, slice_index, refl, sym, ap, ◌∙◌, subst, arith}
 use Rattle.std.specs.Prelude.{is_some}
 use Rattle.hip_types.specs.Laws.LayoutLaws.{shape-Int}
@@ -96,7 +96,7 @@ kept_ended : has_ended (run fence_without_flush_repaired input 4) ≡ true
 unfolding done_opened
 kept_ended = ap has_ended (run_is fence_without_flush_repaired input kept_deeds kept_follows)
 
--- A list of one part, and at least one of it.
+-- The byte after at least one part of a list that has a single part.
 one_part : (x : StorePart) (q first : ℕ) → 1 ≤ q → covers x 0 ≡ true
     → byte_after covers byte_of (take q (x ∷ [])) 0 first ≡ byte_of x 0
 one_part x zero first le over = absurd (omega (arith, le))

@@ -18,7 +18,7 @@ use Rattle.hip_histories.specs.examples.WrongRepairs.{clone_fences_early}
 abbrev pub input : Input
 input = zeroed 1
 
--- Up to the second call.
+-- What the run does up to the second call.
 abbrev pub first_call : List Deed
 first_call =
     record { turn = true; action = Allocates (codes "a") 268435456 8 }
@@ -30,7 +30,7 @@ first_call =
     ∷ record { turn = true; action = Returns 0 }
     ∷ []
 
--- Up to the return of the clone.
+-- What the run does up to the return of the clone.
 abbrev before_return : List Deed
 before_return =
     first_call

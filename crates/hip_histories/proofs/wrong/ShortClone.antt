@@ -50,7 +50,7 @@ module _ (callee clone : ℕ) (c : IsClone copy_hoisted clone_without_store call
   no_clone : ⊥
   no_clone = by_original callee c.original_at
 
--- Up to the fence after the call of the clone.
+-- What the run does up to the fence after the call of the clone.
 abbrev before_fence : List Deed
 before_fence =
     first_call

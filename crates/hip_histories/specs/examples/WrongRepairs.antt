@@ -22,14 +22,14 @@ on_x body =
       functions = main_of body ∷ [];
     }
 
--- The flush stands before the store:
+-- The flush is before the store:
 --   call void @llvm.x86.clwb(ptr @x)
 --   store i64 5, ptr @x
 --   call void @llvm.x86.sse.sfence()
 abbrev pub flush_before_store : Program
 flush_before_store = on_x (clwb (at (codes "x")) ∷ store_i64 (number 5) (at (codes "x")) ∷ sfence ∷ [])
 
--- The fence stands after the store, and the flush after the fence:
+-- The fence is after the store, and the flush is after the fence:
 --   store i64 5, ptr @x
 --   call void @llvm.x86.sse.sfence()
 --   call void @llvm.x86.clwb(ptr @x)
@@ -78,10 +78,10 @@ hoisted_to clone =
           ∷ [];
     }
 
--- The clone flushes and fences before its last store.
+-- The program with a clone that flushes and fences before its last store.
 abbrev pub clone_fences_early : Program
 clone_fences_early = hoisted_to early_clone
 
--- The clone leaves out the store.
+-- The program with a clone that leaves out the store.
 abbrev pub clone_without_store : Program
 clone_without_store = hoisted_to short_clone

@@ -46,7 +46,7 @@ taken_all (x ∷ xs) zero e = cc
 taken_all (x ∷ xs) (suc k) e = ap (λ ys. x ∷ ys) (taken_all xs k e)
 
 module _ (fn : Function) where
-  -- What is assigned in the last block of a path.
+  -- What is assigned in the last block of a path, up to a point.
   before_is : (point : Point) (b : ℕ) (block : Block) → slice_get fn.blocks b ≡ Some block
       → names_before fn point b ≡ names_of (registers_before point block)
   before_is point b block at = ap (λ o. unwrap_or
@@ -56,7 +56,7 @@ module _ (fn : Function) where
       → whole_block_names fn b ≡ names_of (block_registers block)
   whole_is b block at = ap (λ o. unwrap_or (option_map (λ (x : Block). names_of (block_registers x)) o) []) at
 
-  -- A name that is assigned on a path: on the way to the block, or in it.
+  -- A name that is assigned on a path is a parameter, or is assigned in an earlier block or in the last block.
   pub on_path : (earlier : List ℕ) (b : ℕ) (block : Block) (point : Point) (q : List ℕ)
       → slice_get fn.blocks b ≡ Some block → IsAmong (assigned_on fn earlier b point) q →
       IsAmong (names_of (parameter_registers fn)) q
@@ -86,7 +86,7 @@ module _ (fn : Function) where
       (among-right (flat_map (whole_block_names fn) earlier) (names_before fn point b) q
       (subst (λ ns. IsAmong ns q) (sym (before_is point b block at)) h))
 
-  -- The same after one more instruction.
+  -- After one more instruction, a name that is assigned on the path was assigned before, or the instruction assigns it.
   pub after_instr : (earlier : List ℕ) (b k : ℕ) (block : Block) (i : Instr) (q : List ℕ)
       → slice_get fn.blocks b ≡ Some block → slice_get block.body k ≡ Some i →
       IsAmong (assigned_on fn earlier b (Before (suc k))) q → IsAmong (assigned_on fn earlier b (Before k)) q
@@ -143,7 +143,7 @@ module _ (fn : Function) where
       none_taken [] h = absurd h
       none_taken (i ∷ is) h = absurd h
 
-  -- What an instruction of the block assigns, is assigned by the end of the block.
+  -- A name that an instruction of the block assigns is assigned at the end of the block.
   pub by_instr : (earlier : List ℕ) (b k : ℕ) (block : Block) (i : Instr) (q : List ℕ)
       → slice_get fn.blocks b ≡ Some block → slice_get block.body k ≡ Some i →
       IsAmong (names_of (assigned_by i)) q → IsAmong (assigned_on fn earlier b AtEnd) q
@@ -162,7 +162,7 @@ module _ (fn : Function) where
       (among-either (whole_block_names fn c) (flat_map (whole_block_names fn) cs) q h)
   blocks_kept (c ∷ cs) b q (inr h) = among-right (whole_block_names fn c) _ q (blocks_kept cs b q (inr h))
 
-  -- What is assigned by the end of a block, is also assigned by the end of the next block of a path.
+  -- A name that is assigned at the end of a block is also assigned at the end of the next block of a path.
   pub by_earlier : (earlier : List ℕ) (b c : ℕ) (block : Block) (q : List ℕ)
       → slice_get fn.blocks b ≡ Some block
       → IsAmong (assigned_on fn earlier b AtEnd) q → IsAmong (assigned_on fn (earlier ++ b ∷ []) c AtEnd) q
@@ -172,7 +172,7 @@ module _ (fn : Function) where
       (⊎_elim (λ l. inl l) (λ m. inr (subst (λ ns. IsAmong ns q) (sym (whole_is b block at)) m)) r)))
       (on_path earlier b block AtEnd q at h)
 
-  -- The phis of the last block of a path.
+  -- A name that a phi of the last block of a path assigns is assigned at the end of that block.
   pub by_phi : (earlier : List ℕ) (c : ℕ) (to : Block) (q : List ℕ) → slice_get fn.blocks c ≡ Some to
       → IsAmong (names_of (phi_registers to.phis)) q → IsAmong (assigned_on fn earlier c AtEnd) q
   by_phi earlier c to q there h =

@@ -44,7 +44,7 @@ module _ (P : Program) (I : Input) where
   abbrev most : ℕ
   most = I.limit * suc (longest P) + longest P
 
-  -- A number of steps, and those that are left at most.
+  -- The number of steps taken, plus the most steps that are left, is at most `most`.
   record IsWithin (n turns : ℕ) (fs : List Frame) : Type 0 where
     is : n + steps_left P I turns (code_left fs) ≤ most
 
@@ -60,7 +60,7 @@ module _ (P : Program) (I : Input) where
       subst (λ m. IsWithin (suc n) m s.frames) (sym t)
       (subst (IsWithin (suc n) turns) (sym frames) (record { is = omega (arith, w.is, l) }))
 
-  -- While the run goes on.
+  -- The bound holds while the run goes on.
   within_run : (n : ℕ) → (run P I n).world.ending ≡ None → IsWithin n (run P I n).world.turns (run P I n).frames
   unfolding run
   within_run zero e = record {

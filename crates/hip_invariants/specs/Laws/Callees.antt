@@ -12,7 +12,7 @@ use Rattle.hip_sound.specs.Laws.Decided.{all-at}
 use Rattle.hip_sound.specs.Numbering.{function_names}
 use Rattle.hip_sound.specs.Sound.{IsSound, IsFree}
 
--- No function has a name of the table.
+-- No function has the name of an external function in the table.
 pub function_free : (P : Program) (s : IsSound P) (callee : List ℕ) (ret : Option Scalar) (args : List Arg)
     → CallsFunction P callee ret args → call_of callee ≡ None
 function_free P s callee ret args c =

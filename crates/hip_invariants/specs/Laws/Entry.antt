@@ -1,4 +1,4 @@
--- Each function of a sound program has an entry block, which has no phis; labels of a function have their own numbers.
+-- Each function of a sound program has an entry block, which has no phis. Each label of a function has its own number.
 use Rattle.std.proofs.Common.{◌≡◌, ◌≢◌, inl, inr, ℕ, zero, suc, ◌<◌, Bool, true, ◌&&◌, List, [], ◌∷◌, map, Some, slice_get, option_map, refl, sym, ap, ◌∙◌, subst, arith}
 use Rattle.std.specs.Prelude.{All}
 use Rattle.std.specs.List.{list_all, flat_map}
@@ -65,7 +65,7 @@ module _ (P : Program) (s : IsSound P) (g : ℕ) (fn : Function) (here : slice_g
   label_first [] e h = cc
   label_first (d ∷ es) e h = inl (ap (λ (x : Edge). x.label) (same_Some d e h))
 
-  -- No block's end names the entry block, so that a phi there would have no edge.
+  -- The entry block has no phi: no block's end names the entry block, so a phi there would have no edge.
   pub no_entry_phi : (block : Block) → slice_get fn.blocks 0 ≡ Some block → (k : ℕ) (p : Phi)
       → slice_get block.phis k ≡ Some p → ⊥
   no_entry_phi block at k p e =
@@ -110,7 +110,7 @@ labels_differ (b ∷ bs) d = (
   labels_differ bs (differ_second (names_in_block b) (flat_map names_in_block bs) d),
 )
 
--- A name that stands at a place is among the names.
+-- A name at a place of a list is among the names of the list.
 there_among : (xs : List (List ℕ)) (k : ℕ) (x : List ℕ) → slice_get xs k ≡ Some x → IsAmong xs x
 there_among [] k x e = cc
 there_among (y ∷ xs) zero x e = inl (same_Some y x e)
@@ -124,7 +124,7 @@ earlier_none (y ∷ xs) (suc k) zero x d e lt f =
     d.0 (subst (λ n. IsAmong xs n) (sym (same_Some y x f)) (there_among xs k x e))
 earlier_none (y ∷ xs) (suc k) (suc j) x d e lt f = earlier_none xs k j x d.1 e (omega (arith, lt)) f
 
--- Where the names of a function differ, the number of a block's label is its own.
+-- If the names of a function differ, the label of a block has the number of this block.
 pub own_number : (fn : Function) (k : ℕ) (block : Block) → AllDiffer (names_in_function fn)
     → slice_get fn.blocks k ≡ Some block → label_number fn block.label ≡ Some k
 own_number fn k block d at =

@@ -90,7 +90,7 @@ module _ (P : Program) (s : IsSound P) (I : Input) (valid : IsValid P I) where
             (uses_fit at.0 at.1.function (end_uses block.end)
             (sound-operands P s f.function f.block at.0 block at.1).last)
 
-  -- At each step.
+  -- The operands fit at each step.
   pub operands_fit_at : (n : ℕ) (f : Frame) (fs : List Frame) → IsTop (run P I n) f fs → OperandsFit P I f
   operands_fit_at n f fs t = operands_fit f (top_holds n f fs t)
 

@@ -267,7 +267,7 @@ module _ (P : Program) (s : IsSound P) (I : Input) (valid : IsValid P I) where
         };
   }
 
-  -- At each step.
+  -- The registers fit their types at each step.
   pub registers_fit : (n : ℕ) → RegistersFit P (run P I n).frames
   registers_fit n = each_stated (FitsType P) (FitsResult P) (λ g name. record { is = none_fits _ }) (run P I n).frames
       (fact_holds (FitsType P) (FitsResult P) P I types_kept n)

@@ -1,5 +1,5 @@
--- Facts of every frame of every run: a fact of the frame on top and a fact of a frame after a call hold throughout if
--- each action keeps them.
+-- Facts of every frame of every run: a fact of the top frame and a fact of a frame that waits for a call hold
+-- throughout if each action keeps them.
 use Rattle.std.proofs.Common.{◌≡◌, ℕ, zero, suc, Bool, true, false, cond, List, [], ◌∷◌, Option, Some, None, refl, subst}
 use Rattle.hip_types.specs.Numbers.{wrapped}
 use Rattle.hip_types.specs.declared.number.Width.TheVariants.{W64}
@@ -14,7 +14,7 @@ use Rattle.hip_runs.specs.Step.{stop, with_turn, next, with_register, with_slot,
 use Rattle.hip_runs.specs.Laws.StepLaws.{IsTop}
 use Rattle.hip_invariants.specs.FrameFacts.{frames_hold}
 
--- The frame that a call makes, and a frame that goes to another block.
+-- The frame that a call makes.
 abbrev pub called_frame : ℕ → Registers → Option (List ℕ) → ℕ → Option Level → Frame
 called_frame g registers dest mark level =
     record {
@@ -29,11 +29,12 @@ called_frame g registers dest mark level =
           level;
     }
 
--- The frame at the start of block b of its function, with these registers; all else in it stays.
+-- The frame at the start of block b of its function, with these registers. The rest of the frame stays.
 abbrev pub frame_in_block : ℕ → Registers → Frame → Frame
 frame_in_block b registers f = record f { block = b; place = 0; registers = registers }
 
--- A fact of the frame on top, and one of a frame after a call of a function, whose result goes into a register.
+-- The fact `Top` is about the top frame. The fact `Below` is about a frame that waits for the result of a called
+-- function, which goes into a register.
 module _ (Top : Frame → Type 0) (Below : ℕ → Option (List ℕ) → Frame → Type 0) where
   -- What an action of a frame has to keep.
   abbrev pub keeps : Frame → Action → Type 0
@@ -57,7 +58,7 @@ module _ (Top : Frame → Type 0) (Below : ℕ → Option (List ℕ) → Frame �
     pub is : keeps f x
 
   module _ (P : Program) (I : Input) where
-    -- They hold of the first frame, and each action of the run keeps them.
+    -- The facts hold for the first frame, and each action of the run keeps them.
     pub record IsInvariant : Type 0 where
       pub first : Top (start_frame (main_number P))
       pub each : (n : ℕ) (f : Frame) (fs : List Frame) → IsTop (run P I n) f fs →
@@ -125,7 +126,7 @@ module _ (Top : Frame → Type 0) (Below : ℕ → Option (List ℕ) → Frame �
         go (Some e) q = all
         go None q = on_them s.frames refl q
 
-    -- Then they hold at every step.
+    -- If the facts are an invariant, they hold at every step.
     pub invariant_holds : IsInvariant → (n : ℕ) → frames_hold Top Below (main_number P) (run P I n).frames
     unfolding run
     invariant_holds k zero = (k.first, refl)

@@ -1,4 +1,4 @@
--- Globals lie one after another, between the start and the end of all of their kind.
+-- Globals of a kind are one after another, between the start and the end of all of them.
 use Rattle.std.proofs.Common.{◌≡◌, ℕ, zero, suc, ◌+◌, ◌≤◌, ◌<◌, Bool, true, false, List, [], ◌∷◌, Some, slice_get, refl, subst, arith}
 use Rattle.std.specs.Prelude.{if◌then◌else◌}
 use Rattle.std.proofs.lemmas.Option.{same_Some}
@@ -7,7 +7,7 @@ use Rattle.hip_types.specs.Laws.LayoutLaws.{next-le}
 use Rattle.hip_tree.specs.declared.program.GlobalVar.{GlobalVar}
 use Rattle.hip_globals.specs.Addresses.{same_truth, global_align, global_start, end_of, start_of, is_persistent}
 
--- Where a global ends that is laid at the next multiple of its alignment from an address on.
+-- The end of a global that begins at the next multiple of its alignment from an address on.
 abbrev end_from : ℕ → GlobalVar → ℕ
 end_from at g = global_start at g + (shape g.ty).size
 
@@ -39,7 +39,7 @@ start_before_end persistent at (g ∷ gs) zero e =
 start_before_end persistent at (g ∷ gs) (suc k) e =
     start_before_end persistent (if same_truth g.persistent persistent then end_from at g else at) gs k e
 
--- And ends there at most.
+-- A global ends at or before the end of all of its kind.
 pub ends_before_end : (persistent : Bool) (at : ℕ) (gs : List GlobalVar) (k : ℕ) (g : GlobalVar)
     → slice_get gs k ≡ Some g → is_persistent gs k ≡ persistent
     → start_of persistent at gs k + (shape g.ty).size ≤ end_of persistent at gs
@@ -55,7 +55,7 @@ ends_before_end persistent at (x ∷ gs) zero g q e =
 ends_before_end persistent at (x ∷ gs) (suc k) g q e =
     ends_before_end persistent (if same_truth x.persistent persistent then end_from at x else at) gs k g q e
 
--- A global that exists begins at or after the start of all of them.
+-- A global that exists begins at or after the start of all of its kind.
 pub starts_after : (persistent : Bool) (at : ℕ) (gs : List GlobalVar) (k : ℕ) (g : GlobalVar)
     → slice_get gs k ≡ Some g → at ≤ start_of persistent at gs k
 starts_after persistent at [] k g q = cc

@@ -84,7 +84,7 @@ module _ (P : Program) (I : Input) (w : World) (below : ℕ) (rs : Registers) (C
       Claim (Assigns (Some dest) (element_address (value base) ty (index_values P.globals I.base rs indices)))
   instr_cases (Call dest ret callee args) = CallCases dest callee args
 
-  -- The claim holds of each trap, except the one for what is not there.
+  -- The claim holds for each trap, except the one for what does not exist.
   module _ (trap : (kind : TrapKind) → kind ≢ traps.Unreachable → Claim (Traps kind)) where
     cond_case : (b : Bool) (x y : Action) → Claim x → Claim y → Claim (cond b x y)
     cond_case true x y p q = p

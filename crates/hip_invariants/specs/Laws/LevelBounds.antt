@@ -44,13 +44,13 @@ use Rattle.hip_invariants.specs.Laws.Registers.Facts.{each_stated, ValuesHold, e
 use Rattle.hip_invariants.specs.Laws.GlobalAddresses.{start_before_end}
 use Rattle.hip_invariants.specs.PointerLevels.{within_level, is_at_most, after_offset, number_level, global_level, level_step, gep_level_step, item_level_step, const_level, Levels, constant_index, known_index, both, known_path, gep_level, operand_level, goes_into, args_are_at_most, instr_is_closed, IsClosed, IsWithinLevel, RegistersAreWithin}
 
--- What is within a level is within each higher one.
+-- A value within a level is within each higher level.
 pub within_higher : (a b : Option ℕ) (v : ℕ) → is_at_most a b → within_level a v → within_level b v
 within_higher a None v h m = tt
 within_higher None (Some u) v h m = absurd h
 within_higher (Some t) (Some u) v h m = omega arith
 
--- 0 is within each level
+-- The value 0 is within each level.
 pub zero_within : (a : Option ℕ) → within_level a 0
 zero_within None = tt
 zero_within (Some t) = omega arith
@@ -77,13 +77,13 @@ offset_within (Some t) offset v m = same (nat_eq offset 0) refl
     same true e = let none : offset ≡ 0 = eqb-true offset 0 e in omega arith
     same false e = near (nat_lt offset 67108864) refl
 
--- One of two values within a level is within it.
+-- If two values are within a level, a choice between them is within it too.
 pub chosen_within : (a : Option ℕ) (b : Bool) (x y : ℕ) → within_level a x → within_level a y
     → within_level a (cond b x y)
 chosen_within a true x y p q = p
 chosen_within a false x y p q = q
 
--- The level of a constant `getelementptr`: that of its base, after the offset of its indices.
+-- The level of a constant `getelementptr`: the level of its base, after the offset of its indices.
 abbrev const_gep_level : List GlobalVar → ConstGep → Option ℕ
 const_gep_level globals = fold-ConstGep (Option ℕ) (Option ℕ) (Option ℕ)
     (level_step (global_level globals)) gep_level_step item_level_step
@@ -335,7 +335,7 @@ module _ (P : Program) (s : IsSound P) (I : Input) (L : Levels) (closed : IsClos
   registers_within n = each_stated (IsWithinLevel L) (ResultIsWithin L) (λ g name. record { is = zero_within _ })
       (run P I n).frames (levels_hold n)
 
-  -- A store through an operand of a level up to 32 lies below the region.
+  -- The value of an operand with a level of at most 32 is an address below the region.
   pub low_address : IsValid P I → (n : ℕ) (f : Frame) (fs : List Frame) (o : Operand) (t : ℕ)
       → IsTop (run P I n) f fs → operand_level P L f.function o ≡ Some t → t ≤ 32
       → value_of P.globals I.base f.registers o < I.base

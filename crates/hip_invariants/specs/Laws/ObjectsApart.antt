@@ -21,7 +21,7 @@ use Rattle.hip_invariants.specs.StackShape.{lie_between, lie_in_order}
 use Rattle.hip_invariants.specs.Laws.GlobalAddresses.{ends_before_end, starts_after, one_after_another}
 use Rattle.hip_invariants.specs.Laws.StackShape.{higher, lower, stack_is_shaped}
 
--- The address is that of one of n bytes.
+-- The address is one of the addresses of a range.
 record IsInside (at size a : ℕ) : Type 0 where
   from : at ≤ a
   to : a < at + size
@@ -34,7 +34,7 @@ inside at size a e =
 -- ---- globals
 
 module _ (P : Program) (s : IsSound P) (base : ℕ) (is_base : IsBase base) where
-  -- A persistent global lies in the region, another below the stack.
+  -- A persistent global begins at or after the base, and a volatile one ends at or below the stack's start.
   record LiesWithin (persistent : Bool) (at size : ℕ) : Type 0 where
     high : persistent ≡ true → base ≤ at
     low : persistent ≡ false → at + size ≤ stack_start
@@ -59,7 +59,7 @@ module _ (P : Program) (s : IsSound P) (base : ℕ) (is_base : IsBase base) wher
             λ t. omega (arith, ends_before_end false volatile_start P.globals k g q e, s.sizes.volatile);
       }
 
-  -- Of two globals the later one does not contain an address of the earlier one.
+  -- If one of two globals contains an address, a later global does not contain it.
   not_later : (j k a : ℕ) (g h : GlobalVar) → j < k → GlobalHas P base j g a → GlobalHas P base k h a → ⊥
   not_later j k a g h lt x y = go (is_persistent P.globals j) (is_persistent P.globals k) refl refl
       (lies_within j g x.0) (lies_within k h y.0) (inside _ _ a x.1) (inside _ _ a y.1)
@@ -139,7 +139,7 @@ module _ (P : Program) (s : IsSound P) (base : ℕ) (is_base : IsBase base) wher
 
 -- ---- blocks of the stack
 
--- They lie in order as one list.
+-- Two lists of blocks that are in order, one below the other, are in order as one list.
 joined : (low middle high : ℕ) (xs ys : List Slot) → lie_between middle high xs → lie_between low middle ys
     → lie_between low high (xs ++ ys)
 joined low middle high [] ys b c = higher low middle high ys b c
@@ -158,7 +158,7 @@ slot_within low high (y ∷ xs) zero x b q =
 slot_within low high (y ∷ xs) (suc j) x b q = let rest = slot_within low y.addr xs j x b.1 q in
     (rest.0, omega (arith, rest.1, b.0))
 
--- Of two blocks the later one lies below the earlier one.
+-- Of two blocks, the later one in the list is below the earlier one.
 slot_below : (low high : ℕ) (xs : List Slot) (j k : ℕ) (x y : Slot) → lie_between low high xs
     → slice_get xs j ≡ Some x → slice_get xs k ≡ Some y → j < k → y.addr + y.size ≤ x.addr
 slot_below low high [] j k x y b q r lt = cc

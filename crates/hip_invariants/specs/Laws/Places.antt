@@ -1,4 +1,4 @@
--- What stands at a frame's place, in its block and its function.
+-- What is at a frame's place, in its block and its function.
 use Rattle.std.proofs.Common.{◌≡◌, ℕ, true, List, [], ◌∷◌, Option, Some, None, slice_get, refl}
 use Rattle.hip_tree.specs.declared.block.Block.{Block}
 use Rattle.hip_tree.specs.declared.program.Function.{Function}
@@ -8,7 +8,7 @@ use Rattle.hip_runs.specs.Places.{blocks_in, block_at}
 use Rattle.hip_runs.specs.State.{Frame}
 use Rattle.hip_runs.specs.Laws.StepLaws.{has_frame}
 
--- A block that is there is one of a function that is there.
+-- If a block exists, its function exists and has it.
 pub block_there : (P : Program) (g b : ℕ) (block : Block) → block_at P g b ≡ Some block
     → (fn : Function) × IsBlockAt P g b fn block
 block_there P g b block e = go (slice_get P.functions g) refl e

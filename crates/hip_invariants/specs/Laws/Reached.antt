@@ -1,5 +1,5 @@
--- The machine never gets stuck: each frame has come along a path through its function, and each register that is
--- assigned on that path has a value; the next step reads no other; and it traps as unreachable only at an
+-- The machine never gets stuck. Each frame has come along a path through its function, and each register that is
+-- assigned on that path has a value. The next step reads no other register, and traps as unreachable only at an
 -- `unreachable`.
 use Rattle.std.proofs.Common.{◌≡◌, ◌≢◌, ◌⊎◌, ⊎_elim, inl, inr, ℕ, suc, Bool, true, false, cond, nat_eq, List, [], ◌∷◌, ◌++◌, map, take, drop, Option, Some, None, slice_get, option_map, refl, sym, ap, ◌∙◌, subst}
 use Rattle.std.specs.Prelude.{unwrap_or}
@@ -71,7 +71,7 @@ module _ (P : Program) where
   had (Some name) v rs q (inl e) = inr (ap Some e)
   had (Some name) v rs q (inr h) = inl h
 
-  -- After an instruction.
+  -- The place after an instruction is reached.
   next_reached : (g b k : ℕ) (rs rs' : Registers) (waiting : Option (List ℕ)) (i : Instr)
       → (r : IsReached P None g b k rs) → slice_get r.block.body k ≡ Some i →
       ((q : List ℕ) → IsAmong (assigned_names rs) q → has_or_awaits rs' waiting q)
@@ -91,7 +91,7 @@ module _ (P : Program) where
     only = λ q h. ⊎_elim (λ l. r.only q (inl l)) (λ m. by_instr r.fn r.earlier b k r.block i q r.at e m) (new q h);
   }
 
-  -- After the result of a call.
+  -- The place of a frame is still reached when it gets the result of a call.
   returned_reached : (g b k : ℕ) (rs : Registers) (dest : Option (List ℕ)) (v : ℕ) → IsReached P dest g b k rs
       → IsReached P None g b k (assigned dest v rs)
   returned_reached g b k rs dest v r = record {
@@ -106,7 +106,7 @@ module _ (P : Program) where
   }
 
   module _ (s : IsSound P) where
-    -- At the start of a function that is entered.
+    -- The start of a function that is entered is reached.
     pub entry_reached : (g : ℕ) (fn : Function) (rs : Registers) → slice_get P.functions g ≡ Some fn
         → ((q : List ℕ) → IsAmong (names_of (parameter_registers fn)) q → IsAmong (assigned_names rs) q)
         → ((q : List ℕ) → IsAmong (assigned_names rs) q → IsAmong (names_of (parameter_registers fn)) q)

@@ -1,5 +1,5 @@
--- The stack's shape: the blocks and the marks of frames lie in order below the mark; at most 16,384 frames stand; each
--- but the bottom one has the call that made it.
+-- The stack's shape: the blocks and the marks of frames are in order below the mark; there are at most 16,384 frames;
+-- and each frame except the bottom one has the call that made it.
 use Rattle.std.proofs.Common.{◌≡◌, ℕ, zero, suc, ◌+◌, ◌≤◌, ◌<◌, Bool, true, false, cond, List, [], ◌∷◌, length, Option, Some, None, refl, sym, ap, ◌∙◌, subst, arith}
 use Rattle.hip_types.specs.Laws.LayoutLaws.{next-le}
 use Rattle.hip_tree.specs.declared.block.End.{End}
@@ -104,7 +104,7 @@ module _ (P : Program) (I : Input) where
   same_level f h [] e l = e ∙ l
   same_level f h (g ∷ fs) e l = ((l.0.0, e ∙ l.0.1), l.1)
 
-  -- Another frame on top with the same blocks, mark and call.
+  -- The shape stays if the top frame is replaced by a frame with the same call, whose blocks and marks are in order.
   changed : (mark : ℕ) (f h : Frame) (fs : List Frame) → lie_in_order mark (h ∷ fs) → h.level ≡ f.level
       → HasShape mark (f ∷ fs) → HasShape mark (h ∷ fs)
   changed mark f h fs o e s = record {
@@ -209,7 +209,7 @@ module _ (P : Program) (I : Input) where
   }
   run_shaped (suc n) = step_shaped (run P I n) (run_shaped n)
 
--- One level fewer than frames.
+-- There is one level fewer than there are frames.
 levels_fewer : (f : Frame) (fs : List Frame) → have_calls (f ∷ fs) → length (levels_of (f ∷ fs)) ≡ length fs
 levels_fewer f [] l = rw l refl
 levels_fewer f (g ∷ fs) l = rw l.0.1 (ap suc (levels_fewer g fs l.1))
@@ -219,7 +219,7 @@ levels_counted : (fs : List Frame) → has_frame fs ≡ true → have_calls fs
 levels_counted [] h l = cc
 levels_counted (f ∷ fs) h l = ap suc (levels_fewer f fs l)
 
--- In each state of a run.
+-- The stack has the shape in each state of a run.
 pub stack_is_shaped : (P : Program) (I : Input) (n : ℕ) → StackIsShaped (run P I n)
 stack_is_shaped P I n =
     let shape = (run_shaped P I n).is in

@@ -34,7 +34,7 @@ all_then_prefix old mid new s t p q = record {
   rose = subst (λ (n : ℕ). Rose n new.faults) p.faults q.rose;
 }
 
--- A prefix of the first text is one of both.
+-- A prefix of the first text is a prefix of both texts together.
 pub prefix_of_more : (old new : SinkState) (s t : List ℕ) → AppendsPrefix old new s
     → AppendsPrefix old new (s ++ t)
 prefix_of_more old new s t q = record {
@@ -57,7 +57,7 @@ writes_both Failed j k old mid new s t p q =
     let rest : StaysFailed k mid new = subst (λ (x : Put). writes_from x k mid new t) p.answer q in
     record { answer = rest.answer; state = rest.state ∙ p.state }
 
--- Two stages write both texts.
+-- Two stages, one after the other, write both texts together.
 pub and_then : {i j k : Put} {old mid new : SinkState} {s t : List ℕ} → Writes i j old mid s
     → Writes j k mid new t
     → Writes i k old new (s ++ t)

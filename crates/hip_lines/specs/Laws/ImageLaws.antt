@@ -1,4 +1,4 @@
--- Laws of crash images: what store, flush and fence do to them, that more flushing and fencing only takes images away,
+-- Laws of crash images: what a store, a flush and a fence do to them; that more flushes and fences only remove images;
 -- and that the images are exactly the contents of picks.
 use Rattle.std.proofs.Common.{Option, None, ◌≡◌, ◌⊎◌, inl, inr, ℕ, zero, suc, ◌+◌, ◌*◌, ◌/◌, ◌<◌, ◌≤◌, Bool, true, false, cond, List, [], ◌∷◌, ◌++◌, length, take, Some, slice_get, slice_index, refl, sym, ap, ◌∙◌, subst, arith, length-append}
 use Rattle.std.proofs.lemmas.List.{take-append-le}
@@ -6,7 +6,7 @@ use Rattle.hip_lines.specs.Line.{Line, IsOrdered, AreOrdered, with_part, flushed
 use Rattle.hip_lines.specs.Image.{byte_after, IsLineImageAt, IsLineImage, IsImage, parts_of, image_from, image_of, IsPick}
 use Rattle.hip_types.specs.declared.areas.TheConstants.{LINE_SIZE}
 
--- l' has the parts of l, and at least as many of them flushed and durable
+-- Line l' has the parts of l, and at least as many of them are flushed and durable.
 pub record IsAhead {P : Type 0} (l l' : Line P) : Type 0 where
   pub parts : l'.parts ≡ l.parts
   pub durable : l.durable ≤ l'.durable
@@ -14,7 +14,8 @@ pub record IsAhead {P : Type 0} (l l' : Line P) : Type 0 where
   pub ordered : IsOrdered l
   pub ordered_too : IsOrdered l'
 
--- Both lists have as many lines, and each line of the second is ahead of the line at its place in the first.
+-- Both lists have the same number of lines, and each line of the second list is ahead of the line at its place in the
+-- first.
 abbrev pub AreAhead : {P : Type 0} → List (Line P) → List (Line P) → Type 0
 AreAhead [] [] = Unit {0}
 AreAhead (l ∷ ls) (l' ∷ ls') = IsAhead l l' × AreAhead ls ls'
@@ -69,7 +70,7 @@ module _ {P : Type 0} where
     ordered_too = record { durable = omega arith; flushed = a.ordered_too.flushed };
   }
 
-  -- A flush or a fence more.
+  -- One more flush or fence keeps a line ahead.
   pub ahead-more_flushed_line : (l l' : Line P) → IsAhead l l' → IsAhead l (flushed_line l')
   ahead-more_flushed_line l l' a =
       let n = same_length l l' a in
@@ -152,7 +153,7 @@ module _ {P : Type 0} where
   are_ahead_refl [] a = tt
   are_ahead_refl (l ∷ ls) a = (ahead_refl l a.0, are_ahead_refl ls a.1)
 
-  -- The line of ls' that stands where l stands in ls.
+  -- The line of ls' at the place of l in ls.
   pub ahead-at : (ls ls' : List (Line P)) (k : ℕ) (l : Line P) → AreAhead ls ls' → slice_get ls k ≡ Some l
       → (l' : Line P) × (slice_get ls' k ≡ Some l') × IsAhead l l'
   ahead-at [] [] k l a e = absurd (let h : ⊥ = cc in h)
@@ -178,7 +179,7 @@ module _ {P : Type 0} (covers : P → ℕ → Bool) (value : P → ℕ → ℕ) 
     },
   )
 
-  -- Images of lines that are further flushed and fenced are images of the lines.
+  -- If more parts of the lines are flushed and durable, each image of the new lines is an image of the old ones.
   pub image-ahead : (first r : List ℕ) (ls ls' : List (Line P)) → AreAhead ls ls'
       → IsImage covers value first ls' r
       → IsImage covers value first ls r
@@ -303,7 +304,7 @@ module _ {P : Type 0} (covers : P → ℕ → Bool) (value : P → ℕ → ℕ) 
     );
   }
 
-  -- And every image is the content of a pick.
+  -- Every image is the content of a pick.
 
   get_there : (ls : List (Line P)) (j : ℕ) → j < length ls → (l : Line P) × (slice_get ls j ≡ Some l)
   get_there [] j h = absurd (omega arith)
@@ -313,7 +314,7 @@ module _ {P : Type 0} (covers : P → ℕ → Bool) (value : P → ℕ → ℕ) 
   some_line : (l l' : Line P) (o : Option (Line P)) → o ≡ Some l → o ≡ Some l' → l ≡ l'
   some_line l l' o e f = cc
 
-  -- The number of parts that an image has of the line that stands at a place.
+  -- How many parts of the line at a place an image has.
   pick_by : (first r : List ℕ) (ls : List (Line P)) → IsImage covers value first ls r
       → (j : ℕ) (o : Option (Line P))
       → slice_get ls j ≡ o → ℕ

@@ -36,12 +36,12 @@ get-push_other [] (suc k) x ne = refl
 get-push_other (y ∷ xs) zero x ne = refl
 get-push_other (y ∷ xs) (suc k) x ne = get-push_other xs k x (λ e. ne (ap suc e))
 
--- The item that was read is the one at that place.
+-- An item that was read at a place is the item at that place.
 pub get-read : {A : Type 0} (xs : List A) (i : ℕ) (x : A) → i < length xs → x ≡ get_or xs i x
     → slice_get xs i ≡ Some x
 get-read xs i x h e = slice_get-get_or xs i x h ∙ ap (λ y. Some y) (sym e)
 
--- From an answer's fact to what follows from it.
+-- If the answer is `Ok`, what follows from its fact holds too.
 pub on_ok_map : {A E P Q : Type 0} (r : Result A E) → (P → Q) → OnOk r P → OnOk r Q
 on_ok_map (Ok x) f p = f p
 on_ok_map (Err e) f p = tt

@@ -1,5 +1,5 @@
--- Laws of lines: how a change of some lines is seen line by line and through a function, and which lines a range
--- reaches.
+-- Laws of lines: what a change of some lines does to each line, what it does to the lines with a function applied to
+-- each, and which lines a range reaches.
 use Rattle.std.proofs.Common.{◌≡◌, ℕ, zero, suc, ◌+◌, ◌/◌, ◌-◌, ◌<◌, ◌≤◌, Bool, true, false, cond, List, [], ◌∷◌, length, map, Some, option_map, slice_get, refl, sym, ap, ap₂, ◌∙◌, subst, arith, length-append}
 use Rattle.std.proofs.lemmas.List.{map-append, length-map}
 use Rattle.std.proofs.lemmas.Bool.Decides.{nat_tests}
@@ -8,17 +8,17 @@ use Rattle.hip_types.specs.declared.areas.TheConstants.{LINE_SIZE}
 
 -- ---- which lines a range reaches
 
--- A byte of the range lies in the part of its line.
+-- A byte of the range is in the part of its line.
 pub has_bytes-of_byte : (o n b : ℕ) → o ≤ b → b < o + n → (has_bytes (b / LINE_SIZE) o n ≡ true)
     × (start_in (b / LINE_SIZE) o ≤ b) × (b < end_in (b / LINE_SIZE) o n)
 has_bytes-of_byte o n b h k = (grind (arith, nat_tests), omega arith, omega arith)
 
--- And a byte of a line's part of the range lies in the range and in that line.
+-- A byte of a line's part of the range is in the range and in that line.
 pub byte-of_part : (o n j b : ℕ) → start_in j o ≤ b → b < end_in j o n → (o ≤ b) × (b < o + n)
     × (b / LINE_SIZE ≡ j)
 byte-of_part o n j b h k = (omega arith, omega arith, omega arith)
 
--- A range reaches no line outside those of its first and last byte.
+-- A range reaches only the lines from the line of its first byte up to the line of its last byte.
 pub has_bytes-other : (o n j : ℕ) → has_bytes j o n ≡ true → (o / LINE_SIZE ≤ j)
     × (j ≤ (o + n - 1) / LINE_SIZE)
     × (0 < n)
@@ -48,7 +48,7 @@ module _ {L : Type 0} (f : ℕ → L → L) (o n : ℕ) where
       slice_get-change_from 0 ls k ∙ ap (λ i. option_map (λ l. cond (has_bytes i o n) (f i l) l) (slice_get ls k))
       (let e : 0 + k ≡ k = omega arith in e)
 
--- Changed lines seen through a function g are the seen lines changed.
+-- To change lines and then apply a function g to each is to apply g first and then make the matching change.
 pub map-change_from : {L M : Type 0} (g : L → M) (f : ℕ → L → L) (f' : ℕ → M → M) (o n : ℕ)
     → ((j : ℕ) (l : L) → g (f j l) ≡ f' j (g l)) → (j : ℕ) (ls : List L)
     → map g (change_from f o n j ls) ≡ change_from f' o n j (map g ls)

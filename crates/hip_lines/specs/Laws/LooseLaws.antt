@@ -7,7 +7,7 @@ use Rattle.hip_lines.specs.Loose.{IsLastOver, IsLooseBy, IsLoose, later, last_ov
 some_same : {A : Type 0} (x y : A) (o : Option A) → o ≡ Some x → o ≡ Some y → x ≡ y
 some_same x y o p q = cc
 
--- Places of an append.
+-- The items of two appended lists, by their places.
 pub get-append_left : {A : Type 0} (xs ys : List A) (k : ℕ) → k < length xs
     → slice_get (xs ++ ys) k ≡ slice_get xs k
 get-append_left [] ys k h = absurd (omega arith)
@@ -56,7 +56,7 @@ module _ {P : Type 0} (covers : P → ℕ → Bool) where
   abbrev pub IsBare : List P → ℕ → Type 0
   IsBare ps b = (j : ℕ) (y : P) → slice_get ps j ≡ Some y → covers y b ≡ false
 
-  -- A find is right: the last part over the byte, or none where no part covers it.
+  -- The result of a search is right: it is the last part over the byte, or `None` if no part covers the byte.
   abbrev pub Finds : List P → ℕ → Option (ℕ × P) → Type 0
   Finds ps b None = IsBare ps b
   Finds ps b (Some (k, x)) = IsLastOver covers ps b k x
@@ -106,8 +106,8 @@ module _ {P : Type 0} (covers : P → ℕ → Bool) where
       here true = refl
       here false = refl
 
-  -- A byte is loose exactly where the parts that are not durable have a last one over it; its place counts from the
-  -- durable number.
+  -- A byte is loose exactly if one of the parts that are not durable covers it. The place of the last such part is
+  -- counted from the durable number.
   pub loose-drop : (l : Line P) (b k : ℕ) (x : P) → IsLastOver covers (drop l.durable l.parts) b k x
       → IsLooseBy covers l b (l.durable + k) x
   loose-drop l b k x h =
@@ -154,7 +154,7 @@ module _ {P : Type 0} (covers : P → ℕ → Bool) where
           → covers y b ≡ false
       after j y lt e = absurd (omega (arith, get-below (l.parts ++ x ∷ []) j y e, length-append l.parts (x ∷ [])))
 
-  -- Where it does not, the byte is loose as before, by the same part.
+  -- If the new part does not cover the byte, the byte is loose as before, by the same part.
   pub loose-with_part_beside : (x : P) (l : Line P) (b k : ℕ) (y : P) → covers x b ≡ false
       → IsLooseBy covers l b k y
       → IsLooseBy covers (with_part x l) b k y

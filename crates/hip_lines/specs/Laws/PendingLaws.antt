@@ -40,7 +40,8 @@ pending-fenced_line l h =
     ∙ sym (drop-drop l.durable (l.flushed - l.durable) l.parts))
     (let e : l.flushed - l.flushed ≡ 0 = omega arith in e)
 
--- The same for all lines.
+-- If a change of each line is matched by a change of its pending parts, this holds for the changed lines of a range
+-- too.
 pub pending-change_from : {P : Type 0} (f : ℕ → Line P → Line P) (f' : ℕ → Pending P → Pending P)
     (o n : ℕ)
     → ((j : ℕ) (l : Line P) → IsOrdered l → pending_of (f j l) ≡ f' j (pending_of l))
@@ -60,7 +61,8 @@ pending-fenced [] a = refl
 pending-fenced (l ∷ ls) a = ap₂ (λ w ws. w ∷ ws) (pending-fenced_line l a.0) (pending-fenced ls a.1)
 
 module _ {P : Type 0} (covers : P → ℕ → Bool) where
-  -- The last pending part over a byte is the part that makes it loose; the byte is not loose where there is none.
+  -- The last pending part over a byte is the part that makes it loose. If no pending part covers the byte, it is not
+  -- loose.
   pub pending-loose : (l : Line P) (b : ℕ) → MatchOption (last_over covers b (pending_of l).parts)
       (IsLoose covers l b → ⊥) (λ f. IsLooseBy covers l b (l.durable + f.0) f.1)
   pending-loose l b =

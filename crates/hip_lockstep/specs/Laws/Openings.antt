@@ -83,7 +83,7 @@ stops_here P bytes es rest kind spells head s = record {
       (refl, subst (λ p. StopsAt true p kind) (sym (after_stated es rest)) s));
 }
 
--- The pieces of a front are the whole header, which has fewer than two entries.
+-- All pieces of a front are valid in the header, which stops after them.
 all_of_header : (P : Program) (es : List Entry) (xs last : List (Option Entry))
     → ((ys zs : List (Option Entry)) → stated es ≡ ys ++ zs → header P ys ≡ Stops (length ys))
     → stated es ≡ xs ++ last → header P xs ≡ Stops (length xs)
@@ -134,7 +134,7 @@ module _ (P : Program) (start : CabinetState) (es : List Entry) (r : ReaderState
   }
   start_missing r' s' refusals.NoMemory h = absurd h
 
--- The second entry is not valid.
+-- If the header stops at the last entry that was read, the entry differs.
 pub start_differs : (P : Program) (start : CabinetState) (es : List Entry) (e : Entry) (r : ReaderState)
     (s : CabinetState) → HasReadEntries start r s (es ++ e ∷ [])
     → ((rest : List (Option Entry)) → header P (stated es ++ Some e ∷ rest) ≡ Stops (length es))

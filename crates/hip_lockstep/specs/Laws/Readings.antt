@@ -1,4 +1,4 @@
--- The entries that a reader has read of a file, one more at a time.
+-- The entries that a reader has read of a file, one after another.
 use Rattle.std.proofs.Common.{◌≡◌, ◌⊎◌, inl, inr, ℕ, ◌+◌, ◌^◌, ◌<◌, ◌≤◌, Bool, true, false, List, [], ◌∷◌, ◌++◌, length, map, Option, Some, None, IfSome, nat_lt, refl, sym, ap, ◌∙◌, subst, arith, append-nil, append_assoc, length-append}
 use Rattle.std.specs.Prelude.{if◌then◌else◌, option_map}
 use Rattle.std.specs.List.{list_any}
@@ -173,7 +173,7 @@ next_read start s s' r r' es e few h n = record {
       (λ bytes at read. next_piece bytes es e n.piece n.spells (ahead r s) (ahead r' s') read n.taken);
 }
 
--- Before the first entry.
+-- A new reader has read no entries.
 pub nothing_read : (start : CabinetState) (r : ReaderState)
     → r ≡ record { held = []; count = 0; progress = Reading } → start.is_current ≡ true
     → HasReadEntries start r start []
@@ -220,7 +220,7 @@ empty_front : (held rest : List ℕ) → [] ≡ held ++ rest → held ≡ []
 empty_front [] rest e = refl
 empty_front (b ∷ bs) rest e = absurd (let z : ⊥ = cc in z)
 
--- The bytes that were taken, of which the last ones are no piece yet.
+-- The bytes that were taken, the last of which are not a whole piece yet, spell a front of the entries.
 pub read_front : (bytes : List ℕ) (es : List Entry) (o : Option (List ℕ)) (h : IsRead bytes es o)
     (held rest : List ℕ) → h.left ≡ held ++ rest → pieces false held ≡ [] → (last : List (Option Entry))
     × (stated es ≡ spelled false (h.text ++ held) ++ last)

@@ -66,7 +66,7 @@ no_entry_goes_on e q = go (ending_by e) refl
     go None h = h
     go (Some x) h = absurd (let there = end_has_entry e x h in let z : ⊥ = cc in z)
 
--- The run's trace has an entry after those of some steps.
+-- The run's trace has more entries than those of the first n steps.
 pub record HasMoreEntries (P : Program) (I : Input) (n : ℕ) : Type 0 where
   pub next : Entry
   pub more : List Entry
@@ -133,7 +133,7 @@ more_entries P I n going =
 
 -- ---- what a file spells
 
--- No entry is spelled first.
+-- The list does not begin with an entry: it is empty, or its first piece spells none.
 abbrev pub IsUnspelled : List (Option Entry) → Type 0
 IsUnspelled [] = Unit {0}
 IsUnspelled (None ∷ rest) = Unit {0}

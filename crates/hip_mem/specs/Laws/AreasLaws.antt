@@ -27,7 +27,7 @@ pub is_in-bounds : (start : ℕ) (xs : List ℕ) (a : ℕ) → is_in start xs a 
     × (a < start + length xs)
 is_in-bounds start xs a h = grind (arith, nat_tests)
 
--- The same addresses are in an area after its content was replaced by one of the same length.
+-- Two lists of bytes of the same length cover the same addresses.
 pub is_in-length : (start : ℕ) (xs ys : List ℕ) (a : ℕ) → length ys ≡ length xs
     → is_in start ys a ≡ is_in start xs a
 is_in-length start xs ys a e = ap (λ n. nat_le start a && nat_lt a (start + n)) e
@@ -88,7 +88,7 @@ byte_in-after_write w r a v =
         absurd (let p = x.0 in let q = y.0 in let s = z.0 in let e : is_valid r a ≡ false = rw (p, q, s) refl in
         let n : ⊥ = cc in n)
 
--- The last write comes last.
+-- A write at the end of the list changes the byte that the earlier writes give.
 pub byte_from-append : (ws : List Write) (w : Write) (a first : ℕ)
     → byte_from (ws ++ w ∷ []) a first ≡ byte_written w a (byte_from ws a first)
 byte_from-append [] w a first = refl
@@ -210,7 +210,7 @@ zeros_written addr n a old h k = go (covered_or_not (record { addr = addr; bytes
 abbrev pub push_write : ℕ → Areas → Write
 push_write mark r = record { addr = mark_of r; bytes = zeros (mark - mark_of r) }
 
--- The areas lie apart, in this order.
+-- The areas do not overlap. The volatile globals come first, then the stack, then the region.
 pub record AreApart (r : Areas) : Type 0 where
   pub volatile : volatile_start + length r.volatile ≤ stack_start
   pub stack : mark_of r ≤ stack_end

@@ -35,7 +35,7 @@ bytes_of-below zero v i = omega arith
 bytes_of-below (suc n) v zero = omega arith
 bytes_of-below (suc n) v (suc i) = bytes_of-below n (v / 256) i
 
--- n bytes are the n low bytes of their number
+-- A list of n bytes consists of the n low bytes of its number.
 pub bytes_of-little_endian : (bs : List ℕ) → ((i : ℕ) → slice_index bs i < 256)
     → bytes_of (length bs) (little_endian bs) ≡ bs
 bytes_of-little_endian [] h = refl

@@ -15,7 +15,7 @@ module _ {A : Type 0} (same : A → A → Bool) where
   met-append xs [] zs = refl
   met-append xs (y ∷ ys) zs = met-append (cond (list_any (same y) xs) xs (xs ++ y ∷ [])) ys zs
 
-  -- The list has what the items up to k give, and those after k give the rest.
+  -- The step for item k: the list gets what item k gives, and the items after it are left.
   pub met-next : {B : Type 0} (f : B → List A) (seen : List A) (items : List B) (k : ℕ) (x : B) → k < length items
       → x ≡ get_or items k x →
       met same (met same seen (f x)) (flat_map f (drop (k + 1) items)) ≡ met same seen (flat_map f (drop k items))
@@ -24,7 +24,7 @@ module _ {A : Type 0} (same : A → A → Bool) where
       ∙ ap (λ y. met same seen (f y ++ flat_map f (drop (k + 1) items))) e
       ∙ sym (at_drop_more (λ ys. met same seen (flat_map f ys)) items k x h)
 
--- A set of names has exactly the names that were put into it.
+-- A set of names has exactly the names that are put into it.
 pub met-alike : (names : List (List ℕ)) → (q : List ℕ) → is_among (met bytes_eq [] names) q ≡ is_among names q
 met-alike names q =
     both_ways _ _ (λ e. ⊎_elim (λ none. cc) (λ there. there) (met-only nat_list_eq_equiv q [] names e))

@@ -100,7 +100,7 @@ number_of-known (x ∷ xs) name (suc k) e = by_first (bytes_eq name x) refl (num
     by_first true t rest = (0, at_first true name x xs t)
     by_first false t rest = (suc rest.0, number_later x xs name rest.0 t rest.1)
 
--- Its number is a place that has it, if no earlier place has it.
+-- If a place has a name and no earlier place has it, the place is the number of the name.
 pub number_of-first : (xs : List (List ℕ)) (name : List ℕ) (k : ℕ) → slice_get xs k ≡ Some name
     → ((j : ℕ) → j < k → ¬ (slice_get xs j ≡ Some name)) → number_of xs name ≡ Some k
 number_of-first xs name k e none =
@@ -111,7 +111,8 @@ number_of-first xs name k e none =
     (eq-or-lt_of_le least) in
     found.1 ∙ ap Some same
 
--- A name that is not in the first list has its number after the numbers of that list.
+-- In two lists one after the other, the number of a name that is not in the first is its number in the second, plus the
+-- length of the first.
 pub number_of-past : (xs ys : List (List ℕ)) (name : List ℕ) (k : ℕ) → number_of ys name ≡ Some k
     → ((j : ℕ) → ¬ (slice_get xs j ≡ Some name)) → number_of (xs ++ ys) name ≡ Some (length xs + k)
 number_of-past [] ys name k e none = e ∙ ap Some (sym (zero-add k))

@@ -60,7 +60,7 @@ first_frame : (fs : List Frame) → has_frame fs ≡ true → (f : Frame) × (gs
 first_frame [] e = absurd (let z : ⊥ = cc in z)
 first_frame (f ∷ fs) e = (f, fs, refl)
 
--- note_check, note_memory, note_marks, note_hit and count, one after the other
+-- The functions `note_check`, `note_memory`, `note_marks`, `note_hit` and `count` were called, one after the other.
 pub record Did (P : Program) (I : Input) (c0 c1 c2 c3 c4 c5 : Notes) (lines : List (Waiting Part)) (base region : ℕ) (e : Event) (site : Option Site) (ahead : List Mark) : Type 0 where
   pub stated : Reported (checked_range base region e) (births_of c0.calls) (c0.entries + 1) c0.fence c0.pending lines c0.reports c1.reports
   pub r1 : c1 ≡ record c0 { reports = c1.reports }
@@ -74,7 +74,7 @@ pub record Did (P : Program) (I : Input) (c0 c1 c2 c3 c4 c5 : Notes) (lines : Li
   pub r4 : c4 ≡ record c3 { hit = c4.hit; flags = c4.flags }
   pub r5 : c5 ≡ record c4 { steps = c4.steps + 1; entries = cond (has_entry e) (c4.entries + 1) c4.entries; fence = cond (fences e) (Some c4.steps) c4.fence }
 
--- The calls stood after fewer steps than these.
+-- Calls that stood after n steps or fewer stood after n + 1 steps or fewer.
 pub stood_next : (P : Program) (I : Input) (n : ℕ) (calls : List Level) → Stood P I n calls → Stood P I (suc n) calls
 stood_next P I n calls s = record { steps = s.steps; few = (let le = s.few in omega (arith, le)); are = s.are }
 
@@ -222,7 +222,7 @@ forgotten P I n region c c' h e k r = subst (λ (x : Notes). AreNoted P I n x) (
 
 -- ---- the calls are looked at
 
--- The calls that stand now.
+-- The standing calls after n steps stood after n steps or fewer.
 pub stood_now : (P : Program) (I : Input) (n : ℕ) (calls : List Level) → calls ≡ levels_of (run P I n).frames → Stood P I n calls
 stood_now P I n calls e = record { steps = n; few = omega arith; are = e }
 

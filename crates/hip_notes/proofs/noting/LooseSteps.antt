@@ -10,7 +10,7 @@ use Rattle.hip_runs.specs.State.{Flush, StorePart}
 use Rattle.hip_notes.specs.Standing.{IsLooseAt}
 use Rattle.hip_runs.specs.StoredParts.Persistence.{fence_line, fenced_lines, flush_line, noted_fence, noted_flush}
 
--- Where one line of the lines is, another was before.
+-- If an option has a value after a change, it had one before.
 was_there : {A : Type 0} (f : A → A) (o : Option A) (y : A) → option_map f o ≡ Some y → (x : A) × (o ≡ Some x) × (f x ≡ y)
 was_there f None y e = absurd (let z : ⊥ = cc in z)
 was_there f (Some x) y e = (x, refl, (let z : f x ≡ y = cc in z))

@@ -1,5 +1,5 @@
--- Which calls stand after some steps of a run, beside those that stood after fewer: calls of one birth at the same
--- distance from the bottom are the same, with the same calls outside of them.
+-- The standing calls after some steps of a run, compared with those after fewer steps: two calls with one birth, at the
+-- same distance from the bottom, are the same call, and have the same calls outside of them.
 use Rattle.std.proofs.Common.{◌≡◌, ℕ, zero, suc, ◌+◌, ◌-◌, ◌≤◌, ◌<◌, List, [], ◌∷◌, length, drop, Option, Some, None, slice_get, refl, sym, ap, ◌∙◌, subst, arith}
 use Rattle.std.proofs.lemmas.Option.{same_Some}
 use Rattle.hip_tree.specs.declared.program.Program.{Program}
@@ -13,8 +13,8 @@ use Rattle.hip_runs.specs.StoredParts.History.{AreDescending}
 
 -- ---- what a step does to the calls
 
--- Calls before and after a step, which counts from this number on: they stay, a new one is inside of them, or the
--- innermost one ends.
+-- The calls before and after a step that has this number of steps before it: they stay, a new call is inside of them,
+-- or the innermost one ends.
 data CallsMove (steps : ℕ) (ls ls' : List Level) : Type 0 where
   stay : ls' ≡ ls → CallsMove steps ls ls'
   enter : (l : Level) → l.birth ≡ steps → ls' ≡ l ∷ ls → CallsMove steps ls ls'
@@ -44,7 +44,8 @@ calls_move P s s' (returns f g g' fs p q k c) = go f.level refl
 
 -- ---- calls of one birth
 
--- Calls of one birth in both lists, at the same distance from the ends, are the same, with the same calls after them.
+-- Two calls with one birth, one in each list, at the same distance from the ends, are the same call, and have the same
+-- calls after them.
 abbrev pub SameOnes : List Level → List Level → Type 0
 SameOnes old new = (a b : ℕ) (l m : Level) → length old + b ≡ length new + a → slice_get old a ≡ Some l
     → slice_get new b ≡ Some m → l.birth ≡ m.birth → drop a old ≡ drop b new
@@ -66,11 +67,11 @@ none_left : (ls : List Level) → drop (length ls) ls ≡ []
 none_left [] = refl
 none_left (x ∷ ls) = none_left ls
 
--- Outside of all calls there is none.
+-- Nothing is left of either list after all its calls.
 pub same_bottom : (old new : List Level) → drop (length old) old ≡ drop (length new) new
 same_bottom old new = none_left old ∙ sym (none_left new)
 
--- A call that began no earlier is none of the old ones.
+-- A call that began after all old ones is none of them.
 ones_enter : (old new : List Level) (start : ℕ) → AreBefore start old → (x : Level) → start ≤ x.birth → SameOnes old new
     → SameOnes old (x ∷ new)
 ones_enter old new start h x late k a zero l m d p q e =
@@ -124,7 +125,7 @@ module _ (P : Program) (I : Input) (then : ℕ) where
             (calls_move P (run P I n) (run P I (suc n)) moves) h.ones;
       }
 
-  -- Calls of one birth that stood after some steps and stand after more, at the same distance from the bottom, are the
-  -- same, with the same calls outside of them.
+  -- Two calls with one birth, one after some steps and the other after more, at the same distance from the bottom, are
+  -- the same call, and have the same calls outside of them.
   pub same_birth : (n : ℕ) → then ≤ n → SameOnes Old (levels_of (run P I n).frames)
   same_birth n le = (later (n - then) n (let z : n ≡ n - then + then = omega (arith, le) in z)).ones

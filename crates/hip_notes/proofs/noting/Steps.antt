@@ -75,7 +75,7 @@ module _ (P : Program) (I : Input) (n : ℕ) (going : has_ended (run P I n) ≡ 
   abbrev E : Event
   E = event P I (run P I n)
 
-  -- A step with a store stands at a site, which is seen.
+  -- A step that stores is at the site that is seen.
   pub at_store : (f : Frame) (fs : List Frame) → Now.frames ≡ f ∷ fs → (a v m : ℕ) → E ≡ events.Store a v m → next_site P Now ≡ Some (site_of f)
   at_store f fs q a v m e =
       let t : Stated (events.Store a v m) (instr_of P (site_of f)) = subst (λ (x : Event). Stated x (instr_of P (site_of f))) e (site_stated P I Now (site_of f) (ap since.top_site q)) in

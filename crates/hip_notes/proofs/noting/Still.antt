@@ -61,7 +61,7 @@ nothing_hit events.Fence s P I hs = refl
 nothing_hit (events.Assert a n) s P I hs = refl
 nothing_hit (events.End x) s P I hs = refl
 
--- A step that shows nothing except what it prints has no entry.
+-- A step that is quiet or prints changes only the count of steps.
 pub still_counted : (e : Event) → is_still e ≡ true → (c : Notes)
     → record c { steps = c.steps + 1 } ≡ record c { steps = c.steps + 1; entries = cond (has_entry e) (c.entries + 1) c.entries; fence = cond (fences e) (Some c.steps) c.fence }
 still_counted events.Quiet s c = refl
@@ -135,7 +135,7 @@ pub record IsPlainAt (P : Program) (I : Input) (n : ℕ) : Type 0 where
   pub quiet : event P I (run P I n) ≡ events.Quiet
   pub pointer : (operand : ℕ) → pointer_of P I (run P I n) operand ≡ None
 
--- The notes after k plain steps more.
+-- The notes after k more plain steps.
 pub plain_steps_noted : (P : Program) (I : Input) (n k : ℕ) → ((j : ℕ) → j < k → IsPlainAt P I (n + j)) → (c : Notes) → AreNoted P I n c → AreNoted P I (n + k) (record c { steps = c.steps + k })
 plain_steps_noted P I n zero plain c h =
     let steps : c.steps ≡ c.steps + 0 = omega arith in
@@ -148,7 +148,7 @@ plain_steps_noted P I n (suc k) plain c h =
     (subst (λ (x : Notes). AreNoted P I (suc (n + k)) x) (ap (λ i. record c { steps = i }) steps)
     (plain_noted P I (n + k) at.going at.quiet at.pointer (record c { steps = c.steps + k }) (plain_steps_noted P I n k (λ j lt. plain j (omega (arith, lt))) c h)))
 
--- They can be counted.
+-- The count of steps after k more plain steps fits 128 bits.
 pub plain_steps_few : (P : Program) (I : Input) (n k : ℕ) → ((j : ℕ) → j < k → IsPlainAt P I (n + j)) → (c : Notes) → AreNoted P I n c
     → IsBounded P I (n + k) → I.limit ≤ 2 ^ 40 → longest P < 2 ^ 64 → c.steps + k < 2 ^ 128
 plain_steps_few P I n k plain c h bounded limit short =

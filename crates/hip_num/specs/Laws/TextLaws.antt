@@ -16,11 +16,11 @@ use Rattle.hip_num.specs.Texts.{hexadecimal, is_nonempty, are_digits, is_number,
 
 -- ---- what the tests decide
 
--- One or more digits to a base, of a number below 2 ^ 64: what `is_number` decides.
+-- The text is one or more digits to a base, of a number below 2 ^ 64. `is_number` decides this.
 abbrev pub IsNumber : ℕ → List ℕ → Type 0
 IsNumber base text = IsNumeral base text × (digits_value base text < 2 ^ 64)
 
--- One or more decimal digits, after a `-` or none, of a number from -2 ^ 63 to 2 ^ 63 - 1.
+-- The text is one or more decimal digits, with or without a `-` before them, of a number from -2 ^ 63 to 2 ^ 63 - 1.
 abbrev pub IsSignedNumber : List ℕ → Type 0
 IsSignedNumber text = IsNumeral 10 (signed_digits text) × FitsSigned w64 (signed_value text)
 
@@ -54,7 +54,7 @@ number-sound base text e =
 pub number-whole : (base : ℕ) (text : List ℕ) → IsNumber base text → is_number base text ≡ true
 number-whole base text h = both_true (digits-whole base text h.0) (lt-ltb _ _ h.1)
 
--- A number in a range fits the range's width.
+-- A number that passes the test of the range for 2 ^ 63 fits 64 bits with a sign.
 pub range-sound : (z : ℤ) → in_range (2 ^ 63) z ≡ true → FitsSigned w64 z
 range-sound (pos n) e = let h = ltb-true _ _ e in search (rules, h)
 range-sound (negsuc n) e = let h = ltb-true _ _ e in search (rules, h)
@@ -72,7 +72,7 @@ decimal-value n h = (decimal_is_IsNumeral n h).1
 pub decimal-number : (n : ℕ) → n < 2 ^ 64 → IsNumber 10 (decimal n)
 decimal-number n h = ((decimal_is_IsNumeral n h).0, omega (arith, decimal-value n h))
 
--- So does its hexadecimal text.
+-- The hexadecimal digits of a number read as the number.
 hexadecimal_is : (n : ℕ) → n < 2 ^ 64 → IsNumeral 16 (digits 16 false n)
     × (digits_value 16 (digits 16 false n) ≡ n)
 hexadecimal_is n h = digits_is_IsNumeral 16 false (omega arith) (omega arith) n (omega arith)
@@ -97,7 +97,7 @@ signed_value-numeral ds h = rw (has_minus-numeral ds h) refl
 pub signed_digits-numeral : (ds : List ℕ) → IsNumeral 10 ds → signed_digits ds ≡ ds
 signed_digits-numeral ds h = rw (has_minus-numeral ds h) refl
 
--- And the text of a number with a sign reads as the number.
+-- The decimal text of a number with a sign reads as the number.
 pub signed_decimal-value : (z : ℤ) → FitsSigned w64 z → signed_value (signed_decimal z) ≡ z
 signed_decimal-value (pos n) h =
     let small : n < 2 ^ 64 = omega arith in

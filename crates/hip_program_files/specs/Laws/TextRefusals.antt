@@ -19,7 +19,7 @@ same_end (x ∷ v) [] a b e same =
     absurd (let long = ap length e in omega (arith, long, same, length-append (x ∷ v) a))
 same_end (x ∷ v) (y ∷ w) a b e same = same_end v w a b (let tails : v ++ a ≡ w ++ b = cc in tails) same
 
--- Different faults give different refusals.
+-- Faults that are not different are equal.
 stable : (a b : Fault) → ((a ≡ b → ⊥) → ⊥) → a ≡ b
 stable faults.Syntax faults.Syntax h = refl
 stable faults.Unsupported faults.Unsupported h = refl

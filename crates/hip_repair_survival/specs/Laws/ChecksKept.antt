@@ -37,7 +37,7 @@ going_of P I s range e = by s.world.ending refl e
     by None h q = h
     by (Some x) h q = absurd (let z : ⊥ = cc in z)
 
--- And the state checks the range that its event says.
+-- The state checks the range that its event gives.
 next_is : (P : Program) (I : Input) (s : State) → s.world.ending ≡ None
     → next_check P I s ≡ checked_by I (event P I s)
 next_is P I s going = ap (λ (o : Option Ending). cond (is_some o) None (checked_by I (event P I s))) going

@@ -60,8 +60,8 @@ same_place ls ls' same m k t h = go (slice_get ls m) refl h
           subst (λ o. HasPlace o k x.0.step) (sym r.1) (record { part = x.0; there = x.1; step_is = refl }),
         )
 
--- A byte that is loose in one line is loose in the other by the part at the same place, if no more of the other's parts
--- are durable.
+-- If the second line has at most as many durable parts as the first, a byte that is loose in the first line is loose in
+-- the second by the part at the same place.
 same_loose : (l l' : Line StorePart) → contents l' ≡ contents l → l'.durable ≤ l.durable
     → (b k : ℕ) (x : StorePart)
     → IsLooseBy covers l b k x → (x' : StorePart) × IsLooseBy covers l' b k x'

@@ -1,4 +1,4 @@
--- What the plan for a run's findings has of what a report asks for.
+-- The plan for a run's findings has what a report needs.
 use Rattle.std.proofs.Common.{◌≡◌, ◌⊎◌, inl, inr, ℕ, zero, suc, ◌+◌, ◌<◌, ◌≤◌, Bool, true, false, cond, ◌||◌, nat_eq, List, [], ◌∷◌, ◌++◌, map, length, Some, slice_get, refl, sym, ap, ◌∙◌, subst, arith}
 use Rattle.std.specs.List.{flat_map, range_with_len}
 use Rattle.std.proofs.lemmas.Bool.Decides.{nat_tests}
@@ -31,7 +31,7 @@ module _ (P : Program) (plan : Plan) (found : Findings) (contains : Contains pla
 
 -- ---- the chosen level
 
--- A level of the path: 0, or one after a call that may be chosen.
+-- The level is that of a call of the path that may be chosen.
 abbrev pub IsLevel : ℕ → ℕ → List Site → ℕ → Type 0
 IsLevel first more path level = (k : ℕ) × (k < more) × (k < length path) × (level ≡ first + k)
 
@@ -84,7 +84,7 @@ call_at (l ∷ closed) ls (suc k) h = let r = call_at closed ls k (omega arith) 
 in_closed : (closed ls : List Level) (v : Level) → In v closed → In v (closed ++ ls)
 in_closed closed ls v i = append-left closed ls v i
 
--- A call that stands is open.
+-- A call that has not returned is open.
 pub in_open : (standing : List Level) (v : Level) → In v standing → is_open standing v ≡ true
 in_open [] v i = absurd i
 in_open (l ∷ ls) v (inl e) = let q : nat_eq l.birth v.birth ≡ true = subst (λ (x : Level). nat_eq x.birth v.birth ≡ true) e (let z : nat_eq v.birth v.birth ≡ true = grind (arith, nat_tests) in z) in rw q refl
@@ -94,7 +94,7 @@ in_open (l ∷ ls) v (inr i) = go (nat_eq l.birth v.birth) (in_open ls v i)
     go true h = refl
     go false h = h
 
--- Where a level after a call is chosen, that call has returned.
+-- The call at this place of the path has returned.
 pub record IsReturned (standing levels : List Level) (k : ℕ) : Type 0 where
   pub call : Level
   pub of : In call levels

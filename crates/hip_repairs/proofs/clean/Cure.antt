@@ -324,7 +324,7 @@ module _ (P : Program) (plan : Plan) (found : Findings) (contains : Contains pla
         go [] e j = absurd j
         go (q ∷ qs) e j = cured_here q qs e j
 
-  -- So nothing is loose in the lines across.
+  -- So no part is loose in the lines of the repaired program.
   pub none_loose : (ls' : Lines) → Ahead s.lines ls' → AllKept plan up (Known s.lines) s.lines ls' → (made : ℕ) → loose_parts range.offset range.size ls' made ≡ []
   none_loose ls' ahead kept made =
       none_of_lines plan up (Known s.lines) range.offset range.size (λ m q. In q (loose m)) s.lines ls' ahead kept history.flushed (λ m q i. i)

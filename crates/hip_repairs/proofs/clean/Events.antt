@@ -188,7 +188,7 @@ module _ (P : Program) (plan : Plan) (skip : Site → Bool) (I : Input) (good : 
         (subst (λ (is : List Instr). Suits (is_inserted (pend ++ more)) (event_by (end_at P frame) is) (event_by' (end_at P frame) (instrs_of (pend ++ more)))) (sym e)
         (ready_suits (end_at P frame) pend range fenced r)))))
 
-  -- At a state that has not ended.
+  -- What the two programs check next, at a state that has not ended.
   pub record Checks (s s' : State) : Type 0 where
     pub inserted : stands_inserted P plan skip s' ≡ true → checked_by I (event (repaired P plan skip) I s') ≡ None
     pub same : stands_inserted P plan skip s' ≡ false → event (repaired P plan skip) I s' ≡ event P I s

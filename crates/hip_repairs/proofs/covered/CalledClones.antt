@@ -33,7 +33,7 @@ use Rattle.hip_repairs.proofs.simulation.Facts.{Lines}
 use Rattle.hip_repairs.proofs.simulation.Pairs.{nothing, fence, Ready, quiet, flush, Tied, tied, Related, related}
 use Rattle.hip_repairs.proofs.simulation.Sim.{defined_callee, called_twin, same_extern}
 
--- A call of a function that is numbered from N up.
+-- The instruction is a call of a function whose number is at least N.
 record IsClonesCall (Q : Program) (N : ℕ) (o : Option Instr) : Type 0 where
   dest : Option (List ℕ)
   ret : Option Scalar
@@ -94,7 +94,7 @@ module _ (P : Program) (plan : Plan) (skip : Site → Bool) (good : IsCallable P
   abbrev N : ℕ
   N = length P.functions
 
-  -- Nothing that is inserted stands next where a function is called.
+  -- Where a function is called, no inserted instruction is next.
   none_inserted : (callee' : List ℕ) (h : ℕ) → function_number Q callee' ≡ Some h → (dest : Option (List ℕ)) (ret : Option Scalar) (args : List Arg) (i : Instr) → is_turn i ≡ false → i ≡ Call dest ret callee' args → ⊥
   none_inserted callee' h found dest ret args i still same =
       let turn = call_is_turn dest ret callee' args (still_free P plan skip good callee' h found) in
@@ -105,7 +105,7 @@ module _ (P : Program) (plan : Plan) (skip : Site → Bool) (good : IsCallable P
     abbrev to_clone : Bool
     to_clone = clone || has_site plan.hoist (record { function = f; block = b; index = k })
 
-    -- The call of the program that has become this call.
+    -- The call of the program that became this call.
     record IsCalled : Type 0 where
       callee : List ℕ
       here : slice_get (body_at P f b) k ≡ Some (Call dest ret callee args)
@@ -138,7 +138,7 @@ module _ (P : Program) (plan : Plan) (skip : Site → Bool) (good : IsCallable P
             let there : call_of callee' ≡ Some x = ap call_of same ∙ e in
             absurd (let z : ⊥ = cc in z)
 
-    -- The code of the repaired program begins with the call, so that of the program with the call that it was.
+    -- If the code of the repaired program begins with the call, the code of the program begins with the original call.
     first_call : (rest : List Instr) → drop k (body_at P f b) ≡ rest → (after : List Instr) → instrs_of (repaired_body (clones_of P plan) (wanted_by plan skip) clone f b k rest) ≡ Call dest ret callee' args ∷ after → IsCalled
     first_call [] at after e = absurd (let z : ⊥ = cc in z)
     first_call (i ∷ is) at after e =
@@ -151,7 +151,7 @@ module _ (P : Program) (plan : Plan) (skip : Site → Bool) (good : IsCallable P
     called_there I w regs pend range fenced (quiet fence) rest at after e = absurd (none_inserted callee' h found dest ret args the_fence refl (head_same _ _ _ _ e))
     called_there I w regs pend range fenced (flush i a n still acts q) rest at after e = absurd (none_inserted callee' h found dest ret args i still (head_same _ _ _ _ e))
 
-  -- The states whose top frames are these.
+  -- The program calls a function and the repaired program calls its clone, in states with these top frames.
   by_frames : (I : Input) (w : World) (g g' : Frame) (fs fs' : List Frame) (ls ls' : Lines) (c c' : Counts) (clone : Bool) (pend : List Marked) (range : Option (ℕ × ℕ)) (fenced : Bool) → w.ending ≡ None →
       Tied P plan skip clone pend g g' → Ready P plan skip I w g.registers pend range fenced → IsCallFrom Q N (instr_here Q g') →
       CallsClone P Q (record { world = w; frames = g ∷ fs; lines = ls; counts = c }) (record { world = w; frames = g' ∷ fs'; lines = ls'; counts = c' })
@@ -170,7 +170,7 @@ module _ (P : Program) (plan : Plan) (skip : Site → Bool) (good : IsCallable P
         is_clone = is.is_clone;
       }
 
-  -- Where the repaired program calls a clone.
+  -- In states that correspond, the program calls a function where the repaired program calls its clone.
   pub calls_clone_there : (I : Input) (Holds : List Level → Lines → Lines → Type 0) (n : ℕ) (s s' : State) → Related P plan skip I Holds n s s' → s'.world.ending ≡ None → (c : Frame) (rest : List Frame) → s'.frames ≡ c ∷ rest →
       IsCallFrom Q N (instr_here Q c) → CallsClone P Q s s'
   calls_clone_there I Holds n s s' (related {w = w} {f = g} {f' = g'} {fs = fs} {fs' = fs'} {ls = ls} {ls' = ls'} {c = counts} {c' = counts'} {pend = pend} {range = range} {fenced = fenced} {clone = clone} t r b a holds le) going c rest e call =

@@ -1,4 +1,4 @@
--- Each part of a store of a clone is flushed, once the inserted instructions that stand next are done.
+-- Each part of a store of a clone is flushed, once the inserted instructions that come next are done.
 use Rattle.std.proofs.Common.{◌≡◌, ℕ, zero, suc, ◌+◌, ◌-◌, ◌<◌, ◌≤◌, Bool, true, false, cond, not, ◌&&◌, ◌||◌, List, [], ◌∷◌, ◌++◌, map, length, refl, sym, subst, arith}
 use Rattle.hip_tree.specs.Sites.{has_site}
 use Rattle.hip_tree.specs.declared.program.Program.{Program}
@@ -11,7 +11,8 @@ use Rattle.hip_repairs.specs.declared.plan.Plan.{Plan}
 use Rattle.hip_repairs.specs.Quiet.{IsQuiet}
 use Rattle.hip_repairs.proofs.simulation.Facts.{Lines, fence_if, flush_if, Keeps}
 
--- Of the parts from place k on, each whose site is in a function numbered from N up stands below place p.
+-- Of the parts from place k on, each part whose site is in a function with a number of at least N is at a place below
+-- p.
 abbrev pub AreFlushed : ℕ → ℕ → ℕ → List StorePart → Type 0
 AreFlushed N p k [] = Unit {0}
 AreFlushed N p k (x ∷ xs) = (N ≤ x.site.function → k < p) × AreFlushed N p (suc k) xs
@@ -99,7 +100,7 @@ module _ (P : Program) (plan : Plan) (skip : Site → Bool) (I : Input) where
   abbrev pub CloneFlushed : List Level → Lines → Lines → Type 0
   CloneFlushed up ls ls' = IsQuiet P skip → AllFlushed (length P.functions) ls'
 
-  -- A store after which no flush is inserted is none of a clone's.
+  -- A store after which no flush is inserted is not a store of a clone.
   no_clone : (planned clone skipped : Bool) → skipped ≡ false → planned || (clone && not skipped) ≡ false → clone ≡ false
   no_clone true clone skipped e h = absurd (let z : ⊥ = cc in z)
   no_clone false true true e h = absurd (let z : ⊥ = cc in z)

@@ -66,7 +66,7 @@ module _ (clones : List Clone) (w : Wanted) (clone : Bool) (f : ℕ) where
   blocks_copied b [] = tt
   blocks_copied b (x ∷ xs) = (block_copied b x, blocks_copied (suc b) xs)
 
--- What a call of a clone calls is a clone of the function that the program's call is of.
+-- A call of a clone calls a clone of the function that the program calls.
 pub twin_is_clone : (P : Program) (plan : Plan) (skip : Site → Bool) (to_clone : Bool) (callee' : List ℕ) (g : ℕ) (fn : Function) → slice_get P.functions g ≡ Some fn →
     (twin : CallsTwin P plan skip to_clone callee' g fn) → length P.functions ≤ twin.number → IsClone P (repaired P plan skip) g twin.number
 twin_is_clone P plan skip to_clone callee' g fn there twin high = record {

@@ -82,7 +82,7 @@ module _ (Q : Program) where
 
 -- ---- places in lists
 
--- An item and what stands after it.
+-- An item of a list, and the items after it.
 record IsAt {A : Type 0} (xs : List A) (k : ℕ) (o : Option A) : Type 0 where
   item : A
   after : List A
@@ -145,7 +145,7 @@ module _ (P : Program) (plan : Plan) (skip : Site → Bool) (good : IsCallable P
     frames_there : (n : ℕ) (s s' : State) → Related P plan skip I Holds n s s' → (f : Frame) × (fs : List Frame) × (s'.frames ≡ f ∷ fs)
     frames_there n s s' (related {f' = f'} {fs' = fs'} t r b a h le) = (f', fs', refl)
 
-  -- The code from a frame's place on: the inserted instructions that stand next, and then more.
+  -- The code from a frame's place on: the inserted instructions that come next, and then more.
   code_there : {clone : Bool} {pend : List Marked} (f f' : Frame) → Tied P plan skip clone pend f f' → (more : List Marked) × (code_at Q f' ≡ instrs_of (pend ++ more))
   code_there f f' (tied {clone = clone} {f = g} {f' = g'} {b = b} {k = k} {k' = k'} rest tw e e' same) = (
     repaired_body (clones_of P plan) (wanted_by plan skip) clone g b k rest,

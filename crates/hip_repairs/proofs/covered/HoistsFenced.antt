@@ -33,7 +33,7 @@ drop_over [] xs ys = refl
 drop_over (x ∷ front) xs ys = drop_over front xs ys
 
 module _ (clones : List Clone) (w : Wanted) (clone : Bool) (f b : ℕ) where
-  -- What stands in the repaired body for the instruction at a place, and after it.
+  -- What the repaired body has for the instruction at a place, and after it.
   abbrev repaired_from : ℕ → Instr → List Instr → List Marked
   repaired_from k i is = repaired_body clones w clone f b k (i ∷ is)
 

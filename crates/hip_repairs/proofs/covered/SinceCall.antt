@@ -15,7 +15,7 @@ use Rattle.hip_repairs.specs.Covered.{is_numbered_from, IsCallFrom, IsCallOf, Is
 use Rattle.hip_repairs.proofs.simulation.Facts.{Lines}
 use Rattle.hip_repairs.proofs.covered.Moves.{instr_here, IsCall, Moves, ends, goes_on, jumps, enters, returns, IsOld, IsNew, Out, step_out}
 
--- Each part that a step from the j-th on made is of a function numbered from N up.
+-- Each part that was made in step j or later belongs to a function with a number of at least N.
 abbrev pub SinceClones : ℕ → ℕ → Lines → Type 0
 SinceClones N j ls = (x : StorePart) → PartOf ls x → j ≤ x.step → N ≤ x.site.function
 
@@ -45,7 +45,7 @@ call_of_is_call Q g (Some (Store ty value addr align)) h = absurd h
 call_of_is_call Q g (Some (Gep dest inbounds ty base indices)) h = absurd h
 call_of_is_call Q g None h = absurd h
 
--- The function that is called is one numbered from N up.
+-- The number of the function that is called is at least N.
 called_from : (Q : Program) (N g : ℕ) (o : Option Instr) → IsCallFrom Q N o → IsCallOf Q g o → N ≤ g
 called_from Q N g (Some (Call dest ret callee args)) h e = subst (is_numbered_from N) e h
 called_from Q N g (Some (Binary dest op flags width x y)) h e = absurd h
@@ -86,14 +86,14 @@ abbrev AllFrom : ℕ → List Frame → Type 0
 AllFrom N [] = Unit {0}
 AllFrom N (f ∷ fs) = (N ≤ f.function) × AllFrom N fs
 
--- Frames stand over the one that called function g.
+-- There are frames above the frame that called function g.
 record Over (N g : ℕ) (c : Frame) (rest : List Frame) (fs : List Frame) : Type 0 where
   top : Frame
   above : List Frame
   frames : fs ≡ top ∷ (above ++ next c ∷ rest)
   clones : N ≤ g → AllFrom N (top ∷ above)
 
--- The one that called stands after its call.
+-- The frame that called is at the place after its call.
 record Past (c : Frame) (rest : List Frame) (fs : List Frame) : Type 0 where
   dest : Option (List ℕ)
   value : ℕ
@@ -111,14 +111,14 @@ module _ (Q : Program) (N g : ℕ) (c : Frame) (rest : List Frame) where
   length_over : (fs : List Frame) → Over N g c rest fs → suc (length rest) < length fs
   length_over fs r = omega (arith, ap length r.frames, length-append r.above (next c ∷ rest))
 
--- A frame at its function's start.
+-- The top frame is at the start of its function.
 record AtStart (fs : List Frame) : Type 0 where
   top : Frame
   others : List Frame
   frames : fs ≡ top ∷ others
   place : top.place ≡ 0
 
--- After a step there is no frame more, or one more that stands at its function's start.
+-- After a step there are no more frames, or there is one more, which is at the start of its function.
 moves_less : (Q : Program) (f : Frame) (fs gs : List Frame) (o : Option Ending) → Moves Q f fs gs o → o ≡ None → (length gs ≤ suc (length fs)) ⊎ (AtStart gs × (length gs ≡ suc (suc (length fs))))
 moves_less Q f fs gs o ends e = absurd (let z : ⊥ = cc in z)
 moves_less Q f fs gs o (goes_on g same block place) e = inl (omega arith)
@@ -137,11 +137,11 @@ module _ (Q : Program) (I : Input) (full : (i : ℕ) → (f : Frame) × (fs : Li
   steps_is zero e = refl
   steps_is (suc i) e = let b = going_back Q I i e in let r = full i in (run_out i r.0 r.1 b r.2).steps ∙ ap suc (steps_is i b)
 
-  -- The parts that there are before the j-th step are of earlier ones.
+  -- The parts that exist before step j were made in earlier steps.
   none_since : (j : ℕ) → (run Q I j).world.ending ≡ None → (x : StorePart) → IsOld (run Q I j).lines x → j ≤ x.step → ⊥
   none_since j e x old le = let lt = (has_history Q I j).made old.part old.there in let s = steps_is j e in let q = old.step in omega arith
 
-  -- The state before stands at the call, and what was stored since then was stored by clones.
+  -- The earlier state is at the call, and everything that was stored since then was stored by clones.
   pub record SinceCall (j n : ℕ) (c : Frame) (rest : List Frame) (after : IsAfterCloneCall Q N (run Q I n)) : Type 0 where
     pub call : IsCallFrom Q N (instr_here Q c)
     pub function : c.function ≡ after.frame.function
@@ -178,7 +178,8 @@ module _ (Q : Program) (I : Input) (full : (i : ℕ) → (f : Frame) × (fs : Li
   depth i = length (run Q I i).frames
 
   module _ (low n : ℕ) (ok : (run Q I n).world.ending ≡ None) (never : (i : ℕ) → low < i → i < n → depth i ≢ depth n) where
-    -- Where there are fewer frames, the first state with as many stands at a function's start.
+    -- If an earlier state has fewer frames than state n, and no state between them has as many, state n is at the start
+    -- of a function.
     climb : (m i : ℕ) → i + m ≡ n → low ≤ i → depth i < depth n → AtStart (run Q I n).frames
     climb zero i e l d = let q : i ≡ n = omega arith in let same = ap depth q in absurd (omega (arith, d, same))
     climb (suc m) i e l d =
@@ -285,7 +286,7 @@ module _ (Q : Program) (I : Input) (full : (i : ℕ) → (f : Frame) × (fs : Li
           go zero q = omega arith
           go (suc m) q = absurd (last.between (suc j) (omega arith) (omega arith) (ap length e ∙ sym depth_n))
 
-      -- Where the frame stands one place after c, c stands at the call.
+      -- If the frame is one place after c, c is at the call.
       call_here : (f : Frame) → after.frame ≡ f → f.function ≡ c.function → f.block ≡ c.block → f.place ≡ suc c.place → IsCallFrom Q N (instr_here Q c)
       call_here f e function block place =
           let p = ap (λ (x : Frame). x.place) e in

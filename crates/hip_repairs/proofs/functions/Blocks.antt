@@ -63,7 +63,7 @@ module _ (P : Program) (plan : Plan) (skip : Site → Bool) (clone : Bool) (f f'
       ap (λ bs. block_number bs label) twin.blocks
       ∙ ap (λ ls. number_of ls label) (labels_same (clones_of P plan) (wanted_by plan skip) clone f 0 (blocks_of P f))
 
-  -- Two frames that stand in the same block of the two, with the same registers.
+  -- Two frames in the same block of the two functions, with the same registers.
   module _ (I : Input) (b k k' m m' : ℕ) (regs : Registers) (slots slots' : List Slot) (dest dest' : Option (List ℕ)) (level level' : Option Level) where
     abbrev frame : Frame
     frame = record { function = f; block = b; place = k; registers = regs; mark = m; slots = slots; dest = dest; level = level }

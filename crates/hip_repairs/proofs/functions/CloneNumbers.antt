@@ -1,4 +1,4 @@
--- The clones of a plan stand in the repaired program as they are numbered.
+-- The clones of a plan are in the repaired program under their numbers.
 use Rattle.std.proofs.Common.{◌≡◌, inl, inr, ℕ, suc, ◌+◌, ◌-◌, Bool, List, [], ◌∷◌, length, Some, slice_get, refl, sym, ap, ◌∙◌, arith}
 use Rattle.hip_tree.specs.declared.program.Program.{Program}
 use Rattle.hip_tree.specs.declared.site.Site.{Site}
@@ -9,7 +9,7 @@ use Rattle.hip_repairs.specs.CloneNumbers.{numbered_from, clone_numbers, IsClone
 use Rattle.hip_repairs.specs.Repaired.{cloned, repaired}
 use Rattle.hip_repairs.proofs.functions.Clones.{fresh, fresh_there, cloned_is_there, clone_code}
 
--- Where a clone stands among those that are numbered from a number on.
+-- The place of a clone among the clones that are numbered from a number on.
 record IsNumbered (n : ℕ) (fs : List ℕ) (c : CloneOf) : Type 0 where
   place : ℕ
   original : slice_get fs place ≡ Some c.original

@@ -154,7 +154,7 @@ get_clone P clones w (f ∷ fs) (m ∷ names) (suc k) g name fn there e n c =
     let at = first_there P f fs there in
     ap (λ o. slice_get (clone_in clones w f m o ++ clone_functions P clones w fs names) (suc k)) at.1 ∙ get_clone P clones w fs names k g name fn (rest_there P f fs there) e n c
 
--- What stands among the clones is the clone of a cloned function.
+-- Each item among the clones is the clone of a cloned function.
 pub at_clone : (P : Program) (clones : List Clone) (w : Wanted) (fs : List ℕ) (names : List (List ℕ)) (k : ℕ) (x : Function) → AreThere P fs → slice_get (clone_functions P clones w fs names) k ≡ Some x →
     (g : ℕ) × (name : List ℕ) × (slice_get fs k ≡ Some g) × (slice_get names k ≡ Some name)
 at_clone P clones w [] names k x there e = cc
@@ -164,7 +164,7 @@ at_clone P clones w (f ∷ fs) (m ∷ names) (suc k) x there e =
     let at = first_there P f fs there in
     at_clone P clones w fs names k x (rest_there P f fs there) (sym (ap (λ o. slice_get (clone_in clones w f m o ++ clone_functions P clones w fs names) (suc k)) at.1) ∙ e)
 
--- An item of a list without repeats stands at one place.
+-- An item of a list without repeats is at one place only.
 one_place : {A : Type 0} {same : A → A → Bool} → IsEquivalence same → (xs : List A) (i j : ℕ) (x : A) → IsDistinct same xs → slice_get xs i ≡ Some x → slice_get xs j ≡ Some x → ¬ (i < j)
 one_place {same = same} laws xs i j x d e f below =
     let apart = apart_from_distinct same xs i j x d below (slice_get_within xs j x f) in

@@ -51,7 +51,7 @@ blocks_in_code clones w clone f name None = refl
 blocks_in_code clones w clone f name (Some x) = refl
 
 module _ (P : Program) (plan : Plan) (skip : Site → Bool) where
-  -- A function of the program stands in the repaired one under its number.
+  -- A function of the program is in the repaired program under its number.
   pub plain_code : (f : ℕ) → f < length P.functions →
       slice_get (repaired P plan skip).functions f ≡ option_map (λ x. repaired_function (clones_of P plan) (wanted_by plan skip) false f x.name x) (slice_get P.functions f)
   plain_code f h =

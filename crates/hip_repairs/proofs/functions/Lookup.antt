@@ -57,7 +57,7 @@ module _ (P : Program) (plan : Plan) (skip : Site → Bool) (good : IsCallable P
   pub calls_clone : (callee : List ℕ) (g : ℕ) (fn : Function) → function_number P callee ≡ Some g → slice_get P.functions g ≡ Some fn → In g (cloned P plan) → CallsTwin P plan skip true (clone_name (clones_of P plan) callee) g fn
   calls_clone callee g fn e f i = calls_of_clone P plan skip good callee g fn e f i
 
-  -- A call of an external function names it in a clone too.
+  -- A call of an external function keeps its name in a clone.
   pub extern_name : (callee : List ℕ) (e : ExternCall) → call_of callee ≡ Some e → clone_name (clones_of P plan) callee ≡ callee
   extern_name callee e h = extern_kept P plan good callee (λ none. cc)
 
@@ -68,6 +68,6 @@ module _ (P : Program) (plan : Plan) (skip : Site → Bool) (good : IsCallable P
   pub cloned_closed : (f b k : ℕ) (dest : Option (List ℕ)) (ret : Option Scalar) (callee : List ℕ) (args : List Arg) (g : ℕ) → In f (cloned P plan) → slice_get (body_at P f b) k ≡ Some (Call dest ret callee args) → function_number P callee ≡ Some g → In g (cloned P plan)
   cloned_closed f b k dest ret callee args g i c e = closed_there P plan.hoist f b k dest ret callee args g i c e
 
-  -- A call in a clone of a function that is defined names a clone.
+  -- In a clone, a call of a defined function names a clone.
   pub clone_calls : (f' b k : ℕ) (dest : Option (List ℕ)) (ret : Option Scalar) (callee' : List ℕ) (args : List Arg) (g' : ℕ) → length P.functions ≤ f' → slice_get (body_at (repaired P plan skip) f' b) k ≡ Some (Call dest ret callee' args) → function_number (repaired P plan skip) callee' ≡ Some g' → length P.functions ≤ g'
   clone_calls f' b k dest ret callee' args g' high c e = calls_in_clone P plan skip good f' b k dest ret callee' args g' high c e

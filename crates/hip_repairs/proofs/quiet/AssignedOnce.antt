@@ -117,7 +117,7 @@ made_among blocks q h = let m = made blocks q h in among_all names_in_block bloc
 abbrev pub Once : List Block → Type 0
 Once blocks = AllDiffer (flat_map names_in_block blocks)
 
--- Where the block that has the `alloca` of a register has something of the register's name, it is that block.
+-- A block in which something has the name of the register is the block of the `alloca` that assigns the register.
 same_block : (blocks : List Block) (b : ℕ) (block : Block) (q : List ℕ) → Once blocks → slice_get blocks b ≡ Some block → is_among (names_in_block block) q ≡ true → (m : Made blocks q) → block ≡ m.block
 same_block blocks b block q once e h m = one_item names_in_block blocks b m.j block m.block q once e m.at h (made_in_block blocks q m)
 

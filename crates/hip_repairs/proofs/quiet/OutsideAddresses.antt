@@ -1,4 +1,4 @@
--- The address of a volatile global lies below every base.
+-- The address of a volatile global is below every base.
 use Rattle.std.proofs.Common.{◌≡◌, ◌⊎◌, ⊎_elim, ℕ, suc, ◌+◌, ◌≤◌, Bool, true, false, ◌&&◌, not, nat_le, List, [], ◌∷◌, Option, Some, None, option_map, refl, sym, ap, ◌∙◌, subst, arith, leb-true}
 use Rattle.std.specs.Prelude.{unwrap_or, if◌then◌else◌}
 use Rattle.std.specs.Str.{bytes_eq}
@@ -64,7 +64,7 @@ module _ (P : Program) (sound : Passes P) where
   volatile_low : volatile_end P ≤ volatile_start + 16777216
   volatile_low = leb-true (volatile_end P) (volatile_start + 16777216) (and_parts (nat_le (region_size P) 67108864) _ sound.sizes).1
 
-  -- The address of a volatile global.
+  -- The address of a volatile global is within the bound for volatile globals.
   named_low : (base : ℕ) (name : List ℕ) → is_volatile_global P.globals name ≡ true → global_address P.globals base name ≤ volatile_start + 16777216
   named_low base name e = go (number_of (names_of_globals P.globals) name) refl
     where

@@ -1,4 +1,4 @@
--- The stores whose address is a register assigned by `alloca`, or a volatile global itself, never lie in the region.
+-- The stores whose address is a register assigned by `alloca`, or a volatile global itself, never write to the region.
 use Rattle.std.proofs.Common.{◌≡◌, ℕ, zero, suc, ◌%◌, ◌<◌, Bool, true, false, cond, nat_le, nat_eq, List, [], ◌∷◌, length, drop, Option, Some, None, slice_get, refl, sym, ap, ◌∙◌, subst, arith, leb-true}
 use Rattle.std.proofs.lemmas.Bool.{and_parts, both_ways, false_from_ne_true}
 use Rattle.hip_tree.specs.Sites.{instr_of}
@@ -32,7 +32,7 @@ module _ (P : Program) (sound : Passes P) (I : Input) where
   -- ---- a store
 
   module _ (valid : IsValid P I) where
-    -- Such an address lies below the base.
+    -- Such an address is below the base.
     outside_low : (f : Frame) (addr : Operand) → AreLow (blocks_of P f.function) f.registers → is_outside P (blocks_of P f.function) addr ≡ true → value_of P.globals I.base f.registers addr < I.base
     outside_low f (Reg name) low e = omega (arith, low name e, valid.base.low)
     outside_low f (Fixed c) low e = omega (arith, constant_low P sound I.base c e, valid.base.low)

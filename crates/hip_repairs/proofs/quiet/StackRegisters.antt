@@ -29,7 +29,7 @@ use Rattle.hip_repairs.proofs.quiet.AssignedOnce.{names_of_instr, only_alloca, n
 pub record IsLow (P : Program) (g : ℕ) (name : List ℕ) (v : ℕ) : Type 0 where
   pub is : allocates_in (blocks_of P g) name ≡ true → v ≤ stack_end
 
--- Nothing is said of what is returned.
+-- There is no condition on values that are returned.
 abbrev pub Any : ℕ → ℕ → Type 0
 Any g v = Unit {0}
 
@@ -73,7 +73,7 @@ module _ (P : Program) (sound : Passes P) (I : Input) where
         avoids : (name : List ℕ) → dest ≡ Some name → allocates_in (blocks_of P g) name ≡ false
         avoids name e = other (Call dest ret callee args) only name (subst (λ (o : Option (List ℕ)). is_among (names_of_instr (Call o ret callee args)) name ≡ true) (sym e) (own name)) refl
 
-  -- In each frame at each step.
+  -- In each frame at each step, such registers have no address after the stack.
   pub run_low : (n : ℕ) → values_in_frames (IsLow P) Any (run P I n).frames
   run_low =
       fact_holds (IsLow P) Any P I
@@ -91,7 +91,7 @@ module _ (P : Program) (sound : Passes P) (I : Input) where
       among_phis (x ∷ ps) zero p e = or_first _ _ (subst (λ (y : Phi). bytes_eq p.dest y.dest ≡ true) (let s : p ≡ x = cc in s) (nat_list_eq_equiv.refl p.dest))
       among_phis (x ∷ ps) (suc k) p e = or_second (bytes_eq p.dest x.dest) _ (among_phis ps k p e)
 
--- What these registers hold for a register that an `alloca` of the blocks assigns, is no address past the stack.
+-- The registers that an `alloca` of the blocks assigns have no address after the stack.
 abbrev pub AreLow : List Block → Registers → Type 0
 AreLow blocks rs = (q : List ℕ) → allocates_in blocks q ≡ true → look_up rs q ≤ stack_end
 

@@ -1,4 +1,4 @@
--- What a fact about the cache lines of the two runs has to be kept by, so that it holds at all corresponding states.
+-- The steps that must keep a fact about the cache lines of the two runs, so that it holds at all corresponding states.
 use Rattle.std.proofs.Common.{◌≡◌, ℕ, ◌-◌, ◌<◌, Bool, true, false, cond, not, ◌&&◌, ◌||◌, List, [], ◌∷◌, length, Some}
 use Rattle.hip_tree.specs.Sites.{has_site}
 use Rattle.hip_tree.specs.declared.program.Program.{Program}
@@ -25,8 +25,8 @@ fence_if b ls = cond b (fenced_lines ls) ls
 abbrev pub flush_if : Bool → Input → Flush → ℕ → ℕ → Lines → Lines
 flush_if b I flush a n ls = cond b (flushed_lines I flush a n ls) ls
 
--- A fact about the calls that the program's frames stand in, its lines, and the lines of the repaired program once
--- the inserted instructions that stand next are done.
+-- A fact about the calls that made the program's frames, its lines, and the lines of the repaired program once the
+-- inserted instructions that come next are done.
 pub record Keeps (P : Program) (plan : Plan) (skip : Site → Bool) (I : Input) (Holds : List Level → Lines → Lines → Type 0) : Type 0 where
   pub start : (n : ℕ) → Holds [] (fresh_lines n) (fresh_lines n)
   pub fence : (up : List Level) (ls ls' : Lines) → Holds up ls ls' → Holds up (fenced_lines ls) (fenced_lines ls')

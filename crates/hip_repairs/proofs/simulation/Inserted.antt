@@ -111,7 +111,7 @@ flushes_there I a m n h k e = let r : in_region I a m ≡ true = within_less I.b
 pub region_base : (I : Input) (a n : ℕ) → in_region I a n ≡ true → I.base ≤ a
 region_base I a n e = grind (arith, nat_tests)
 
--- A store that is not wide lies in one cache line.
+-- A store that is not wide is in one cache line.
 one_line_2 : (o j : ℕ) → o % 2 ≡ 0 → has_bytes j o 1 ≡ has_bytes j o 2
 one_line_2 o j h = grind (arith, nat_tests)
 

@@ -17,12 +17,12 @@ use Rattle.hip_runs.specs.StoredParts.Parts.{In}
 use Rattle.hip_repairs.proofs.simulation.Facts.{Lines, fence_if}
 use Rattle.hip_repairs.proofs.functions.Twins.{Twin}
 
--- Inserted instructions that may stand next in a frame below the top: perhaps a fence.
+-- The inserted instructions that may come next in a frame below the top: at most a fence.
 pub data Quiet : List Marked → Bool → Type 0 where
   nothing : Quiet [] false
   fence : Quiet ((the_fence, true) ∷ []) true
 
--- The lines once the inserted instructions that stand next are done: perhaps a flush of a range, perhaps a fence.
+-- The lines once the inserted instructions that come next are done: perhaps a flush of a range, perhaps a fence.
 abbrev pub flush_range : Input → Flush → Option (ℕ × ℕ) → Lines → Lines
 flush_range I flush None ls = ls
 flush_range I flush (Some r) ls = flushed_lines I flush r.0 r.1 ls
@@ -31,20 +31,21 @@ abbrev pub pending_lines : Input → Flush → Option (ℕ × ℕ) → Bool → 
 pending_lines I flush range fenced ls = fence_if fenced (flush_range I flush range ls)
 
 module _ (P : Program) (plan : Plan) (skip : Site → Bool) where
-  -- And in the top frame, whose registers are these: a flush of a range before.
+  -- The inserted instructions that may come next in the top frame, which has these registers: perhaps a flush of a
+  -- range, and then perhaps a fence.
   pub data Ready (I : Input) (w : World) (regs : Registers) : List Marked → Option (ℕ × ℕ) → Bool → Type 0 where
     quiet : {pend : List Marked} {fenced : Bool} → Quiet pend fenced → Ready I w regs pend None fenced
     flush : {pend : List Marked} {fenced : Bool} (i : Instr) (a n : ℕ) → is_turn i ≡ false → ((below : ℕ) → instr_action (repaired P plan skip) I w below regs i ≡ Flushes a n) → Quiet pend fenced → Ready I w regs ((i, true) ∷ pend) (Some (a, n)) fenced
 
-  -- A frame of the program, with the rest of its block to do, and one of the repaired program, which has inserted
-  -- instructions to do before. It stands in the same function, or in its clone.
+  -- A frame of the program, with the rest of its block to do, and a frame of the repaired program, which first has
+  -- inserted instructions to do. It is in the same function, or in its clone.
   pub data Tied : Bool → List Marked → Frame → Frame → Type 0 where
     tied : {clone : Bool} {f f' b k k' m : ℕ} {dest : Option (List ℕ)} {lvl lvl' : Option Level} {regs : Registers} {slots slots' : List Slot} {pend : List Marked} (rest : List Instr) →
         Twin P plan skip clone f f' → drop k (body_at P f b) ≡ rest → drop k' (marked_body P (clones_of P plan) (wanted_by plan skip) clone f b) ≡ pend ++ repaired_body (clones_of P plan) (wanted_by plan skip) clone f b k rest → extents slots' ≡ extents slots →
         Tied clone pend (record { function = f; block = b; place = k; registers = regs; mark = m; slots = slots; dest = dest; level = lvl }) (record { function = f'; block = b; place = k'; registers = regs; mark = m; slots = slots'; dest = dest; level = lvl' })
 
-  -- The frames below one that is a clone's or not, and was made by a call or not. What a clone's frame calls is a
-  -- clone, and so is what a hoisted call calls, which a fence follows.
+  -- The frames below a frame, which may be a clone's and may have been made by a call. A call in a clone's frame goes
+  -- to a clone, and so does a hoisted call, which a fence follows.
   pub data Below : Bool → Option Level → Option Level → List Frame → List Frame → Type 0 where
     bottom : {clone : Bool} → Below clone None None [] []
     on : {above clone : Bool} {lv lv' : Level} {f f' : Frame} {fs fs' : List Frame} {pend : List Marked} {fenced : Bool} →

@@ -198,7 +198,7 @@ module _ (P : Program) (plan : Plan) (skip : Site → Bool) (good : IsCallable P
       go true i = calls_clone P plan skip good callee g fn e there (i refl)
       go false i = calls_plain P plan skip good callee g fn e there
 
--- A call of an external function names it in a clone too.
+-- A call of an external function keeps its name in a clone.
 pub same_extern : (P : Program) (plan : Plan) (skip : Site → Bool) (good : IsCallable P) (callee : List ℕ) (x : ExternCall) → call_of callee ≡ Some x → (b : Bool) → cond b (clone_name (clones_of P plan) callee) callee ≡ callee
 same_extern P plan skip good callee x q true = extern_name P plan skip good callee x q
 same_extern P plan skip good callee x q false = refl
@@ -207,7 +207,7 @@ module _ (P : Program) (plan : Plan) (skip : Site → Bool) (I : Input) (good : 
   abbrev Q : Program
   Q = repaired P plan skip
 
-  -- What a step leads to.
+  -- The states after a step correspond.
   abbrev After : State → State → Type 0
   After s s' = Related P plan skip I Holds 2 s s'
 
@@ -225,7 +225,7 @@ module _ (P : Program) (plan : Plan) (skip : Site → Bool) (I : Input) (good : 
     after_stop : (e : Ending) (w : World) (d d' : Counts) → After (stop e w (f ∷ fs) ls d) (stop e w (f' ∷ fs') ls' d')
     after_stop e w d d' = related t (quiet nothing) below ahead holds (omega arith)
 
-    -- One turn or none, and then what is done.
+    -- A step that is a turn or not, and the states after it.
     after_carry : (turn : Bool) (x x' : Action) (w : World) (c d c' d' : Counts) →
         ((turn && not (nat_lt w.turns I.limit)) ≡ false → After (perform I (cond turn (with_turn w) w) f fs ls c d x) (perform I (cond turn (with_turn w) w) f' fs' ls' c' d' x')) →
         After (carry_out I w f fs ls c d (record { turn = turn; action = x })) (carry_out I w f' fs' ls' c' d' (record { turn = turn; action = x' }))
@@ -316,7 +316,7 @@ module _ (P : Program) (plan : Plan) (skip : Site → Bool) (I : Input) (good : 
       abbrev later_flush : Flush
       later_flush = record { step = d'.steps; site = record { function = f'; block = b; index = suc k' } }
 
-      -- The lines after the store, where it lies in the region and where it does not.
+      -- The fact about the lines after the store, whether it is in the region or not.
       store_holds : length store_bytes ≡ scalar_size ty → store_address % access_align ty align ≡ 0 → (in_region I store_address (length store_bytes) ≡ true → IsQuiet P skip → skip here_site ≡ false) →
           Holds up (stored_lines I c here_site up store_address store_bytes ls)
           (fence_if fenced_here (flush_if flush_wanted I later_flush store_address (flush_size ty align) (stored_lines I c' (record { function = f'; block = b; index = k' }) (level_list lvl' (levels_of fs')) store_address store_bytes ls')))
@@ -496,7 +496,7 @@ module _ (P : Program) (plan : Plan) (skip : Site → Bool) (I : Input) (good : 
       (subst (λ (m : ℕ). After (state (record w { mark = f.mark }) (with_register f.dest v g ∷ gs) ls d) (state (record w { mark = m }) (with_register f.dest v g' ∷ gs') ls' d')) (sym (same_mark t))
       (related (assigned_tied f.dest v u) (quiet q) below ahead (popped (levels_of (g ∷ gs)) lv above fenced ls ls' hoisted holds) (omega (arith, quiet_size q))))
 
-  -- A pair of frames that stand at the end of the same block.
+  -- A pair of frames at the end of the same block.
   module _ (f b k f' k' m : ℕ) (dest : Option (List ℕ)) (lvl lvl' : Option Level) (regs : Registers) (slots slots' : List Slot) (same : extents slots' ≡ extents slots) (clone : Bool) (tw : Twin P plan skip clone f f') (fs fs' : List Frame) (below : Below P plan skip clone lvl lvl' fs fs') (ls ls' : Lines) (ahead : Ahead ls ls') (holds : Holds (level_list lvl (levels_of fs)) ls ls') (w : World) (c d c' d' : Counts) where
     abbrev end_frame : ℕ → Registers → Frame
     end_frame j rs = record { function = f; block = j; place = k; registers = rs; mark = m; slots = slots; dest = dest; level = lvl }
@@ -528,7 +528,8 @@ module _ (P : Program) (plan : Plan) (skip : Site → Bool) (I : Input) (good : 
 
   -- ---- steps
 
-  -- A step that is not at an inserted instruction is one of both, and else of the repaired program alone.
+  -- A step that is not at an inserted instruction is a step of both programs; otherwise it is a step of the repaired
+  -- program alone.
   record Goes (n : ℕ) (inserted : Bool) (old new new' : State) : Type 0 where
     size : ℕ
     left : cond inserted (suc size) size ≤ cond inserted n 2
@@ -547,7 +548,7 @@ module _ (P : Program) (plan : Plan) (skip : Site → Bool) (I : Input) (good : 
     abbrev more : List Marked
     more = repaired_body (clones_of P plan) (wanted_by plan skip) clone f b k rest
 
-    -- One step of each, where these are the end and the code.
+    -- The state after a step, given the end and the code.
     abbrev step_of : Option End → List Instr → State
     step_of o is = carry_out I w frame fs ls c (counted (event_at I w fs (deed_of P I w (length fs) frame o is)) c) (deed_of P I w (length fs) frame o is)
 
@@ -584,7 +585,7 @@ module _ (P : Program) (plan : Plan) (skip : Site → Bool) (I : Input) (good : 
           (related (tied rest tw e (drop_next body' k' (i, true) (pend ++ more) e') same) (quiet q) below (ahead_more_flushed I (record { step = c'.steps; site = site_of (frame' k') }) a size ls ls' ahead) holds (omega arith));
     }
 
-    -- The code as it stands in the two programs.
+    -- The step, for the code of the two programs at their places.
     on_both : (pend : List Marked) (range : Option (ℕ × ℕ)) (fenced : Bool) → Ready P plan skip I w regs pend range fenced → Holds (level_list lvl (levels_of fs)) ls (pending_lines I (record { step = c'.steps; site = site_of (frame' k') }) range fenced ls') → length pend ≤ n → drop k' body' ≡ pend ++ more → w.ending ≡ None → (reach : (j : ℕ) × (run P I j ≡ state w (frame ∷ fs) ls c)) →
         Goes n (is_inserted (drop k' (marked_at P plan skip f' b))) (state w (frame ∷ fs) ls c) (on_frames P I w ls c (frame ∷ fs)) (on_frames Q I w ls' c' (frame' k' ∷ fs'))
     unfolding on_frames

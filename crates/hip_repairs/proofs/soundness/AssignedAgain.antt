@@ -106,7 +106,7 @@ module _ (clones : List Clone) (w : Wanted) (clone : Bool) (f : ℕ) (name : Lis
   same_earlier [] = refl
   same_earlier (b ∷ bs) = ap₂ (λ xs ys. xs ++ ys) (same_names b) (same_earlier bs)
 
-  -- What is assigned on every path before, is so on every path then.
+  -- A register that is assigned on every path in the program is assigned on every path in the repaired program.
   assigned_again : (last : ℕ) (point point' : Point) (register : List ℕ) → names_before R point' last ≡ names_before fn point last → IsAssigned fn last point register → IsAssigned R last point' register
   assigned_again last point point' register same h path u =
       h path (record {

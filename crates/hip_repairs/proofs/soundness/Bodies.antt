@@ -63,7 +63,7 @@ module _ (clones : List Clone) (w : Wanted) (clone : Bool) (f b : ℕ) where
   IsOriginal place is k' i' =
       (j : ℕ) × (i : Instr) × (slice_get is j ≡ Some i) × (i' ≡ renamed clones i (clone || w.hoist (site_at (place + j)))) × (body_registers (take k' (repaired_instrs place is)) ≡ body_registers (take j is))
 
-  -- One that is inserted after one of the original's.
+  -- The instruction of the repaired body is inserted after an instruction of the original.
   abbrev pub IsInserted : ℕ → List Instr → ℕ → Instr → Type 0
   IsInserted place is k' i' =
       (j : ℕ) × (i : Instr) × (m : ℕ) × (slice_get is j ≡ Some i) × (slice_get (instrs_of (inserted_after w clone (site_at (place + j)) i)) m ≡ Some i') × (body_registers (take k' (repaired_instrs place is)) ≡ body_registers (take (suc j) is))

@@ -28,7 +28,7 @@ pub data IsAdded : Extern → Type 0 where
   adds_sfence : IsAdded sfence_extern
   adds_pmem_flush : IsAdded pmem_flush_extern
 
--- A test that passes at the three passes at what is added.
+-- A test that holds of the three declarations holds of each added one.
 pub added_passes : (test : Extern → Bool) → test clwb_extern ≡ true → test sfence_extern ≡ true → test pmem_flush_extern ≡ true → (e : Extern) → IsAdded e → test e ≡ true
 added_passes test a b c e adds_clwb = a
 added_passes test a b c e adds_sfence = b

@@ -42,7 +42,7 @@ names_of_externs externs = map (λ e. e.name) externs
 apart_sym : (xs ys : List (List ℕ)) → Apart xs ys → Apart ys xs
 apart_sym xs ys a q h t = a q t h
 
--- Names that the table of external functions has, and names that it has not.
+-- The table of external functions has none of these names, or, in `AreTaken`, all of them.
 abbrev AreFree : List (List ℕ) → Type 0
 AreFree xs = (q : List ℕ) → IsAmong xs q → call_of q ≡ None
 

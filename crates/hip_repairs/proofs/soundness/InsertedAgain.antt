@@ -1,4 +1,4 @@
--- The inserted instructions meet the rules of their places, since the stores that they stand after do.
+-- The inserted instructions meet the rules of their places, since the stores that they follow do.
 use Rattle.std.proofs.Common.{◌≡◌, ◌⊎◌, inl, inr, ℕ, Bool, true, false, cond, ◌&&◌, List, [], ◌∷◌, ◌++◌, All, Option, None, is_some, refl, sym, ap, ◌∙◌, subst}
 use Rattle.std.specs.List.{list_all}
 use Rattle.std.proofs.lemmas.List.Elements.{All-nil}
@@ -107,7 +107,7 @@ module _ (s : Scope) (place place' : Place) where
     ),
   )
 
-  -- The flush of a store.
+  -- The flush of a store meets the rules of its place.
   pub flush_check : (value addr : Operand) (ty : Scalar) (align : Option ℕ) →
       ((name : List ℕ) → is_call_of name (flush_of ty addr align) ≡ true → (name ≡ clwb_name) ⊎ (name ≡ pmem_flush_name) → callee_of s.program name ≡ known_signature name) →
       (instr_check s (Store ty value addr align) place').Holds → (instr_check s (flush_of ty addr align) place).Holds

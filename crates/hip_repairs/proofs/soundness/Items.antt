@@ -5,7 +5,7 @@ use Rattle.std.proofs.lemmas.List.Sums.{AllPass-from_list_all, list_all-from_All
 use Rattle.std.proofs.lemmas.Option.{same_Some}
 use Rattle.hip_sound.specs.Laws.Decided.{all-at, all-made}
 
--- A test passes at all items if it passes at each place, and then only.
+-- A test holds of all items exactly if it holds at each place.
 pub all_make : {A : Type 0} (test : A → Bool) (xs : List A) → ((k : ℕ) (x : A) → slice_get xs k ≡ Some x → test x ≡ true) → list_all test xs ≡ true
 all_make test xs h = list_all-from_AllPass test xs (all-made (λ x. test x ≡ true) xs h)
 
@@ -18,7 +18,7 @@ IsFront xs ys k v = (slice_get xs k ≡ Some v) × (take k (xs ++ ys) ≡ take k
 abbrev IsBack : {A : Type 0} → List A → List A → ℕ → A → Type 0
 IsBack xs ys k v = (j : ℕ) × (slice_get ys j ≡ Some v) × (take k (xs ++ ys) ≡ xs ++ take j ys)
 
--- An item of two lists is one of the first, or of the second; what stands before it.
+-- An item of two lists joined is in the first list or in the second; and the items before it.
 pub place_in : {A : Type 0} (xs ys : List A) (k : ℕ) (v : A) → slice_get (xs ++ ys) k ≡ Some v → IsFront xs ys k v ⊎ IsBack xs ys k v
 place_in [] ys k v e = inr (k, e, refl)
 place_in (x ∷ xs) ys zero v e = inl (e, refl)

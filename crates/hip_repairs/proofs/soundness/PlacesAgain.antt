@@ -125,7 +125,7 @@ module _ (P : Program) (plan : Plan) (skip : Site → Bool) (sound : Passes P) w
 
     -- ---- instructions
 
-    -- The same instruction.
+    -- An instruction that stays the same meets the same rules.
     instr_kept : (i : Instr) (place place' : Place) → callee_known s' i ≡ callee_known s i → instr_agrees s' i ≡ instr_agrees s i → (instr_check s i place).Holds → (instr_check s' i place').Holds
     instr_kept i place place' k a h = (ap₂ (λ x y. x && y) (known_again (instr_uses i)) k ∙ h.0, (h.1.0, ap₂ (λ x y. x && y) (agree_again (instr_uses i)) a ∙ h.1.1))
 
@@ -157,7 +157,7 @@ module _ (P : Program) (plan : Plan) (skip : Site → Bool) (sound : Passes P) w
         (callee_again P plan skip sound callee (o.clone || has_site plan.hoist (record { function = o.f; block = b; index = j })) (call_cloned b j block dest ret callee args e c) (and_parts (uses_known s (arg_uses args)) _ h.0).1) h
     renamed_again b j block i place place' e c h = instr_kept i place place' refl refl h
 
-    -- An inserted instruction.
+    -- An original or an inserted instruction meets the rules of its place in the repaired program.
     module _ (b : ℕ) (block : Block) (there : slice_get o.fn.blocks b ≡ Some block) (place : ℕ → Place) (place' : Place) (checked : (j : ℕ) (i : Instr) → slice_get block.body j ≡ Some i → (instr_check s i (place j)).Holds) where
       original_again : (k : ℕ) (i' : Instr) → IsOriginal clones w o.clone o.f b 0 block.body k i' → (instr_check s' i' place').Holds
       original_again k i' x =

@@ -1,4 +1,4 @@
--- The run of a store that lies in two cache lines, and its repair.
+-- The run of a store that spans two cache lines, and its repair.
 use Rattle.std.proofs.Common.{◌≡◌, true, [], ◌∷◌, List, ℕ, Option, Some, codes, ◌+◌, ◌*◌, ◌%◌, ◌^◌, option_map, option_and_then, refl, ap, ◌∙◌}
 use Rattle.hip_tree.specs.declared.constant.Const.TheVariants as consts
 use Rattle.hip_tree.specs.Laws.Levels.{out-Ty-Array}

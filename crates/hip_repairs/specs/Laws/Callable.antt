@@ -30,7 +30,7 @@ abbrev pub IsCalled : Program → List ℕ → Type 0
 IsCalled P callee = ((e : ExternCall) × (call_of callee ≡ Some e))
     ⊎ ((g : ℕ) × (function_number P callee ≡ Some g))
 
--- What the theorems use of soundness: `main` is there, and each call is one of an external or of a defined function.
+-- What the theorems use of soundness: `main` exists, and each call names an external or a defined function.
 pub record IsCallable (P : Program) : Type 0 where
   pub main_at : ℕ
   pub main : function_number P (codes "main") ≡ Some main_at
@@ -101,7 +101,7 @@ function_at (f ∷ fs) name s h = by_first (bytes_eq f.name name) refl h (functi
     by_first true t g rest = number_first f fs name t
     by_first false t g rest = number_past f fs name (rest g)
 
--- A declared external function is of the table.
+-- A declared external function is in the table.
 pub of_table : (e : Extern) (name : List ℕ) → e.name ≡ name → is_of e (known_signature e.name) ≡ true
     → (c : ExternCall) × (call_of name ≡ Some c)
 of_table e name same h = by_call (call_of e.name) (ap call_of (sym same)) h
@@ -111,7 +111,7 @@ of_table e name same h = by_call (call_of e.name) (ap call_of (sym same)) h
     by_call None f g = cc
     by_call (Some c) f g = (c, f)
 
--- Function f, its block b and the instruction at place k of the block's body are there, and it is this instruction.
+-- Function f, its block b and the instruction at place k of the block's body exist, and the instruction is this one.
 abbrev pub IsInstrAt : Program → (f b k : ℕ) → Instr → Type 0
 IsInstrAt P f b k i =
     (fn : Function) × (block : Block) × (slice_get P.functions f ≡ Some fn)

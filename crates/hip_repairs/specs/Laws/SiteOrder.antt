@@ -261,7 +261,7 @@ strict_order = record {
 abbrev AllAfter : Site → List Site → Type 0
 AllAfter a xs = (s : Site) → In s xs → Before a s
 
--- Each site comes before all later ones in the list, where `is_ascending` compares it with the next alone.
+-- Each site comes before all later ones in the list, whereas `is_ascending` compares it only with the next one.
 abbrev Sorted : List Site → Type 0
 Sorted [] = Unit {0}
 Sorted (x ∷ xs) = AllAfter x xs × Sorted xs

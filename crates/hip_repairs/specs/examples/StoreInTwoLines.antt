@@ -1,4 +1,4 @@
--- A store that lies in two cache lines.
+-- A store that spans two cache lines.
 use Rattle.std.specs.Prelude.{true, false, [], ◌∷◌, Some, None, codes}
 use Rattle.hip_types.specs.Numbers.{bits}
 use Rattle.hip_types.specs.declared.number.Scalar.TheVariants.{Int, Ptr}

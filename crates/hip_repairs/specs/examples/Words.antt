@@ -46,7 +46,7 @@ ptr_arg value = record { ty = Ptr; value = value }
 abbrev pub i64_arg : Operand → Arg
 i64_arg value = record { ty = Int W64; value = value }
 
--- `@NAME = global i64 0, section ".pm"`
+-- `@NAME = global i64 0, section ".pm"`.
 abbrev pub persistent_i64 : List ℕ → GlobalVar
 persistent_i64 name =
     record {
@@ -131,14 +131,15 @@ site function index = record { function = function; block = 0; index = index }
 abbrev pub zeroed : ℕ → Input
 zeroed lines = record { base = 4294967296; image = replicate (64 * lines) 0; numbers = []; limit = 1000000000 }
 
--- The run of a program takes n steps to its end and finds these reports, and the repair of the program for them is the
--- other program, whatever stores its clones do not flush.
+-- The run of a program takes n steps to its end and finds these reports. The repair of the program for these reports is
+-- the program Q, whatever stores its clones do not flush.
 pub record IsWorked (P : Program) (I : Input) (steps : ℕ) (found : List Report) (Q : Program) : Type 0 where
   pub ended : has_ended (run P I steps) ≡ true
   pub reports : reports P I steps ≡ found
   pub repaired : (skip : Site → Bool) → repaired P (plan_for P (findings P I steps)) skip ≡ Q
 
--- The same for a program with calls to hoist, whose clones flush each store.
+-- The run of a program takes n steps to its end and finds these reports, and some calls are to hoist. The repair of the
+-- program for these reports is the program Q, if its clones flush each store.
 pub record IsHoisted (P : Program) (I : Input) (steps : ℕ) (found : List Report) (Q : Program) : Type 0 where
   pub ended : has_ended (run P I steps) ≡ true
   pub reports : reports P I steps ≡ found

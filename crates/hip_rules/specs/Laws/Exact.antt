@@ -4,8 +4,8 @@ use Rattle.hip_tokens.specs.Tokens.{Tok, At}
 use Rattle.hip_rules.specs.Rule.{Rule, Later, Verdict, Yes, Because, No, done, one, both, ◌or◌}
 use Rattle.hip_rules.specs.Reader.{Outcome, Reader, on_ok, judged, done_at, one_at, both_at, next, either_at}
 
--- The reader has read the value up to `rest`. The rule derives another value, or this one up to another place, only
--- where the next token passes the test c.
+-- The rule derives the value that was read, up to `rest`. It derives another value, or this one up to another place,
+-- only if the next token at that place passes the test c.
 pub record Accepts {F A : Type 0} (l : Rule F A) (c : Tok → Bool) (ts : List At) (a : A)
     (rest : List At) : Type 0 where
   pub derives : l.Derives ts a rest
@@ -13,8 +13,8 @@ pub record Accepts {F A : Type 0} (l : Rule F A) (c : Tok → Bool) (ts : List A
   pub last : (m : List At) → l.Front ts m → length rest ≤ length m
   pub unrefused : (why : F) (m : List At) → l.Refuses why ts m → ⊥
 
--- The tokens up to `rest` are a front, and no front goes further. The rule derives a value only where the next token
--- passes the test c.
+-- The tokens up to `rest` are a front, and no front goes further. The rule derives a value up to a place only if the
+-- next token there passes the test c.
 pub record Rejects {F A : Type 0} (l : Rule F A) (c : Tok → Bool) (ts : List At) (why : Option F)
     (rest : List At) : Type 0 where
   pub front : l.Front ts rest
@@ -44,7 +44,7 @@ later_back a b (t ∷ w) e le = absurd (let k = ap length e in omega (arith, k, 
 pub later_antisym : (a b : List At) → Later a b → Later b a → b ≡ a
 later_antisym a b p q = sym (later_back a b p.0 p.1 (later_length b a q))
 
--- Two places in one list, in one order or the other.
+-- Of two places in one list, one is at or after the other.
 later_compare : (a b u v : List At) → u ++ a ≡ v ++ b → Later a b ⊎ Later b a
 later_compare a b [] v e = inl (v, e)
 later_compare a b (t ∷ u) [] e = inr (t ∷ u, sym e)
@@ -57,8 +57,9 @@ later_order ts a b p q = later_compare a b p.0 q.0 (sym p.1 ∙ q.1)
 abbrev pub ClosedFronts : {F A : Type 0} → Rule F A → Type 0
 ClosedFronts l = (ts m at : List At) → l.Front ts m → Later ts at → Later at m → l.Front ts at
 
--- The outcome of the reader is right from each place on. No tokens are a front of the rule, and so are the tokens that
--- derive a value. A front ends at its start or later, and each place before its end is the end of a front too.
+-- The outcome of the reader is right from each place on. The empty list of tokens is a front of the rule, and so are
+-- the tokens that derive a value. A front ends at its start or later, and each place before its end is the end of a
+-- front too.
 pub record IsExact {F A : Type 0} (l : Rule F A) (r : Reader F A) (c : Tok → Bool) : Type 0 where
   pub empty : (ts : List At) → l.Front ts ts
   pub whole : (ts : List At) (a : A) (rest : List At) → l.Derives ts a rest → l.Front ts rest
@@ -77,7 +78,7 @@ pub record IsAbsent {F A : Type 0} (l : Rule F A) (ts : List At) : Type 0 where
 abbrev pub never : Tok → Bool
 never t = false
 
--- A token passes one test or the other.
+-- Whether a token passes at least one of two tests.
 abbrev pub joined : (Tok → Bool) → (Tok → Bool) → Tok → Bool
 joined c d t = c t || d t
 
@@ -333,7 +334,7 @@ module _ (F A B : Type 0) (l : Rule F A) (f : A → Rule F B) (c d : Tok → Boo
     reason = λ w k. inl (p.reason w k);
   }
 
-  -- The second part is only read if the first derives.
+  -- The second part has to be read exactly only where the first derives a value.
   pub both_where : (s : A → Reader F B) (ts : List At) (o : Outcome F A)
       → ((a : A) (m : List At) → l.Derives ts a m → Exactly (f a) d m (s a m)) → Exactly l c ts o
       → Exactly (both l f) d ts (on_ok o s)
@@ -396,7 +397,7 @@ both_closed l f w p c d ts m at t a b = elim t [
   ]
 ]
 
--- Where the first part may go on, the second is absent.
+-- The reading of two parts is exact, if the second is absent wherever the first may go on.
 pub both_exact : {F A B : Type 0} (l : Rule F A) (f : A → Rule F B) (r : Reader F A) (s : A → Reader F B)
     (c d : Tok → Bool) → IsExact l r c → ((a : A) → IsExact (f a) (s a) d)
     → ((a : A) (m : List At) → next c m ≡ true → IsAbsent (f a) m) → IsExact (both l f) (both_at r s) d
@@ -411,7 +412,7 @@ both_exact {F} {A} {B} l f r s c d p q absent = record {
       (p.reads ts);
 }
 
--- A first part that never goes on.
+-- The reading of two parts is exact, if the first never goes on.
 pub then_exact : {F A B : Type 0} (l : Rule F A) (f : A → Rule F B) (r : Reader F A) (s : A → Reader F B)
     (d : Tok → Bool) → IsExact l r never → ((a : A) → IsExact (f a) (s a) d)
     → IsExact (both l f) (both_at r s) d
@@ -523,7 +524,7 @@ or_closed : {F A : Type 0} (l m : Rule F A) → ClosedFronts l → ClosedFronts 
 unfolding ◌or◌
 or_closed l m p q ts w at t a b = elim t [ inl t ↦ inl (p ts w at t a b) | inr t ↦ inr (q ts w at t a b) ]
 
--- The next token says which case it is.
+-- The reading of two cases is exact, if the next token decides between them.
 pub or_exact : {F A : Type 0} (l m : Rule F A) (r s : Reader F A) (c k : Tok → Bool) → IsExact l r c
     → IsExact m s c
     → ((ts : List At) → next k ts ≡ true → IsAbsent m ts)
@@ -600,7 +601,7 @@ other_absent p t ts e = record {
   refused = λ why m h. let k = verdicts p t h.1 ts h.2 No (Because why) e h.3 h.4 in cc;
 }
 
--- A token for which the test is false is not this one.
+-- A rule for one token is absent where it refuses the next token without a reason.
 pub token_absent : {F A : Type 0} (p : Tok → Verdict F A) (k : Tok → Bool) (b : Bool)
     → ((t : Tok) → k t ≡ b → p t ≡ No)
     → (ts : List At) → next k ts ≡ b → IsAbsent (one p) ts

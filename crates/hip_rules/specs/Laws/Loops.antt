@@ -11,7 +11,7 @@ use Rattle.hip_rules.specs.Reader.{Outcome, Reader, on_ok, judged, next, times_a
 abbrev pub TakesSome : {F A : Type 0} → Reader F A → Type 0
 TakesSome {F} {A} r = (ts : List At) (x : A × List At) → r ts ≡ Ok x → length x.1 < length ts
 
--- So does one more part after a token that passes.
+-- One more part after a token that passes takes at least one token.
 pub another_some : {F A : Type 0} (k : Tok → Bool) (l : Part F A)
     → ((ts : List At) (x : A × List At) → l.read ts ≡ Ok x → length x.1 ≤ length ts)
     → TakesSome (one_more_by k l).read
@@ -39,7 +39,7 @@ module _ (F A : Type 0) (k : Tok → Bool) (r : Reader F A) (some : TakesSome r)
   same_step n m ts (Ok x) e p q h = let lt = some ts x e in ap (onto x.0) (h x.1 (omega arith) (omega arith))
   same_step n m ts (Err f) e p q h = refl
 
-  -- More turns than there are tokens change nothing.
+  -- A limit on the number of parts that is greater than the number of tokens changes nothing.
   fuel : (n m : ℕ) (ts : List At) → length ts ≤ n → length ts ≤ m → times_at k r n ts ≡ times_at k r m ts
   unfolding times_at
   fuel zero zero ts p q = refl

@@ -10,12 +10,12 @@ use Rattle.hip_rules.specs.Laws.Same.{IsSame}
 use Rattle.hip_rules.specs.Laws.Phases.{phases_exact}
 use Rattle.hip_rules.specs.Laws.Loops.{TakesSome}
 
--- The reading is exact for the rule, if no token that `follow` passes comes after a whole part, unless the rule itself
--- could go on with it.
+-- The reading is exact for the rule. The rule derives a value other than the one that is read, or up to another place,
+-- only if the next token there passes the test `follow`.
 abbrev pub Exact : {F A : Type 0} → Part F A → (Tok → Bool) → Type 0
 Exact p follow = IsExact p.rule p.read follow
 
--- The same for a part that takes at least one token, and begins with a token that `first` passes.
+-- The reading is exact, and the part takes at least one token, of which the first passes the test `first`.
 pub record IsRead {F A : Type 0} (p : Part F A) (first follow : Tok → Bool) : Type 0 where
   pub exact : Exact p follow
   pub absent : (ts : List At) → next first ts ≡ false → IsAbsent p.rule ts
@@ -238,7 +238,7 @@ pub one_more_read : {F A : Type 0} (l : Part F A) (k first c : Tok → Bool) →
     → IsRead (one_more_by k l) k c
 one_more_read l k first c p = one_more_by_read l k c p.exact
 
--- Any number of parts more, each after a separator.
+-- Any number of further parts, each after a separator.
 pub more_exact : {F A : Type 0} (l : Part F A) (k first : Tok → Bool) → IsRead l first never
     → Exact (repeated k (one_more_by k l)) k
 more_exact l k first p =
@@ -336,11 +336,11 @@ part_link l f d p q = then_exact l.rule (λ a. (f a).rule) l.read (λ a. (f a).r
 pub token_exact : {F A : Type 0} (p : Tok → Verdict F A) (d : Tok → Bool) → Exact (token p) d
 token_exact p d = exact_widens (one p) _ never d (next_widens never d (never_passes d)) (one_exact p)
 
--- A part that nothing may continue: the test is never used.
+-- A part that no token continues is exact with each test.
 pub closed_exact : {F A : Type 0} (p : Part F A) (d : Tok → Bool) → Exact p never → Exact p d
 closed_exact p d q = exact_widens p.rule p.read never d (next_widens never d (never_passes d)) q
 
--- An optional part whose own follow set is within its first tokens.
+-- An optional part whose values never go on. The test `follow` is that of its first token.
 pub optional_same : {F A : Type 0} (l : Part F A) (k : Tok → Bool) → IsRead l k never → Exact (optional k l) k
 optional_same l k p =
     exact_widens _ _ (joined k never) k (next_widens (joined k never) k (by_never k)) (optional_exact l k never p)
@@ -360,7 +360,7 @@ apart_sym c d p t e = by_right (c t) refl
 pub apart_joined : (d a b : Tok → Bool) → Apart d a → Apart d b → Apart d (joined a b)
 apart_joined d a b p q t e = rw (p t e) (q t e)
 
--- A test that more tokens pass than begin the part.
+-- If the next token fails a wider test, it fails the test of the first tokens.
 next_not_wide : (first wide : Tok → Bool) → ((t : Tok) → wide t ≡ false → first t ≡ false)
     → (ts : List At)
     → next wide ts ≡ false → next first ts ≡ false

@@ -29,7 +29,7 @@ module _ (F X P B : Type 0) (h : Rule F X) (rh : Reader F X) (f : X → Rule F P
   abbrev pub phases : List P → Rule F B
   phases ps = both (many (both h f)) (λ more. T (ps ++ more))
 
-  -- The same, by the next tokens.
+  -- The same rule with the head taken out of the cases, so that the next token decides.
   abbrev pub factored_phases : List P → Rule F B
   factored_phases ps = both h (λ x. both (f x) (λ p. phases (ps ++ (p ∷ []))) or R ps x) or O ps
 

@@ -78,7 +78,7 @@ module _ (F A : Type 0) (l : Rule F A) (r : Reader F A) (k c : Tok → Bool) (p 
         q.refused why m (subst (λ u. l.Refuses why u m) here t.3);
   }
 
-  -- After the first part nothing more is read, unless the next token passes the test.
+  -- Where the next token passes the test c, no part takes a token.
   ended : (m : List At) → next c m ≡ true → (ys : List A) (w : List At) → AllDerive l m ys w → w ≡ m
   ended m g ys w t = (none_is m (ends m g) ys w t).1
 

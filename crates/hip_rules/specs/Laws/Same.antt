@@ -338,8 +338,9 @@ module _ (F A B : Type 0) (l : Rule F A) (k : List A → Rule F B) where
         ];
   }
 
--- If one of the two cases of a repeated part begins with a head, then the repeated parts and their close are the same
--- as: the first part by its head, the first part of the other case, or the close.
+-- Repeated parts of two cases, of which one begins with a head, and their close are the same as three cases: the head
+-- and the rest of the first part, the first part of the other case, or the close alone. The other parts follow a first
+-- part.
 pub head_or_other : {F X A B : Type 0} (h : Rule F X) (f : X → Rule F A) (e : Rule F A) (k : List A → Rule F B)
     → IsSame (both h (λ x. both (f x)
     (λ i. both (many (both h f or e)) (λ is. k (i ∷ is)))) or (both e (λ i. both (many (both h f or e))

@@ -18,7 +18,7 @@ pub record IsTextOf {F A : Type 0} (ends : List ℕ → Bool) (l : Rule F A) (te
   pub derives : (line : ℕ) (rest : List ℕ) → ends rest ≡ true
       → (after : ℕ) × l.Derives (cut line 0 (text ++ rest)) x (cut after 0 rest)
 
--- `c` holds of the bytes after `text`, if `d` holds of what follows it.
+-- If `d` holds of the bytes after `text`, `c` holds of `text` and those bytes together.
 abbrev pub Leaves : (List ℕ → Bool) → List ℕ → (List ℕ → Bool) → Type 0
 Leaves c text d = (rest : List ℕ) → d rest ≡ true → c (text ++ rest) ≡ true
 
@@ -40,7 +40,7 @@ blank_text {l = l} {t = t} {x = x} b blank p =
           (q.0, rw (cut_blank line b (t ++ rest) blank) q.1);
     }
 
--- A part with a separator after it.
+-- A part and a blank after it. Any bytes may follow the blank.
 pub blank_past : {F A : Type 0} {l : Rule F A} {c : List ℕ → Bool} {s : List ℕ} {x : A} (b : ℕ)
     → is_blank b ≡ true
     → Leaves c (b ∷ []) anything → IsTextOf c l s x → IsTextOf anything l (s ++ b ∷ []) x
@@ -63,7 +63,7 @@ then_text f {s = s} {t = t} {x = x} p q leaves = record {
       (second.0, rw (append_assoc s t rest) (x, cut first.0 0 (t ++ rest), first.1, second.1));
 }
 
--- A part and then nothing.
+-- A part, and then one with an empty text.
 pub last_text : {F A B : Type 0} {l : Rule F A} (f : A → Rule F B) {c : List ℕ → Bool} {s : List ℕ} {x : A}
     {y : B}
     → IsTextOf c l s x → IsTextOf anything (f x) [] y → IsTextOf c (both l f) s y
@@ -175,7 +175,7 @@ more_text {s = s} {t = t} p q leaves = record {
       (second.0, rw (append_assoc s t rest) (cut first.0 0 (t ++ rest), first.1, second.1));
 }
 
--- One part and then another.
+-- Any number of parts, one after the other.
 module _ {F X A : Type 0} (l : Rule F A) (text : X → List ℕ) (value : X → A) (c : List ℕ → Bool)
     (test : X → Bool)
     (each : (x : X) → test x ≡ true → IsTextOf c l (text x) (value x))

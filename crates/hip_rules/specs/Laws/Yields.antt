@@ -7,7 +7,7 @@ use Rattle.hip_tokens.specs.Formed.{is_formed, AreFormed}
 use Rattle.hip_rules.specs.Rule.{Rule, Verdict, Yes, done, one, both, ◌or◌, many, perhaps, AllDerive}
 use Rattle.hip_rules.specs.Part.{Part, gives, token, ◌>>=◌, either, repeated, optional, one_more_by, separated, none_up_to, some_up_to, listed, skipped, phased}
 
--- The derived value has the property, and the tokens that are left are formed too.
+-- Each value that the rule derives from formed tokens has the property, and the tokens that are left are formed too.
 abbrev pub RuleYields : {F A : Type 0} → Rule F A → (A → Type 0) → Type 0
 RuleYields {F} {A} l Q =
     (ts : List At) (a : A) (rest : List At) → AreFormed ts → l.Derives ts a rest → Q a × AreFormed rest
@@ -104,7 +104,7 @@ pub one_more_yields : {F A : Type 0} (k : Tok → Bool) (l : Part F A) (Q : A �
 unfolding one_more_by
 one_more_yields k l Q p = after_token _ _ Q (λ _. p)
 
--- All values pass, and there is at least one.
+-- A separated list has at least one value, and all of its values pass the test.
 pub separated_yields : {F A : Type 0} (k : Tok → Bool) (l : Part F A) (test : A → Bool) (Q : List A → Type 0)
     → Yields l (λ a. test a ≡ true) →
     ((x : A) (xs : List A) → list_all test (x ∷ xs) ≡ true → Q (x ∷ xs))

@@ -150,11 +150,11 @@ compare whole (p ∷ ps) (e ∷ es) = go (piece_same p e) (compare whole ps es)
 
 -- ---- files
 
--- Some entry of the bytes is a misfit, in some way.
+-- Some entry of the bytes is a misfit of some kind.
 abbrev SomeMisfit : Program → List ℕ → Bool → Type 0
 SomeMisfit P bytes whole = (e : ℕ) × (k : MisfitKind) × IsMisfit P bytes whole e k
 
--- No entry of the bytes is a misfit, in whatever way.
+-- No entry of the bytes is a misfit of any kind.
 abbrev NoMisfit : Program → List ℕ → Bool → Type 0
 NoMisfit P bytes whole = (e : ℕ) (k : MisfitKind) → IsMisfit P bytes whole e k → ⊥
 

@@ -6,8 +6,8 @@ use Rattle.hip_trace.specs.Entries.{entry_of}
 use Rattle.hip_trace.specs.Pieces.{counts_last, counted, is_separator, parts, spelled}
 use Rattle.hip_trace.specs.declared.entry.Entry.{Entry}
 
--- The parts of a front and of the whole: the first ones are the same, then comes the last part of the front, which may
--- go on.
+-- The parts of a front and of the whole. The first parts are the same. Then comes the last part of the front, which may
+-- be the start of a longer part of the whole.
 record SplitsAlike (front whole : List (List ℕ)) : Type 0 where
   same : List (List ℕ)
   last : List ℕ
@@ -88,7 +88,7 @@ counts_long true [] lt = absurd (omega (arith, lt))
 counts_long true (b ∷ bs) lt = refl
 counts_long false part lt = lt-ltb 256 (length part) lt
 
--- A last part that is too long spells nothing, however it goes on.
+-- A last part that is too long spells nothing, whatever follows it.
 long_last : (whole : Bool) (last more : List ℕ) (rest : List (List ℕ)) → 256 < length last
     → (es : List (Option Entry))
     × (map entry_of (counted whole ((last ++ more) ∷ rest)) ≡ None ∷ es)

@@ -52,7 +52,7 @@ fit_pieces whole bytes = fit_texts (pieces whole bytes)
 
 -- ---- what a header has given so far
 
--- The entries after START and REGISTER that give this.
+-- The entries after START and REGISTER that give the input so far.
 abbrev so_far : Input → List Entry
 so_far J = map (λ z. Number z) J.numbers ++ image_entries (length J.image / 64) J.base J.image
 
@@ -126,7 +126,7 @@ takes_number P J K z good fits q =
               ∙ ap (λ (es : List Entry). map (λ y. Number y) J.numbers ++ es) (sym nothing));
         }
 
--- The entries of some lines, of a gap of zeros, and of one line more.
+-- The entries of some lines, of a gap of zeros, and of one more line.
 line_more : (addr k m : ℕ) (A line : List ℕ) → length A ≡ 64 * k → length line ≡ 64
     → some_byte line ≡ true
     → image_entries (k + (m + 1)) addr (A ++ (zeros (64 * m) ++ line)) ≡ image_entries k addr A
@@ -344,7 +344,7 @@ base_of P (Some e) b q = absurd (let z : ⊥ = cc in z)
 
 -- ---- the whole header
 
--- The pieces begin with the entries that stand before the first step of the run on the input, which is valid.
+-- The pieces begin with the entries before the first step of the run on the input, which is valid.
 pub record IsHeader (P : Program) (es : List (Option Entry)) (h : ℕ) (F : Input) : Type 0 where
   pub input : IsInput F
   pub valid : IsValid P F

@@ -25,12 +25,12 @@ use Rattle.hip_trace.specs.declared.entry.Entry.TheVariants.{Start, Register, In
 
 -- ---- the entries of steps belong to no header
 
--- No header goes on with the first of these entries; true if there is none.
+-- No header continues with the first of these entries; true if there is no entry.
 abbrev StopsIt : Program → List Entry → Type 0
 StopsIt P [] = Unit {0}
 StopsIt P (e ∷ es) = (J : Input) → with_entry P J (Some e) ≡ None
 
--- No header goes on with these entries.
+-- No header continues with these entries.
 record EndsHeader (P : Program) (es : List Entry) : Type 0 where
   is : StopsIt P es
 

@@ -1,4 +1,4 @@
--- A trace has at most one misfit, which its first bytes decide, and none if it is the run's.
+-- A trace has at most one misfit, which its first bytes decide, and no misfit if it is the trace of the run.
 use Rattle.std.proofs.Common.{◌≡◌, ◌⊎◌, inl, inr, ℕ, zero, suc, ◌+◌, ◌≤◌, ◌<◌, Bool, true, false, List, [], ◌∷◌, ◌++◌, length, take, slice_get, Option, Some, None, refl, sym, ap, ◌∙◌, subst, arith, append_assoc, length-append}
 use Rattle.std.specs.Prelude.{option_map}
 use Rattle.std.proofs.lemmas.List.{append-nil}
@@ -70,7 +70,7 @@ one_kind whole None (Some e) k k' h g = h.1 ∙ sym g.1
 one_kind whole (Some p) None k k' h g = h ∙ sym g
 one_kind whole (Some p) (Some e) k k' h g = h.1 ∙ sym g.1
 
--- No difference comes before the end of the spelled entries.
+-- Pieces and entries do not differ before the end of the spelled entries.
 not_before : (whole : Bool) (ps : List (Option Entry)) (es : List Entry) (c n : ℕ) (kind : MisfitKind)
     → FirstDiffers whole ps es c kind → take n ps ≡ stated (take n es) → c < n → ⊥
 not_before whole ps es c n kind d h lt =
@@ -317,7 +317,7 @@ module _ (P : Program) (front rest : List ℕ) (whole : Bool) (e : ℕ) (kind : 
 
 -- ---- step by step
 
--- A difference before the end of the trace of some steps is one of the whole trace.
+-- A difference before the end of the trace of some steps is a difference from the whole trace.
 pub step-differs : (P : Program) (I : Input) (n : ℕ) (whole : Bool) (ps : List (Option Entry)) (es : List Entry)
     (c : ℕ)
     (kind : MisfitKind) → IsTrace P I es → c < length (trace P I n) → FirstDiffers whole ps (trace P I n) c kind
@@ -331,7 +331,7 @@ step-differs P I n whole ps es c kind t lt d =
           (sym (ap (λ (xs : List Entry). slice_get xs c) f.1 ∙ get_appended (trace P I n) f.0 c lt)) d.here;
     }
 
--- After entries that the pieces spell, the first difference is that of the rest.
+-- After entries that the pieces spell, the first difference is the first difference of the rest.
 pub differs-past : (whole : Bool) (front : List Entry) (ps : List (Option Entry)) (more : List Entry)
     (kind : MisfitKind) → DiffersAt whole (slice_get ps 0) (slice_get more 0) kind
     → FirstDiffers whole (stated front ++ ps) (front ++ more) (length front) kind
@@ -433,7 +433,7 @@ module _ (P : Program) (I : Input) (n : ℕ) (bytes : List ℕ) (more : List (Op
       front-agrees P bytes F h whole.0 e k q (subst (λ (J : Input). IsTrace P J whole.0) (sym input) whole.1)
       (first_stated (spelled false bytes) more (trace P I n) whole.0 split front.0 front.1) m
 
-  -- All pieces are of the header.
+  -- All pieces belong to the header.
   ends_later : (h : ℕ) (F : Input) → header P (spelled false bytes) ≡ Gives h F
       → length (spelled false bytes) ≤ h → ⊥
   ends_later h F q le =

@@ -54,8 +54,8 @@ record AreStored (bytes : List ℕ) : Type 0 where
   sized : is_store_size (length bytes) ≡ true
   below : little_endian bytes < 2 ^ (8 * length bytes)
 
--- A store is of a value of 1, 2, 4 or 8 bytes, and the range of an assert lies in the region; no condition on any other
--- action.
+-- A store is of a value of 1, 2, 4 or 8 bytes, and the range of an assert is in the region. There is no condition on
+-- any other action.
 abbrev ranged : Input → Action → Type 0
 ranged I (Stores a bytes) = AreStored bytes
 ranged I (Asserts a n) = in_region I a n ≡ true

@@ -1,5 +1,5 @@
--- The trace of a run has as many entries as the run counts; after more steps it begins with the trace after fewer; and
--- the run has one whole trace.
+-- The trace of a run has as many entries as the run counts. After more steps it begins with the trace after fewer
+-- steps. The run has exactly one whole trace.
 use Rattle.std.proofs.Common.{◌≡◌, ◌⊎◌, inl, inr, ℕ, ℤ, zero, suc, ◌+◌, ◌/◌, Bool, true, false, cond, List, [], ◌∷◌, ◌++◌, map, length, take, drop, refl, sym, ap, ◌∙◌, subst, arith, append_assoc, length-append}
 use Rattle.std.specs.Prelude.{if◌then◌else◌}
 use Rattle.std.proofs.lemmas.List.{append-nil, length-map}

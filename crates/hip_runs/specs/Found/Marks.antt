@@ -63,8 +63,8 @@ abbrev pub mark_of : Site → ℕ → Option Object → List Mark
 mark_of site k None = []
 mark_of site k (Some object) = record { site = site; operand = k; object = object } ∷ []
 
--- The marks of these pointer operands of the instruction at a frame's place, the first of which has number k, while the
--- frames `fs` stand.
+-- The marks of these pointer operands of the instruction at a frame's place, the first of which has number k. The
+-- frames of the state are `fs`.
 abbrev pub operand_marks : Program → Input → List Frame → Frame → ℕ → List Operand → List Mark
 operand_marks P I fs f k [] = []
 operand_marks P I fs f k (o ∷ os) =
@@ -76,12 +76,12 @@ abbrev pub code_marks : Program → Input → List Frame → Frame → List Inst
 code_marks P I fs f [] = []
 code_marks P I fs f (i ∷ rest) = operand_marks P I fs f 0 (pointer_operands P i)
 
--- The marks of the instruction at the top frame's place, whether it is taken or not; none if no frame stands.
+-- The marks of the instruction at the top frame's place, whether or not it is executed; none if there is no frame.
 abbrev pub frame_marks : Program → Input → List Frame → List Mark
 frame_marks P I [] = []
 frame_marks P I (f ∷ fs) = code_marks P I (f ∷ fs) f (code_at P f)
 
--- The list, unless the event ends the run: then the step did not take its instruction.
+-- The list, or no items if the event ends the run, since that step does not execute its instruction.
 abbrev pub unless_ended : {A : Type 0} → Event → List A → List A
 unless_ended (events.End e) xs = []
 unless_ended _ xs = xs
@@ -90,20 +90,21 @@ unless_ended _ xs = xs
 abbrev pub step_marks : Program → Input → State → List Mark
 step_marks P I s = cond (has_ended s) [] (unless_ended (event P I s) (frame_marks P I s.frames))
 
--- The persistent global that a store's address lies in, since the event of a store is of the region, where no other
--- global lies.
+-- The number of the global that a store's address is in, as a list. It is persistent, since the event of a store is of
+-- the region.
 abbrev pub event_hits : Program → Input → Event → List ℕ
 event_hits P I (events.Store a value size) = option_to_list (global_at P I.base a)
 event_hits P I _ = []
 
 -- ---- the marks and the findings of a run
 
--- The marks of the first n steps, each once, in the order of first meeting.
+-- The marks of the first n steps, each once, in the order in which they first occur.
 unfoldable pub pointed : Program → Input → ℕ → List Mark
 pointed P I zero = []
 pointed P I (suc n) = met same_mark (pointed P I n) (step_marks P I (run P I n))
 
--- The numbers of the persistent globals that the first n steps stored into, each once, in the order of first meeting.
+-- The numbers of the persistent globals that the first n steps stored into, each once, in the order in which they first
+-- occur.
 unfoldable pub hit : Program → Input → ℕ → List ℕ
 hit P I zero = []
 hit P I (suc n) = met nat_eq (hit P I n) (event_hits P I (event P I (run P I n)))

@@ -63,7 +63,8 @@ abbrev pub latest_flush : List LoosePart → Option Flush
 latest_flush [] = None
 latest_flush (p ∷ ps) = later_flush p.part.first_flush (latest_flush ps)
 
--- A store lacks a fence if all its loose parts are flushed, a flush if a fence came after it, and else both.
+-- A store lacks only a fence if all its loose parts are flushed. Otherwise it lacks a flush if a fence came after it,
+-- and both if no fence came.
 abbrev pub kind_of : Bool → Bool → Kind
 kind_of true fenced = MissingFence
 kind_of false true = MissingFlush
@@ -87,7 +88,8 @@ abbrev pub closed_count : List Level → List Level → ℕ
 closed_count standing [] = 0
 closed_count standing (l ∷ ls) = cond (is_open standing l) (closed_count standing ls) (suc (closed_count standing ls))
 
--- The report of a store from its loose parts, of which p is one, at the check with this entry, while these calls stand.
+-- The report of a store from its loose parts, of which p is one, at the check with this entry. The calls `standing`
+-- have not returned.
 abbrev pub report_by : List Level → ℕ → StorePart → List LoosePart → Report
 report_by standing check p ps =
     record {

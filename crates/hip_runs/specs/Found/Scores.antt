@@ -19,7 +19,7 @@ abbrev pub is_marked : List ℕ → Object → Bool
 is_marked hit (objects.Global g) = list_any (nat_eq g) hit
 is_marked hit (objects.Slot s) = false
 
--- 1 for an object that is marked, -1 for any other
+-- The worth of an object: 1 if it is marked, else -1.
 abbrev pub worth_of : Bool → ℤ
 worth_of true = pos 1
 worth_of false = negsuc 0
@@ -35,7 +35,7 @@ worth_in hit site operand (m ∷ ms) sum =
 abbrev pub worth : Marks → Site → ℕ → ℤ
 worth marks site operand = worth_in marks.hit site operand marks.pointed (pos 0)
 
--- The greater of a number and another one, if there is another.
+-- The greater of two numbers, or the first if there is no second.
 abbrev pub greater : ℤ → Option ℤ → Option ℤ
 greater a None = Some a
 greater a (Some b) = Some (cond (int_lt a b) b a)
@@ -50,7 +50,7 @@ abbrev pub operands_at : Program → Option Instr → List Operand
 operands_at P None = []
 operands_at P (Some i) = pointer_operands P i
 
--- The score of a site is the greatest worth of its pointer operands; a site without one has none.
+-- The score of a site is the greatest worth of its pointer operands. A site without a pointer operand has no score.
 abbrev pub score : Program → Findings → Site → Option ℤ
 score P found site = greatest_worth found.marks site 0 (operands_at P (instr_of P site))
 

@@ -31,16 +31,16 @@ pub record IsLoosePart (o n made : ℕ) (ls : List (Line StorePart)) (p : LooseP
   pub step : p.part.step ≡ made
   pub flushed : p.flushed ≡ nat_lt place of.flushed
 
--- One of the loose bytes has the tag.
+-- Whether one of the loose bytes has the tag.
 abbrev pub has_tag : ℕ → List LooseByte → Bool
 has_tag made bs = list_any (λ b. nat_eq b.tag made) bs
 
--- All loose bytes that have the tag are flushed.
+-- Whether all loose bytes that have the tag are flushed.
 abbrev pub tag_flushed : ℕ → List LooseByte → Bool
 tag_flushed made bs = list_all (λ b. not (nat_eq b.tag made) || b.flushed) bs
 
--- Each loose part of a store has a loose byte with the store's tag that is flushed alike, and each such byte has such a
--- part.
+-- For each loose part of a store there is a loose byte with the store's tag that is flushed exactly if the part is, and
+-- for each loose byte with the tag there is a part that is flushed exactly if the byte is.
 pub record AreAlike (ps : List LoosePart) (bs : List LooseByte) (made : ℕ) : Type 0 where
   pub byte_of : (p : LoosePart) → In p ps → (b : LooseByte) × In b bs × (b.tag ≡ made)
       × (b.flushed ≡ p.flushed)
@@ -54,7 +54,7 @@ pub record AreStatedBy (ps : List LoosePart) (bs : List LooseByte) (made : ℕ) 
   pub some : not_empty ps ≡ has_tag made bs
   pub flushed : all_flushed ps ≡ tag_flushed made bs
 
--- The numbers ascend, the first of them at least a, and the last below b.
+-- The numbers ascend. Each is at least a and below b.
 abbrev pub AscendWithin : ℕ → ℕ → List ℕ → Type 0
 AscendWithin a b [] = Unit {0}
 AscendWithin a b (x ∷ xs) = (a ≤ x) × (x < b) × AscendWithin (x + 1) b xs

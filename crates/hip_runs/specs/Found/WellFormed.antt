@@ -8,15 +8,15 @@ use Rattle.hip_runs.specs.declared.report.Kind.TheVariants.{MissingFlush, Missin
 use Rattle.hip_runs.specs.declared.report.Report.{Report}
 use Rattle.hip_runs.specs.Sites.{is_store, is_flush_call, is_defined_call}
 
--- Whether a fence is missing and no flush.
+-- Whether only a fence is missing.
 abbrev pub lacks_fence_alone : Kind → Bool
 lacks_fence_alone MissingFence = true
 lacks_fence_alone MissingFlush = false
 lacks_fence_alone MissingBoth = false
 
--- A report names a flush exactly if only a fence is missing, and fewer calls have returned than its path is long. The
--- path begins at a store and goes on with calls of functions of the program; the flush is a call that flushes and takes
--- no fence.
+-- A report names a flush exactly if only a fence is missing, and the number of returned calls is less than the length
+-- of its path. The path begins at a store and continues with calls of functions of the program. The flush is a call
+-- that flushes and takes no fence.
 pub record IsWellFormed (P : Program) (r : Report) : Type 0 where
   pub flush_site : is_some r.flush_site ≡ lacks_fence_alone r.kind
   pub closed : r.closed < length r.path

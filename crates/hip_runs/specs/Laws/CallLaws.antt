@@ -1,4 +1,4 @@
--- What a step does to the frames; and from that, which of a part's calls still stand later.
+-- What a step does to the frames, and which of a part's calls have not returned in a later state.
 use Rattle.std.proofs.Common.{◌≡◌, inl, inr, ℕ, zero, suc, ◌≤◌, Bool, true, false, cond, List, [], ◌∷◌, Option, Some, None, is_some, refl, sym, ap, subst, arith}
 use Rattle.hip_tree.specs.Sites.{instr_of}
 use Rattle.hip_tree.specs.declared.program.Program.{Program}
@@ -71,7 +71,7 @@ module _ (P : Program) (s : State) where
       go true = stays f f fs q refl (same_call f) c
       go false = perform_moves I _ f fs s.lines after q c d.action h
 
--- Each step moves the frames or rests, since a frame stands in each state of a run.
+-- Each step moves the frames or leaves the state as it is, since each state of a run has a frame.
 pub step_moves : (P : Program) (I : Input) (s : State) → Moves P s (step P I s)
 unfolding step on_ending on_frames
 step_moves P I s = go s.world.ending
@@ -154,7 +154,7 @@ module _ (P : Program) where
   among (l ∷ ls) h v (inl e) = subst (λ (x : Level). is_defined_call P (instr_of P x.call) ≡ true) (sym e) h.0
   among (l ∷ ls) h v (inr i) = among ls h.1 v i
 
-  -- The standing calls are calls of functions of the program.
+  -- The calls that have not returned are calls of functions of the program.
   pub calls_defined : (I : Input) (n : ℕ) (v : Level) → In v (levels_of (run P I n).frames)
       → is_defined_call P (instr_of P v.call) ≡ true
   calls_defined I n v i = among (levels_of (run P I n).frames) (run_defined I n) v i

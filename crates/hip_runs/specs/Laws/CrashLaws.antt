@@ -75,7 +75,7 @@ module _ (first content : List ℕ) (j : ℕ) where
   abbrev At : Line StorePart → Type 0
   At l = IsLineImage covers byte_of first content j l
 
-  -- If the changed line has at least as many durable parts, an image of it is one of the line.
+  -- If the changed line has at least as many durable parts, each image of the changed line is an image of the line.
   unmet : (f : StorePart → StorePart) → IsSame f → (l l' : Line StorePart) → l'.parts ≡ map f l.parts
       → l.durable ≤ l'.durable → At l' → At l
   unmet f s l l' e d h = (

@@ -36,7 +36,7 @@ fence_met ls m k x d = go (slice_get ls m) (subst (λ o. IsDurableIn o k x) (get
     go None h = absurd h
     go (Some l) h = sym (ap (λ (y : StorePart). y.fenced) (get-of_map noted_fence l.parts k x h.0).2)
 
--- A fence met each durable part.
+-- For each durable part, a fence came after its store.
 abbrev AreFenced : List (Line StorePart) → Type 0
 AreFenced ls = (m k : ℕ) (x : StorePart) → IsDurableIn (slice_get ls m) k x → x.fenced ≡ true
 
@@ -94,7 +94,7 @@ run_fenced P I (suc n) =
 
 -- ---- and they stay
 
--- A part that was flushed and met by a fence; later flushes and fences do not change it.
+-- A part that was flushed, and after whose store a fence came. Later flushes and fences do not change it.
 record IsSettled (x : StorePart) : Type 0 where
   flush : Flush
   flushed : x.first_flush ≡ Some flush
@@ -108,7 +108,7 @@ fence_same : (x : StorePart) → IsSettled x → noted_fence x ≡ x
 fence_same x s = ap (λ (b : Bool). record x { fenced = b }) (sym s.fenced)
 
 module _ (m k : ℕ) (x : StorePart) where
-  -- If the part is durable at its place in the first lines, it is so in the second.
+  -- If the part is durable at its place in the first lines, it is durable at that place in the second lines.
   abbrev Stays : List (Line StorePart) → List (Line StorePart) → Type 0
   Stays ls ls' = IsDurableIn (slice_get ls m) k x → IsDurableIn (slice_get ls' m) k x
 
@@ -158,7 +158,7 @@ module _ (m k : ℕ) (x : StorePart) where
     fence = stays_fenced s.lines a h;
   }
 
-  -- A durable part was flushed, and met by a fence.
+  -- A durable part was flushed, and a fence came after its store.
   settled : (P : Program) (I : Input) (n : ℕ) → IsDurableAt (run P I n) m k x → IsSettled x
   settled P I n d = go (slice_get (run P I n).lines m) refl d
     where

@@ -90,7 +90,7 @@ turn_goes P I turns left w f fs ls c d (Calls g rs to) e lt = turned _ _ refl e 
 turn_goes P I turns left w f fs ls c d (Jumps b rs) e lt = turned _ _ refl e lt
 turn_goes P I turns left w f fs ls c d (Returns v) e lt = leave_goes P I turns left v w f fs ls d e lt
 
--- An action that is no turn flushes, fences or traps.
+-- An action that is not a turn flushes, fences or traps.
 abbrev is_still : Action → Type 0
 is_still (Traps kind) = Unit {0}
 is_still (Flushes a n) = Unit {0}
@@ -98,7 +98,7 @@ is_still (Persists a n) = Unit {0}
 is_still Fences = Unit {0}
 is_still _ = ⊥
 
--- The action flushes, fences or traps, as that of each instruction does that is no turn.
+-- The action flushes, fences or traps. The action of each instruction that is not a turn does so.
 record IsStill (x : Action) : Type 0 where
   is : is_still x
 

@@ -42,9 +42,9 @@ use Rattle.hip_runs.specs.declared.event.Event.TheVariants as events
 
 -- ---- actions of instructions
 
--- A store is that of a `store`, and each of its bytes is below 256. A flush is that of a call that flushes and takes no
--- fence, a persist that of a call that does both. A call is that of a call of the same function. All other actions fit
--- any instruction.
+-- A store is the action of a `store`, and each of its bytes is below 256. A flush is the action of a call that flushes
+-- and takes no fence, and a persist that of a call that does both. A call is the action of a call of the same function.
+-- All other actions fit any instruction.
 abbrev fits : Program → Action → Option Instr → Type 0
 fits P (Stores a bytes) o = (is_store o ≡ true) × (bytes_of (length bytes) (little_endian bytes) ≡ bytes)
 fits P (Flushes a n) o = is_flush_call o ≡ true
@@ -175,8 +175,8 @@ fits_end P I f (Some ends.Unreachable) o = record { is = tt {0} }
 
 -- ---- events
 
--- A store is that of a `store`, a flush that of a call that flushes and takes no fence, a persist that of a call that
--- does both. All other events fit any instruction.
+-- A store is the event of a `store`, a flush that of a call that flushes and takes no fence, and a persist that of a
+-- call that does both. All other events fit any instruction.
 abbrev stated : Event → Option Instr → Type 0
 stated (events.Store a v n) o = is_store o ≡ true
 stated (events.Flush l n) o = is_flush_call o ≡ true
@@ -236,7 +236,7 @@ deed_fits P I w f fs = by_code (code_at P f) refl
         subst (Fits P (instr_action P I w (length fs) f.registers i)) (sym at)
         (fits_instr P I w (length fs) f.registers i)
 
--- And so does the event of that step.
+-- The event of the next step fits the instruction at the top frame's place.
 pub site_stated : (P : Program) (I : Input) (s : State) (t : Site) → top_site s.frames ≡ Some t
     → Stated (event P I s) (instr_of P t)
 unfolding event

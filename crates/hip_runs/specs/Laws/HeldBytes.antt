@@ -16,7 +16,7 @@ index_drop (suc n) [] i = refl
 index_drop (suc n) (x ∷ xs) i =
     index_drop n xs i ∙ (let e : suc (n + i) ≡ suc n + i = omega arith in ap (slice_index (x ∷ xs)) e)
 
--- What the test that a byte lies in a range decides.
+-- What the test whether a byte is in a range decides.
 covered : (first size b : ℕ) → nat_le first b && nat_lt b (first + size) ≡ true → (first ≤ b)
     × (b < first + size)
 covered first size b h = (grind (arith, nat_tests), grind (arith, nat_tests))
@@ -50,7 +50,7 @@ module _ (o : ℕ) (bytes : List ℕ) (j : ℕ) where
       let c = covered (start_in j o) (length Held) b h in
       (c.0, ends (length bytes) b c.0 (subst (λ k. b < start_in j o + k) length_held c.1))
 
-  -- And a byte of the line and of the store is covered.
+  -- The part covers each byte that is in the line and in the store.
   pub holds_byte : (b : ℕ) → start_in j o ≤ b → b < end_in j o (length bytes)
       → nat_le (start_in j o) b && nat_lt b (start_in j o + length Held) ≡ true
   holds_byte b h k =
@@ -72,7 +72,7 @@ module _ (o : ℕ) (bytes : List ℕ) (j : ℕ) where
       ∙ index_drop (start_in j o - o) bytes (b - start_in j o)
       ∙ ap (slice_index bytes) (sums b h)
 
-  -- A byte of the store that lies in the line is one that the part covers.
+  -- The part covers each byte of the store that is in the line.
   pub line_byte : (b : ℕ) → o ≤ b → b < o + length bytes → b / 64 ≡ j → (start_in j o ≤ b)
       × (b < end_in j o (length bytes))
   line_byte b h k e = inside (length bytes) b h k e

@@ -31,7 +31,8 @@ use Rattle.hip_tree.specs.declared.block.End.TheVariants as ends
 abbrev Stands : Program → Site → Type 0
 Stands P s = (i : Instr) × (instr_of P s ≡ Some i)
 
--- What a run keeps, by the standing calls, the cache lines, and the number of steps that were taken.
+-- What is true in each state of a run, by the calls that have not returned, the cache lines, and the number of steps
+-- that were taken.
 record IsKept (P : Program) (up : List Level) (ls : List (Line StorePart)) (n : ℕ) : Type 0 where
   made : (x : StorePart) → PartOf ls x → x.step < n
   flush_made : (x : StorePart) (f : Flush) → PartOf ls x → x.first_flush ≡ Some f → f.step < n
@@ -55,13 +56,13 @@ descending_later : (up : List Level) (n : ℕ) → AreDescending up n → AreDes
 descending_later [] n h = tt
 descending_later (l ∷ ls) n h = (omega (arith, h.0), h.1)
 
--- The standing calls were made before step n.
+-- The calls that have not returned were made before step n.
 pub born_before : (up : List Level) (n : ℕ) → AreDescending up n → (v : Level) → In v up → v.birth < n
 born_before [] n h v i = absurd i
 born_before (l ∷ ls) n h v (inl e) = subst (λ (x : Level). x.birth < n) (sym e) h.0
 born_before (l ∷ ls) n h v (inr i) = omega (arith, h.0, born_before ls l.birth h.1 v i)
 
--- A call that was made at step b or later does not stand if all standing calls were made before step b.
+-- A call that was made at step b or later has returned if all calls that have not returned were made before step b.
 closed_there : (up : List Level) (b : ℕ) → AreDescending up b → (v : Level) → b ≤ v.birth
     → is_open up v ≡ false
 closed_there [] b h v le = refl
@@ -438,7 +439,7 @@ module _ (P : Program) where
   get_front (z ∷ xs) y x zero e lt = e
   get_front (z ∷ xs) y x (suc k) e lt = get_front xs y x k e (omega arith)
 
-  -- A store keeps this; each part after it is an old part or a new one.
+  -- A store keeps these facts. Each part after it is an old part or a new one.
   store_here : (up : List Level) (ls : List (Line StorePart)) (counts : Counts) (s : Site) (o : ℕ) (bytes : List ℕ)
       → Stands P s → IsKept P up ls counts.steps →
       IsKept P up (stored (part_of_store counts s up o bytes) o (length bytes) ls) (suc counts.steps)
@@ -547,7 +548,7 @@ module _ (P : Program) where
 
   -- ---- a step
 
-  -- The state keeps what a run keeps, by its own calls, lines and count of steps.
+  -- The facts hold for the state's own calls, lines and count of steps.
   abbrev StateKept : State → Type 0
   StateKept s = IsKept P (levels_of s.frames) s.lines s.counts.steps
 
@@ -736,10 +737,11 @@ module _ (P : Program) where
         split = k.split;
       }
 
-  -- In each line at most as many parts are durable as are flushed, and at most as many are flushed as there are.
+  -- In each line the number of durable parts is at most the number of flushed parts, which is at most the number of
+  -- parts.
   pub lines_ordered : (I : Input) (n : ℕ) → AreOrdered (run P I n).lines
   lines_ordered I n = (run_kept I n).ordered
 
-  -- The standing calls were made one after another.
+  -- The calls that have not returned were made one after another.
   pub calls_descend : (I : Input) (n : ℕ) → AreDescending (levels_of (run P I n).frames) (run P I n).counts.steps
   calls_descend I n = (run_kept I n).stack

@@ -1,5 +1,5 @@
--- What every run keeps of each of its lines: its parts lie in it, their steps ascend, and the parts that are not
--- flushed have no first flush. And a part is fenced exactly if a fence came after its store.
+-- What is true of each line in every run: its parts are in it, their steps ascend, and the parts that are not flushed
+-- have no first flush. A part is fenced exactly if a fence came after its store.
 use Rattle.std.proofs.Common.{◌≡◌, ◌⊎◌, inl, inr, ℕ, zero, suc, ◌+◌, ◌-◌, ◌/◌, ◌<◌, ◌≤◌, Bool, true, false, cond, List, [], ◌∷◌, ◌++◌, length, map, take, drop, Option, Some, None, option_map, slice_get, refl, sym, ap, ◌∙◌, subst, arith, length-append, length-drop}
 use Rattle.std.proofs.lemmas.List.{length-map, length-take-le}
 use Rattle.hip_tree.specs.declared.program.Program.{Program}
@@ -23,9 +23,9 @@ use Rattle.hip_runs.specs.StoredParts.Since.{fences, FencedSince}
 use Rattle.hip_runs.specs.Laws.Members.{lt_true, true_lt}
 use Rattle.std.specs.Cmp.{both_ways}
 
--- Line m of a state after n steps.
+-- What is true of line m of a state after n steps.
 pub record IsWell (n m : ℕ) (l : Line StorePart) : Type 0 where
-  -- What its parts cover lies in it.
+  -- The bytes that the line's parts cover are in the line.
   pub inside : (k : ℕ) (x : StorePart) → slice_get l.parts k ≡ Some x → (b : ℕ) → covers x b ≡ true
       → b / 64 ≡ m
   pub line : (k : ℕ) (x : StorePart) → slice_get l.parts k ≡ Some x → x.offset / 64 ≡ m
@@ -93,7 +93,7 @@ well_fence n m l h = record {
       ∙ h.unflushed k r.0 r.1 le;
 }
 
--- The place is one of the list, or that of one more item at its end.
+-- The place is a place of the list, or the place of one more item at its end.
 data Place {A : Type 0} (xs : List A) (y : A) (k : ℕ) (x : A) : Type 0 where
   before : k < length xs → slice_get xs k ≡ Some x → Place xs y k x
   last : k ≡ length xs → x ≡ y → Place xs y k x
@@ -164,7 +164,7 @@ well_store n m y l o inside at_line step none h = record {
 
 -- ---- all lines
 
--- Each of these lines is that of a state after n steps, the first of them line 0.
+-- Each of these lines is a line of a state after n steps; the first of them is line 0.
 abbrev pub AreWell : ℕ → List (Line StorePart) → Type 0
 AreWell n ls = (m : ℕ) (l : Line StorePart) → slice_get ls m ≡ Some l → IsWell n m l
 

@@ -274,11 +274,11 @@ module _ (P : Program) (I : Input) (n j : ℕ) where
 -- ---- a step
 
 module _ (P : Program) (I : Input) (n : ℕ) where
-  -- The same for each of these lines.
+  -- The same holds for each of these lines.
   abbrev AreSeen : ℕ → List (Line StorePart) → Type 0
   AreSeen m ls = (j : ℕ) → AllSeen P I n j m (slice_get ls j)
 
-  -- If step n has this event, the same for each of these lines after it.
+  -- If step n has this event, the same holds for each of these lines after it.
   abbrev Next : Event → List (Line StorePart) → Type 0
   Next e ls = event P I (run P I n) ≡ e → AreSeen (suc n) ls
 

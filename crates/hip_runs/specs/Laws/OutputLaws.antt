@@ -25,7 +25,7 @@ record IsKept (before after : World) : Type 0 where
   output : after.output ≡ before.output
   going : after.ending ≡ None
 
--- An event that prints nothing and is no end says just that.
+-- A step that prints nothing and does not end the run agrees with an event that prints nothing and is not an end.
 nothing : {before after : World} → IsKept before after → (e : Event) → printed_by e ≡ []
     → ending_by e ≡ None
     → IsStated before after e

@@ -36,7 +36,7 @@ part-fenced [] y i = absurd i
 part-fenced (l ∷ ls) y (inl i) = let r = in-map noted_fence l.parts y i in (r.0, inl r.1, r.2)
 part-fenced (l ∷ ls) y (inr i) = let r = part-fenced ls y i in (r.0, inr r.1, r.2)
 
--- A part did not change, or a flush met it.
+-- A part is unchanged, or it is changed by the flush of its line.
 abbrev pub IsFlushedFrom : Flush → StorePart → StorePart → Type 0
 IsFlushedFrom flush y x = (y ≡ x) ⊎ (y ≡ noted_flush flush x)
 

@@ -82,7 +82,8 @@ module _ (P : Program) (I : Input) (n : ℕ) where
 
 -- ---- what a part has of the steps since its store
 
--- A part in line j, of a store before step n, has whether a fence came since, and the first flush of its line.
+-- A part in line j, of a store before step n, notes whether a fence came since its store, and the first flush of its
+-- line since then.
 record IsStated (P : Program) (I : Input) (n j : ℕ) (x : StorePart) : Type 0 where
   line : x.offset / 64 ≡ j
   made : x.step < n
@@ -90,7 +91,7 @@ record IsStated (P : Program) (I : Input) (n j : ℕ) (x : StorePart) : Type 0 w
   by_fence : FencedSince P I x.step n → x.fenced ≡ true
   flush : IsFirstFlush P I j x.step n x.first_flush
 
--- The flush is one of step n, at the site at which the run stands.
+-- Step n makes the flush, at the site of the top frame.
 record IsHere (P : Program) (I : Input) (n : ℕ) (flush : Flush) : Type 0 where
   step : flush.step ≡ n
   site : top_site (run P I n).frames ≡ Some flush.site
@@ -154,7 +155,7 @@ module _ (P : Program) (I : Input) (n j : ℕ) where
 
 -- ---- the parts of a line
 
--- The line is there and has this part, at whatever place.
+-- There is a line, and it has this part at some place.
 abbrev pub InLine : Option (Line StorePart) → StorePart → Type 0
 InLine None x = ⊥
 InLine (Some l) x = In x l.parts

@@ -104,7 +104,7 @@ module _ (P : Program) (I : Input) (s : State) (Q : Event → List (Line StorePa
       go true = c.plain _ refl
       go false = perform_case _ f fs t after d.action h
 
-  -- Then it holds for the next step.
+  -- If Q holds for each kind of step, it holds for the next step.
   pub step-cases : Q (event P I s) (step P I s).lines
   unfolding step event on_ending on_frames
   step-cases = go s.world.ending refl
@@ -146,12 +146,12 @@ length-lines P I (suc n) =
 
 -- ---- how many steps were counted
 
--- Whether a frame stands.
+-- Whether there is a frame.
 abbrev pub has_frame : List Frame → Bool
 has_frame [] = false
 has_frame (f ∷ fs) = true
 
--- A frame stands, and while the run goes on, n steps were counted.
+-- There is a frame, and while the run goes on, n steps were counted.
 record IsCounted (s : State) (n : ℕ) : Type 0 where
   stands : has_frame s.frames ≡ true
   steps : s.world.ending ≡ None → s.counts.steps ≡ n
@@ -222,6 +222,6 @@ pub counted-steps : (P : Program) (I : Input) (n : ℕ) → (run P I n).world.en
     → (run P I n).counts.steps ≡ n
 counted-steps P I n g = (run_counted P I n).steps g
 
--- A frame stands in each state of a run.
+-- Each state of a run has a frame.
 pub standing-frame : (P : Program) (I : Input) (n : ℕ) → has_frame (run P I n).frames ≡ true
 standing-frame P I n = (run_counted P I n).stands

@@ -24,7 +24,7 @@ in_there I a n h = grind (arith, nat_tests)
 -- ---- a step
 
 module _ (P : Program) (I : Input) where
-  -- A flush and a fence change only what a part notes.
+  -- A flush and a fence change only what a part notes of flushes and fences.
   of_noted : (x : StorePart) (first : Option Flush) (is_fenced : Bool) → IsOfStore P I x
       → IsOfStore P I (record x { first_flush = first; fenced = is_fenced })
   of_noted x first is_fenced s =

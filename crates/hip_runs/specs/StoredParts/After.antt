@@ -17,8 +17,8 @@ flush_at counts site = record { step = counts.steps; site = site }
 abbrev pub flushed_by : Input → Flush → ℕ → ℕ → List (Line StorePart) → List (Line StorePart)
 flushed_by I flush a n ls = change_range (λ _ l. flush_line flush l) (a - I.base) n ls
 
--- The lines after a step with this event. Before the step the top frame stood at the site, under these calls, and the
--- counts were these.
+-- The lines after a step with this event. Before the step, the top frame was at the site, these calls had not returned,
+-- and the counts were these.
 abbrev pub lines_after :
     Input → Event → Counts → Option Site → List Level → List (Line StorePart) → List (Line StorePart)
 lines_after I (events.Store a v n) counts (Some site) levels ls =

@@ -1,4 +1,4 @@
--- What every run keeps: the history that the parts of stores carry, and the calls that they were made under.
+-- What is true in every run of the history that the parts of stores carry, and of the calls that they were made under.
 use Rattle.std.specs.Prelude.{◌≡◌, ℕ, ◌<◌, false, List, [], ◌∷◌, ◌++◌, Some, slice_get}
 use Rattle.hip_tree.specs.Sites.{instr_of}
 use Rattle.hip_tree.specs.declared.instr.Instr.{Instr}
@@ -13,8 +13,8 @@ abbrev pub AreDescending : List Level → ℕ → Type 0
 AreDescending [] n = Unit {0}
 AreDescending (l ∷ ls) n = (l.birth < n) × AreDescending ls l.birth
 
--- The calls of a store are split into those that have returned, which are the innermost ones, and the outermost ones of
--- the standing calls.
+-- The calls of a store are split into those that have returned, which are the innermost ones, and the rest, which are
+-- the outermost ones of the calls that have not returned.
 pub record IsParted (standing levels : List Level) : Type 0 where
   pub closed : List Level
   pub open_ones : List Level
@@ -23,8 +23,8 @@ pub record IsParted (standing levels : List Level) : Type 0 where
   pub outermost : standing ≡ above ++ open_ones
   pub returned : (v : Level) → In v closed → is_open standing v ≡ false
 
--- What each state of a run keeps of the parts in its cache lines: when they were made and first flushed, what those of
--- one store share, that there are instructions at their sites, and which of their calls stand.
+-- What is true in each state of a run of the parts in its cache lines: when they were made and first flushed, what the
+-- parts of one store share, that there are instructions at their sites, and which of their calls have not returned.
 pub record HasHistory (P : Program) (s : State) : Type 0 where
   -- A part was made by an earlier step, and so was its first flush.
   pub made : (x : StorePart) → PartOf s.lines x → x.step < s.counts.steps

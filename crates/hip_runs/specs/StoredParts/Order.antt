@@ -12,7 +12,7 @@ use Rattle.hip_runs.specs.Step.{event, run, step}
 use Rattle.hip_types.specs.declared.areas.TheConstants.{LINE_SIZE}
 
 -- The parts of a line are in the order of their stores' steps, a part is flushed exactly if it has a first flush, and
--- what it covers lies in its line.
+-- the bytes that a part covers are in its line.
 pub record HasOrder (s : State) : Type 0 where
   pub ascend : (m : ℕ) (l : Line StorePart) (j k : ℕ) (x y : StorePart) →
       slice_get s.lines m ≡ Some l → slice_get l.parts j ≡ Some x → slice_get l.parts k ≡ Some y →
@@ -26,7 +26,7 @@ pub record HasOrder (s : State) : Type 0 where
       slice_get s.lines m ≡ Some l → slice_get l.parts k ≡ Some x → (b : ℕ) → covers x b ≡ true
       → b / LINE_SIZE ≡ m
 
--- The standing calls were made one after another, and so were those of each part, before its store.
+-- The calls that have not returned were made one after another, and so were the calls of each part, before its store.
 pub record HasCalls (s : State) : Type 0 where
   pub born : AreDescending (levels_of s.frames) s.counts.steps
   pub births : (x : StorePart) → PartOf s.lines x → AreDescending x.levels x.step
@@ -36,7 +36,7 @@ unfoldable pub last_fence : Program → Input → ℕ → Option ℕ
 last_fence P I zero = None
 last_fence P I (suc n) = cond (fences (event P I (run P I n))) (Some n) (last_fence P I n)
 
--- Whether a step is before another one, if there is another.
+-- Whether a step is before another step; false if there is no other.
 abbrev pub is_before : ℕ → Option ℕ → Bool
 is_before step None = false
 is_before step (Some m) = nat_lt step m

@@ -21,15 +21,15 @@ part_of_store counts site levels o bytes j =
       fenced = false;
     }
 
--- The region's lines after a store of bytes at an address: if it lies in the region, it appends its part to each line
--- that has a byte of it.
+-- The region's lines after a store of bytes at an address. If the store is in the region, it appends its part to each
+-- line that has a byte of it.
 abbrev pub stored_lines : Input → Counts → Site → List Level → ℕ → List ℕ → List (Line StorePart) →
     List (Line StorePart)
 stored_lines I counts site levels a bytes ls =
     cond (in_region I a (length bytes))
     (stored (part_of_store counts site levels (a - I.base) bytes) (a - I.base) (length bytes) ls) ls
 
--- The first flush of a part after a flush: the earlier one if there is one, else this one.
+-- The first flush of a part after a flush: the flush that it had before, if there is one, else this one.
 abbrev pub earlier : Option Flush → Flush → Option Flush
 earlier None flush = Some flush
 earlier (Some first) flush = Some first
@@ -56,8 +56,8 @@ fence_line l = fenced_line (map_line noted_fence l)
 abbrev pub flushes_lines : Input → ℕ → ℕ → Bool
 flushes_lines I a n = nat_lt 0 n && in_region I a n
 
--- The region's lines after a flush of the n bytes from address a: each that has one of these bytes is flushed; none is
--- if the bytes do not all lie in the region.
+-- The region's lines after a flush of the n bytes from address a: each line that has one of these bytes is flushed. No
+-- line is flushed if some of the bytes are not in the region.
 abbrev pub flushed_lines : Input → Flush → ℕ → ℕ → List (Line StorePart) → List (Line StorePart)
 flushed_lines I flush a n ls =
     cond (flushes_lines I a n) (change_range (λ _ l. flush_line flush l) (a - I.base) n ls) ls

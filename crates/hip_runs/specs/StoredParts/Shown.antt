@@ -5,7 +5,7 @@ use Rattle.hip_lines.specs.Pending.{Pending, pending_of}
 use Rattle.hip_lines.specs.declared.part.Part.{Part}
 use Rattle.hip_runs.specs.State.{StorePart}
 
--- A part of a store, as the code has it.
+-- A part of a store, as the lines of the code have it.
 abbrev pub shown_part : StorePart → Part
 shown_part p = record { offset = p.offset; size = length p.bytes; tag = p.step }
 

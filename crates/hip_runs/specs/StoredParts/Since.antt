@@ -17,7 +17,7 @@ abbrev pub stores : Event → Bool
 stores (events.Store addr value size) = true
 stores _ = false
 
--- Whether a step with this event is a fence: one by itself, or the one after the flushes of a persist.
+-- Whether a step with this event is a fence, alone or after the flushes of a persist.
 abbrev pub fences : Event → Bool
 fences events.Fence = true
 fences (events.Persist line size) = true
@@ -46,7 +46,7 @@ abbrev pub top_site : List Frame → Option Site
 top_site [] = None
 top_site (f ∷ fs) = Some (site_of f)
 
--- The flush is the first one of line j between step `from` and step n, and the run stood at its site then.
+-- The flush is the first flush of line j between step `from` and step n, and the top frame was at its site then.
 pub record IsFirst (P : Program) (I : Input) (j from n : ℕ) (flush : Flush) : Type 0 where
   pub after : from < flush.step
   pub before : flush.step < n
@@ -63,8 +63,8 @@ IsFirstFlush P I j from n (Some flush) = IsFirst P I j from n flush
 abbrev pub FlushedSince : Program → Input → ℕ → ℕ → ℕ → Type 0
 FlushedSince P I j from n = (m : ℕ) × (from < m) × (m < n) × (flushes I.base j (event P I (run P I m)) ≡ true)
 
--- A step after step `from` flushes cache line j, and before step n a fence comes with it or after it. (Intel's manual:
--- a line is durable if it was flushed and a fence came after the flush.)
+-- A step after step `from` flushes cache line j, and a fence comes in that step or later, before step n. (Intel's
+-- manual: a line is durable if it was flushed and a fence came after the flush.)
 pub record IsFlushedThenFenced (P : Program) (I : Input) (j from n : ℕ) : Type 0 where
   pub flush : ℕ
   pub fence : ℕ
@@ -76,16 +76,16 @@ pub record IsFlushedThenFenced (P : Program) (I : Input) (j from n : ℕ) : Type
 
 -- ---- parts at their places
 
--- The line is there and has the part at place k.
+-- There is a line, and it has the part at place k.
 abbrev pub IsPartIn : Option (Line StorePart) → ℕ → StorePart → Type 0
 IsPartIn None k x = ⊥
 IsPartIn (Some l) k x = slice_get l.parts k ≡ Some x
 
--- The part stands at place k of cache line m.
+-- The part is at place k of cache line m.
 abbrev pub IsPartAt : State → ℕ → ℕ → StorePart → Type 0
 IsPartAt s m k x = IsPartIn (slice_get s.lines m) k x
 
--- The line is there and has the part at place k, which is before its durable number.
+-- There is a line, and it has the part at place k, which is before its durable number.
 abbrev pub IsDurableIn : Option (Line StorePart) → ℕ → StorePart → Type 0
 IsDurableIn None k x = ⊥
 IsDurableIn (Some l) k x = (slice_get l.parts k ≡ Some x) × (k < l.durable)
@@ -94,8 +94,8 @@ IsDurableIn (Some l) k x = (slice_get l.parts k ≡ Some x) × (k < l.durable)
 abbrev pub IsDurableAt : State → ℕ → ℕ → StorePart → Type 0
 IsDurableAt s m k x = IsDurableIn (slice_get s.lines m) k x
 
--- The part is one of the store of its step: it has the store's bytes that lie in its cache line, which are those of the
--- stored value, and it has the site and the calls at which the run stood then, and the store's entry in the trace.
+-- The part is a part of the store of its step. It has those bytes of the stored value that are in its cache line, the
+-- site of the top frame and the calls that had not returned at that step, and the store's entry in the trace.
 pub record IsOfStore (P : Program) (I : Input) (x : StorePart) : Type 0 where
   pub addr : ℕ
   pub bytes : List ℕ

@@ -79,7 +79,7 @@ joined-all Q n make (y ∷ ys) h =
 
 -- ---- numbers of blocks by their label
 
--- A number that is the successor of another comes only from that other.
+-- If an optional number plus 1 is a number, the optional number is one too.
 pub number_before : (o : Option ℕ) (c : ℕ) → option_map suc o ≡ Some c → (d : ℕ) × (o ≡ Some d)
     × (c ≡ suc d)
 number_before None c e = cc

@@ -274,7 +274,7 @@ pub same_operand-refl : (a : Operand) → same_operand a a ≡ true
 same_operand-refl (Reg a) = (bytes_eq-Decides a a).1 refl
 same_operand-refl (Fixed a) = same_const-refl a
 
--- A test that decides whether two operands are equal is this one.
+-- Each test that decides whether two operands are equal has the same answer as `same_operand`.
 pub same_operand-is : (b : Bool) (x y : Operand) → (b ≡ true → x ≡ y) → (x ≡ y → b ≡ true)
     → b ≡ same_operand x y
 same_operand-is b x y equal test =

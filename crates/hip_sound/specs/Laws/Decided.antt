@@ -158,7 +158,7 @@ holds_from-made n check (x ∷ xs) h =
           subst (λ m. (check m y).Holds) next (h (suc k) y e)),
     )
 
--- It holds if it holds at each place.
+-- If the check of the item at each place holds, the check of all items holds.
 pub holds-made : {X : Type 0} (check : ℕ → X → Check) (xs : List X)
     → ((k : ℕ) (x : X) → slice_get xs k ≡ Some x → (check k x).Holds) → (each check xs).Holds
 holds-made check xs h =

@@ -111,7 +111,7 @@ callees-decides P fn (Load dest ty addr align) = (λ e. All-nil (IsAmong (callee
 callees-decides P fn (Store ty value addr align) = (λ e. All-nil (IsAmong (callee_names P)), λ h. refl)
 callees-decides P fn (Gep dest inbounds ty base indices) = (λ e. All-nil (IsAmong (callee_names P)), λ h. refl)
 
--- Names exist.
+-- The test of the names in a phi decides whether they exist.
 phi_names-decides : (P : Program) (fn : Function) (p : Phi)
     → Decides (uses_known (scope_of P fn) (phi_uses p) && are_among (label_names fn) (edge_labels p.edges))
     (NamesExist P fn (PhiItem p))
@@ -394,7 +394,7 @@ edges-decides fn block edges =
 
 -- ---- a place
 
--- Each rule of places holds of what is there.
+-- Each rule of places holds of the item.
 pub record ItemIsSound (P : Program) (fn : Function) (block : Block) (x : Item) : Type 0 where
   pub names : NamesExist P fn x
   pub fit : TypesFit x

@@ -43,7 +43,8 @@ pub record GlobalsAreSound (P : Program) : Type 0 where
   pub shape : All HasItsShape P.globals
   pub names : All (NamesGlobals P) P.globals
 
--- The types of one global and of its initialiser fit, and the initialiser has its shape and names globals.
+-- The types of one global and of its initialiser fit, and the initialiser has the shape of the global's type and names
+-- globals.
 abbrev global_facts : Program → GlobalVar → Type 0
 global_facts P g = TypesFitIn g × HasItsShape g × NamesGlobals P g
 
@@ -239,7 +240,7 @@ block-whole P f b fn block s = (
   ),
 )
 
--- Each rule of places, at each place.
+-- Each rule of places holds of each item of each block.
 pub record PlacesAreSound (P : Program) : Type 0 where
   pub sound : (f b : ℕ) (fn : Function) (block : Block) → IsBlockAt P f b fn block
       → EachItem block (ItemIsSound P fn block)

@@ -114,7 +114,7 @@ same_type-refl = ind-Ty IsReflexive (λ x y is.
     let here : P x = subst P is (level_reflexive y) in
     unfolded ∙ ap (λ (o : Ty-F Ty). same_level (map-Ty Ty (Ty → Bool) same_type x) o) (out-roll-Ty x) ∙ here)
 
--- A test that decides whether two types are equal is this one.
+-- Each test that decides whether two types are equal has the same answer as `same_type`.
 pub same_type-is : (b : Bool) (x y : Ty) → (b ≡ true → x ≡ y) → (x ≡ y → b ≡ true)
     → b ≡ same_type x y
 same_type-is b x y equal test =

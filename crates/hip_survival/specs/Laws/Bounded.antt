@@ -1,4 +1,4 @@
--- What an action touches: a store writes valid bytes, a new block ends within the stack, and a check's range lies in
+-- What an action touches: a store writes valid bytes, a new block ends within the stack, and the range of a check is in
 -- the region.
 use Rattle.std.proofs.Common.{◌≡◌, ℕ, ◌+◌, ◌%◌, ◌≤◌, Bool, true, false, cond, ◌||◌, nat_eq, nat_le, nat_lt, ℤ, List, [], ◌∷◌, length, Option, Some, None, slice_get, Result, Ok, Err, refl, sym, subst, leb-true}
 use Rattle.std.specs.Int.{next_multiple_of}
@@ -41,7 +41,7 @@ module _ (P : Program) (I : Input) where
   touches mark (Asserts a n) = (in_region I a n ≡ true)
   touches mark _ = Unit {0}
 
-  -- The action touches no more than that.
+  -- The action touches only what it may touch.
   pub record Bounded (mark : ℕ) (x : Action) : Type 0 where
     pub is : touches mark x
 
@@ -158,7 +158,7 @@ module _ (P : Program) (I : Input) where
   bounded_end mark f (Some (ends.Ret arg)) = record { is = tt {0} }
   bounded_end mark f (Some ends.Unreachable) = record { is = tt {0} }
 
-  -- So is what the top frame does next.
+  -- The next action of the top frame touches only what it may touch.
   pub deed_bounded : (w : World) (f : Frame) (fs : List Frame) → Bounded w.mark (deed_at P I w f fs).action
   deed_bounded w f fs = by_code (code_at P f)
     where

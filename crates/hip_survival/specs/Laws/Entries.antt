@@ -74,7 +74,7 @@ module _ (P : Program) (I : Input) where
       let c = store_counts t h in
       omega (arith, q, l, c)
 
-  -- A report is of the store of one step.
+  -- A report is of the store of only one step.
   pub one_step : (t u : ℕ) (r : Report) → IsOfStep P I t r → IsOfStep P I u r → t ≡ u
   one_step t u r a b = go (three t u)
     where

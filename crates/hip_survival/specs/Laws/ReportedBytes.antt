@@ -69,7 +69,7 @@ pub report_step : (P : Program) (I : Input) (n : ℕ) (range : Range) (r : Repor
     → In r (check_reports (run P I n) (Some range)) → (step : ℕ) × IsOfStep P I step r
 report_step P I n range r i = let of = reported_part P I n range r i in (of.part.part.step, of.store)
 
--- And each part that is loose in the range has a report of its store.
+-- Each part that is loose in the range has a report of its store.
 pub part_reported : (P : Program) (I : Input) (n : ℕ) (range : Range) (p : LoosePart)
     → IsLoosePart range.offset range.size p.part.step (run P I n).lines p
     → (r : Report) × In r (check_reports (run P I n) (Some range)) × IsOfStep P I p.part.step r

@@ -28,7 +28,7 @@ module _ (P : Program) (I : Input) (n : ℕ) where
     flushed = refl;
   }
 
-  -- And a byte by which a part is loose is loose.
+  -- If a byte makes a part loose, the byte is loose.
   pub loose_of_part : (o size made : ℕ) (p : LoosePart) (r : IsLoosePart o size made (run P I n).lines p)
       → IsLooseAt (run P I n) r.byte
   loose_of_part o size made p r =

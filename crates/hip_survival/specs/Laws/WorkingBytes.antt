@@ -50,7 +50,7 @@ line_there (x ∷ ls) zero h = (x, refl)
 line_there (x ∷ ls) (suc j) h = line_there ls j (omega arith)
 
 module _ (P : Program) (I : Input) (low : volatile_end P ≤ I.base) (above : stack_end ≤ I.base) where
-  -- A write that does not touch the region keeps this.
+  -- A write that does not touch the region keeps the region and the lines in agreement.
   beside : (ws : List Write) (ls : List (Line StorePart)) (w : Write)
       → ((b : ℕ) → (I.base + b < w.addr) ⊎ (w.addr + length w.bytes ≤ I.base + b)) → Agrees I ws ls
       → Agrees I (ws ++ w ∷ []) ls
@@ -213,7 +213,7 @@ module _ (P : Program) (I : Input) (low : volatile_end P ≤ I.base) (above : st
   run_agrees v (suc n) =
       step_agrees (run P I n) (stack_is_shaped P I n).is.within (same_size P I n v) (run_agrees v n)
 
--- So it is in working memory.
+-- In working memory, each byte of the region is the initial byte, changed by all parts of its line in order.
 pub has_all_parts : (P : Program) → IsSound P → (I : Input) → IsValid P I → (n b : ℕ) → b < length I.image
     → HasAllParts P I (run P I n) b
 has_all_parts P s I v n b lt =

@@ -18,7 +18,7 @@ none_by_place [] h = refl
 none_by_place (x ∷ xs) h = let first : is_separator x ≡ false = h 0 (omega arith) in
     rw first (none_by_place xs (λ k lt. h (suc k) (omega arith)))
 
--- If no byte is a separator, the first is none and none of the others is.
+-- If no byte is a separator, the first byte is not a separator and no later byte is.
 pub first_none : (x : ℕ) (xs : List ℕ) → list_any is_separator (x ∷ xs) ≡ false → (is_separator x ≡ false)
     × (list_any is_separator xs ≡ false)
 first_none x xs e = by (is_separator x) (list_any is_separator xs) e
@@ -82,7 +82,7 @@ pub parts_none : (xs : List ℕ) → list_any is_separator xs ≡ false → part
 parts_none [] e = refl
 parts_none (x ∷ xs) e = let h = first_none x xs e in rw (h.0, parts_none xs h.1) refl
 
--- The first part, with a front that has no separator before it.
+-- The parts, with a front that has no separator put before the first part.
 abbrev onto_part : List ℕ → List (List ℕ) → List (List ℕ)
 onto_part front [] = front ∷ []
 onto_part front (part ∷ more) = (front ++ part) ∷ more
@@ -115,7 +115,7 @@ pub spelled_last : (xs : List ℕ) → list_any is_separator xs ≡ false → is
     → spelled true xs ≡ entry_of xs ∷ []
 spelled_last xs e n = ap (λ (ps : List (List ℕ)). map entry_of (counted true ps)) (parts_none xs e) ∙ rw n refl
 
--- A front of more than 256 bytes spells nothing, however it goes on.
+-- A front of more than 256 bytes spells nothing, whatever follows it.
 too_long : (front : List ℕ) → 256 < length front → entry_of front ≡ None
 unfolding entry_of
 too_long front lt = rw (lt-ltb 256 (length front) lt) refl
@@ -133,7 +133,7 @@ pub spelled_long : (front rest : List ℕ) → list_any is_separator front ≡ f
 spelled_long front rest e lt = ap (λ (ps : List (List ℕ)). slice_get (map entry_of (counted true ps)) 0)
     (parts_onto front rest e) ∙ long_part front (parts rest) lt
 
--- Bytes that may go on and have no separator have no piece.
+-- At most 256 bytes with no separator have no piece if more bytes may follow.
 pub no_piece : (held : List ℕ) → list_any is_separator held ≡ false → length held ≤ 256
     → pieces false held ≡ []
 no_piece held e le = ap (counted false) (parts_none held e) ∙ rw (le-ltb 256 (length held) le) refl

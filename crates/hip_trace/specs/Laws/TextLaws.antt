@@ -36,7 +36,7 @@ use Rattle.hip_trace.specs.Laws.FieldLaws.{some_field}
 abbrev pub is_semicolon : ℕ → Bool
 is_semicolon b = b == byte ";"
 
--- A text without a semicolon, which is one field; the empty one too.
+-- The text has no semicolon, so it is one field. An empty text is one field too.
 abbrev pub IsPlain : List ℕ → Type 0
 IsPlain f = list_any is_semicolon f ≡ false
 
@@ -80,7 +80,7 @@ fields_with w [] h = sym (append-nil (fields w))
 fields_with w (f ∷ fs) h = fields_with (w ++ byte ";" ∷ f) fs h.1
     ∙ ap (λ (ps : List (List ℕ)). ps ++ fs) (fields_push w f h.0) ∙ append_assoc (fields w) (f ∷ []) fs
 
--- The length of fields, with a semicolon each.
+-- The total length of fields, with one semicolon for each.
 abbrev pub total : List (List ℕ) → ℕ
 total [] = 0
 total (f ∷ fs) = length f + 1 + total fs
@@ -105,7 +105,7 @@ length-fields (x ∷ xs) = go (is_semicolon x) (length-fields xs)
 
 -- ---- numbers
 
--- The canonical text reads as the same value as the text, and is no longer.
+-- The canonical text reads as the same value as the text, is no longer than the text, and has no semicolon.
 pub record Again (A : Type 0) (read : List ℕ → Option A) (text canonical : List ℕ) (v : A) : Type 0 where
   pub again : read canonical ≡ Some v
   pub short : length canonical ≤ length text
@@ -370,7 +370,8 @@ three_length (x ∷ y ∷ z ∷ []) f e = let k : (x, y, z) ≡ f = cc in
     + length g.2 + 3) k (omega arith)
 three_length (x ∷ y ∷ z ∷ w ∷ ws) f e = absurd (let v : ⊥ = cc in v)
 
--- Two numbers in their canonical text are read again, no longer than what spelled them, and without a semicolon.
+-- The canonical texts of two numbers read as these numbers, are no longer than the fields that spelled them, and have
+-- no semicolon.
 record NumbersAgain (fs : List (List ℕ)) (n : ℕ × ℕ) : Type 0 where
   again : two_numbers (hexadecimal n.0 ∷ hexadecimal n.1 ∷ []) ≡ Some n
   short : length (hexadecimal n.0) + length (hexadecimal n.1) + 2 ≤ total fs
@@ -394,7 +395,8 @@ numbers_again fs n e =
       plain = (first.plain, (second.plain, tt));
     })
 
--- An entry of a word and its fields, read again from its canonical fields.
+-- The canonical fields of an entry, after its word, read as the entry. They are no longer than the fields that spelled
+-- it, and have no semicolon.
 record EntryAgain (word : List ℕ) (fs : List (List ℕ)) (e : Entry) : Type 0 where
   named : word_of e ≡ word
   again : entry_by (word_of e ∷ fields_of e) ≡ Some e

@@ -24,7 +24,7 @@ use Rattle.hip_trace.specs.Laws.PieceLaws.{first_none, spelled_at}
 
 -- ---- texts without separators
 
--- The text has no `|` and no line feed, so it lies in one piece.
+-- The text has no `|` and no line feed, so it is in one piece.
 abbrev IsWhole : List ℕ → Type 0
 IsWhole text = list_any is_separator text ≡ false
 

@@ -1,4 +1,4 @@
--- Laws of lists without repeats: an item that is met keeps its place, and no item is there twice.
+-- Laws of lists without repeats: an item keeps its place, and no item occurs twice.
 use Rattle.std.specs.Prelude.{◌≡◌, ℕ, zero, suc, ◌⊎◌, Bool, true, false, cond, ◌||◌, List, [], ◌∷◌, ◌++◌, Some, slice_get}
 use Rattle.std.specs.Cmp.{IsEquivalence}
 use Rattle.std.specs.List.{list_any, IsDistinct}
@@ -43,14 +43,14 @@ module _ {A : Type 0} (test : A → Bool) where
       ⊎_elim (λ t. (0, y, refl, t)) (λ f. let rest = any_found xs f in (suc rest.0, rest.1, rest.2, rest.3))
       (either _ _ e)
 
--- An item of the first list is at the same place in the whole.
+-- An item of the first list is at the same place in the joined list.
 pub get_kept : {A : Type 0} (xs ys : List A) (k : ℕ) (x : A) → slice_get xs k ≡ Some x
     → slice_get (xs ++ ys) k ≡ Some x
 get_kept [] ys k x e = cc
 get_kept (y ∷ xs) ys zero x e = e
 get_kept (y ∷ xs) ys (suc k) x e = get_kept xs ys k x e
 
--- An item keeps its place.
+-- An item of the first list keeps its place.
 pub met-kept : {A : Type 0} (same : A → A → Bool) (xs ys : List A) (k : ℕ) (x : A) → slice_get xs k ≡ Some x
     → slice_get (met same xs ys) k ≡ Some x
 met-kept same xs [] k x e = e
@@ -62,7 +62,7 @@ met-kept {A} same xs (y ∷ ys) k x e =
     added false = get_kept xs (y ∷ []) k x e
 
 module _ {A : Type 0} {same : A → A → Bool} (laws : IsEquivalence same) where
-  -- No item is there twice.
+  -- No item of the result occurs twice.
   pub met-distinct : (xs ys : List A) → IsDistinct same xs → IsDistinct same (met same xs ys)
   met-distinct xs [] d = d
   met-distinct xs (y ∷ ys) d =
@@ -72,7 +72,7 @@ module _ {A : Type 0} {same : A → A → Bool} (laws : IsEquivalence same) wher
       added true e = d
       added false e = IsDistinct-push laws xs y d e
 
-  -- What is in one of the two lists is in the whole.
+  -- Each item of the two lists is in the result.
   pub met-first : (q : A) (xs ys : List A) → list_any (same q) xs ≡ true
       → list_any (same q) (met same xs ys) ≡ true
   met-first q xs [] e = e
@@ -96,7 +96,7 @@ module _ {A : Type 0} {same : A → A → Bool} (laws : IsEquivalence same) wher
       added true e t = list_any_congr laws q y xs t ∙ e
       added false e t = any_back (same q) xs (y ∷ []) (or_first _ _ t)
 
-  -- And nothing else is.
+  -- Each item of the result is in one of the two lists.
   pub met-only : (q : A) (xs ys : List A) → list_any (same q) (met same xs ys) ≡ true
       → (list_any (same q) xs ≡ true) ⊎ (list_any (same q) ys ≡ true)
   met-only q xs [] e = inl e

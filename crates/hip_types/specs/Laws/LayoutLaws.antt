@@ -1,4 +1,4 @@
--- The laws of layout, so that no crate above opens its definitions.
+-- The laws of layout. The crates that use it need only these laws, not its definitions.
 use Rattle.std.specs.Prelude.{ℕ, zero, suc, ◌+◌, ◌*◌, ◌%◌, ◌≤◌, ◌<◌, ◌≡◌, ◌⊎◌, max, List, [], ◌∷◌, ◌++◌, map, take, drop, length, get_or, refl}
 use Rattle.std.specs.Int.{next_multiple_of}
 use Rattle.std.proofs.Common.{arith, sym, ap, subst, ◌∙◌, inl, inr}
@@ -28,7 +28,7 @@ alignment-low n h = grind (arith, h.is)
 pub alignment-high : (n : ℕ) → IsAlignment n → n ≤ 8
 alignment-high n h = grind (arith, h.is)
 
--- The next multiple of an alignment is a multiple, and the first one.
+-- For an alignment a, `next_multiple_of x a` is the least multiple of a that is not below x.
 pub next-multiple : (x a : ℕ) → IsAlignment a → next_multiple_of x a % a ≡ 0
 next-multiple x a h = grind (arith, h.is)
 
@@ -66,7 +66,8 @@ times_multiple n x a h =
 
 -- ---- shapes
 
--- A size is a multiple of its alignment, and the type itself is among the types in it.
+-- The size is a multiple of the alignment, which is 1, 2, 4 or 8, and no greater than the size of the largest type
+-- inside.
 pub record IsRegular (s : Shape) : Type 0 where
   pub alignment : IsAlignment s.align
   pub whole : s.size % s.align ≡ 0
@@ -152,7 +153,7 @@ align_of-Array n e = ap (λ (s : Shape). s.align) (shape-Array n e)
 pub align_of-Struct : (fs : List Ty) → align_of (Struct fs) ≡ greatest_align (shapes fs)
 align_of-Struct fs = ap (λ (s : Shape). s.align) (shape-Struct fs)
 
--- The shape of a type by those of the types inside.
+-- The shape of a type follows from the shapes of the types inside.
 pub shape-level : (t : Ty) → shape t ≡ shape_of_level (map-Ty Ty Shape shape (out-Ty t))
 shape-level t = fold_out-Ty Shape shape_of_level t
 
@@ -210,7 +211,7 @@ greatest_align-multiple (t ∷ ts) (suc k) h =
     (align_of-alignment (field_of ts k)) (greatest_align-multiple ts k (omega arith))
     (greater_right _ _ (align_of-alignment t) rest)
 
--- What one further field adds: `t` is field k, and those up to it are the first k + 1.
+-- What field k, of type t, adds to the measures of the k fields before it.
 pub record IsNextField (ts : List Ty) (k : ℕ) (t : Ty) : Type 0 where
   pub end : end_after 0 (shapes (take (k + 1) ts)) ≡ next_multiple_of (end_after 0 (shapes (take k ts)))
       (align_of t) + size_of t
@@ -269,7 +270,7 @@ module _ (ts : List Ty) (k : ℕ) (t : Ty) (h : k < length ts) (is : t ≡ get_o
             (omega (arith, largest_is, greatest_largest-append (take (k + 1) ts) rest));
       }
 
--- Field k by its number.
+-- The type of a field that exists does not depend on the default.
 pub field_of-is : (ts : List Ty) (k : ℕ) → k < length ts → field_of ts k ≡ get_or ts k (field_of ts k)
 field_of-is ts k h = get_or_default ts k Ptr (field_of ts k) h
 
@@ -277,7 +278,7 @@ field_of-is ts k h = get_or_default ts k Ptr (field_of ts k) h
 pub offset_in-multiple : (ts : List Ty) (k : ℕ) → offset_in ts k % align_of (field_of ts k) ≡ 0
 offset_in-multiple ts k = next-multiple _ _ (align_of-alignment (field_of ts k))
 
--- Its end is the end of the fields up to it.
+-- Field k ends where the first k + 1 fields end.
 pub field-end : (ts : List Ty) (k : ℕ) → k < length ts
     → offset_in ts k + size_of (field_of ts k) ≡ end_after 0 (shapes (take (k + 1) ts))
 field-end ts k h = sym (next_field ts k (field_of ts k) h (field_of-is ts k h)).end
@@ -316,7 +317,7 @@ field-fits fs k h small shallow =
     let next : IsNextField fs k (field_of fs k) = next_field fs k (field_of fs k) h (field_of-is fs k h) in
     record { small = omega (arith, next.largest_le); shallow = omega (arith, next.depth_le) }
 
--- Each field of a struct that fits does.
+-- Each field of a struct that fits also fits.
 pub Fits-Struct : (fs : List Ty) (k : ℕ) → k < length fs → Fits (Struct fs) → Fits (field_of fs k)
 Fits-Struct fs k h f =
     let s : shape (Struct fs) ≡ shape_of_level (Ty-F.Struct (shapes fs)) = shape-Struct fs in

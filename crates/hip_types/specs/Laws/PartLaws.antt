@@ -16,12 +16,12 @@ abbrev pub level_is_inside : ℕ → Ty-F Ty → Type 0
 level_is_inside i (Ty-F.Array n e) = i < n
 level_is_inside i _ = Unit {0}
 
--- Each of the indices that enters an array is below its count.
+-- Each index that enters an array is below the array's count.
 abbrev pub AreInside : List ℕ → Ty → Type 0
 AreInside [] t = Unit {0}
 AreInside (i ∷ is) t = level_is_inside i (out-Ty t) × IfSome (enter t i) (λ p. AreInside is p.ty)
 
--- The part that an index enters, in a type of this shape.
+-- What holds of the part that an index enters, in a type of this shape.
 record IsEntered (s : Shape) (p : Part) (inside : Type 0) : Type 0 where
   within : inside → p.offset + size_of p.ty ≤ s.size
   aligned : p.offset % align_of p.ty ≡ 0
@@ -76,7 +76,7 @@ entered i t p is =
 pub record IsPartOf (t : Ty) (p : Part) (inside : Type 0) : Type 0 where
   -- It ends within the type if its indices are inside.
   pub within : inside → p.offset + size_of p.ty ≤ size_of t
-  -- It lies at a multiple of its alignment, wherever the whole does.
+  -- Its offset and the alignment of the whole are multiples of its alignment, so it is aligned wherever the whole is.
   pub aligned : p.offset % align_of p.ty ≡ 0
   pub align : align_of t % align_of p.ty ≡ 0
   pub fits : Fits t → Fits p.ty
@@ -91,7 +91,7 @@ whole t inside =
           λ f. f;
     }
 
--- A part of a part.
+-- A part of a part is a part of the whole.
 part_of_part : (t : Ty) (i : ℕ) (p q : Part) (rest : Type 0) → enter t i ≡ Some p → IsPartOf p.ty q rest →
     IsPartOf t (record { offset = p.offset + q.offset; ty = q.ty }) (level_is_inside i (out-Ty t) × rest)
 part_of_part t i p q rest is part =
@@ -128,7 +128,7 @@ module _ (i : ℕ) (is : List ℕ) (t : Ty) (p : Part) (known : ArePartsAt is) w
   one_in None found e = cc
   one_in (Some q) found e = further_in q found (part_at is q.ty) refl e
 
--- The part to which indices lead.
+-- What indices lead to is a part of the type.
 pub part_at-part : (is : List ℕ) (t : Ty) (p : Part) → part_at is t ≡ Some p → IsPartOf t p (AreInside is t)
 part_at-part [] t p e =
     let e-is : ◌≡◌ {A = Part} (record { offset = 0; ty = t }) p = cc in

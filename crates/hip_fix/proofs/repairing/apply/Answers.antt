@@ -11,7 +11,7 @@ use Rattle.hip_fix.specs.Applied.{IsApplied, IsThorough}
 use Rattle.hip_fix.proofs.DirectSites.{found_direct}
 use Rattle.hip_fix.proofs.repairing.apply.Goals as goal
 
--- What holds of each answer, by what held of it before.
+-- If A implies B, an answer that meets A meets B.
 if_ok : {T E : Type 0} (A B : T → Type 0) → ((x : T) → A x → B x) → (r : Result T E) → IfOk r A → IfOk r B
 if_ok A B f (Ok x) a = f x a
 if_ok A B f (Err e) a = a

@@ -26,14 +26,15 @@ use Rattle.hip_invariants.specs.Laws.Frames.{keeps, IsInvariant, invariant_holds
 use Rattle.hip_runs.specs.Laws.Members.{get_drop}
 use Rattle.hip_invariants.specs.Laws.Places.{block_there}
 
--- Fact is about a function's register and its value, Returned about a function and what it returns.
+-- The fact `Fact` is about a function, a register and its value. The fact `Returned` is about a function and a value
+-- that it returns.
 module _ (Fact : ℕ → List ℕ → ℕ → Type 0) (Returned : ℕ → ℕ → Type 0) where
-  -- The fact holds of each value in these registers, the hidden ones too.
+  -- The fact holds for each value in these registers, also for values that a newer one hides.
   abbrev pub each_value : ℕ → Registers → Type 0
   each_value g [] = Unit {0}
   each_value g (r ∷ rs) = Fact g r.0 r.1 × each_value g rs
 
-  -- The fact holds of each value of a frame of the function.
+  -- The fact holds for each value in the registers of a frame of the function.
   pub record ValuesHold (g : ℕ) (rs : Registers) : Type 0 where
     pub all : each_value g rs
 
@@ -42,12 +43,12 @@ module _ (Fact : ℕ → List ℕ → ℕ → Type 0) (Returned : ℕ → ℕ �
   assigned_fact g None v = Unit {0}
   assigned_fact g (Some name) v = Fact g name v
 
-  -- A function waits for the result of another: for each result that this one may return, the fact holds of the
-  -- register that takes it.
+  -- Function g waits for the result of function h: for each value that h may return, the fact holds for the register
+  -- that takes it.
   pub record WaitsFor (g : ℕ) (dest : Option (List ℕ)) (h : ℕ) : Type 0 where
     pub for_result : (v : ℕ) → Returned h v → assigned_fact g dest v
 
-  -- A frame after a call of a function, whose result goes into a register.
+  -- A frame that waits for the result of a called function, which goes into a register.
   pub record IsAfterCall (h : ℕ) (dest : Option (List ℕ)) (g : Frame) : Type 0 where
     pub hold : ValuesHold g.function g.registers
     pub waits : WaitsFor g.function dest h
@@ -93,7 +94,7 @@ module _ (Fact : ℕ → List ℕ → ℕ → Type 0) (Returned : ℕ → ℕ �
   facts_kept f (Returns v) h p =
       λ g below. with_value g.function f.dest v g.registers (below.waits.for_result v p) below.hold
 
-  -- The value that a register has, or 0 where it has none.
+  -- The fact holds for the value that a register reads as, which is 0 if the register has no value.
   pub fact_of_value : (g : ℕ) (rs : Registers) (name : List ℕ) → ValuesHold g rs → Fact g name 0
       → Fact g name (look_up rs name)
   fact_of_value g [] name h none = none
@@ -207,6 +208,6 @@ module _ (Fact : ℕ → List ℕ → ℕ → Type 0) (Returned : ℕ → ℕ �
       all_frames [] s = tt
       all_frames (f ∷ fs) s = (s.0, values_below f.function f.dest fs s.1)
 
-      -- So it holds of each register of each frame.
+      -- If each action keeps the fact, it holds for each register of each frame.
       pub actions_keep_facts : (n : ℕ) → values_in_frames (run P I n).frames
       actions_keep_facts n = all_frames (run P I n).frames (invariant_holds on_top IsAfterCall P I facts_invariant n)

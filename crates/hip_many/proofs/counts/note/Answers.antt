@@ -1,4 +1,4 @@
--- The site alone is counted.
+-- Only the count of this site changes.
 use Rattle.std.proofs.Common.{Some}
 use Rattle.hip_sites.proofs.SiteOrder.{table_updated}
 use Rattle.hip_many.proofs.CountLemmas.{one_noted}

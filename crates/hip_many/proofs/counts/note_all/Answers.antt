@@ -1,4 +1,4 @@
--- One site more is counted.
+-- One more site is counted.
 use Rattle.hip_many.proofs.CountLemmas.{next_noted}
 use Rattle.hip_many.proofs.counts.note_all.Goals as goal
 

@@ -1,4 +1,4 @@
--- The three lists have what the plans have, and so the union is good for what each of them is.
+-- The three lists have what the plans have, so the union does for each run what the plan of that run does.
 use Rattle.std.proofs.Common.{◌||◌, [], Bool, ap, ◌∙◌}
 use Rattle.std.specs.Prelude.{IfOk, Result, Ok, Err}
 use Rattle.hip_tree.specs.Sites.{has_site}
@@ -21,7 +21,7 @@ use Rattle.hip_many.specs.Union.{IsUnion}
 use Rattle.hip_many.proofs.Unions.{one_put, united, union_contains, union_suits}
 use Rattle.hip_many.proofs.union.plan_many.Goals as goal
 
--- What holds of each answer, by what held of it before.
+-- If A implies B, an answer that meets A meets B.
 if_ok : {T E : Type 0} (A B : T → Type 0) → ((x : T) → A x → B x) → (r : Result T E) → IfOk r A → IfOk r B
 if_ok A B f (Ok x) a = f x a
 if_ok A B f (Err e) a = a

@@ -18,7 +18,7 @@ use Rattle.hip_plan.specs.declared.plan_sites.PlanSites.{PlanSites}
 use Rattle.hip_plan.proofs.Listed.{all_left, asked_more, fence_is, flush_is, hoist_is, plan_is, whole}
 use Rattle.hip_plan.proofs.making.plan.Goals as goal
 
--- What holds of each answer, by what held of it before.
+-- If A implies B, an answer that meets A meets B.
 if_ok : {T E : Type 0} (A B : T → Type 0) → ((x : T) → A x → B x) → (r : Result T E) → IfOk r A → IfOk r B
 if_ok A B f (Ok x) a = f x a
 if_ok A B f (Err e) a = a

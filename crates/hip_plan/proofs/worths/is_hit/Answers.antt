@@ -1,4 +1,4 @@
--- Equality of numbers has no side.
+-- Equality of numbers is symmetric.
 use Rattle.std.proofs.Common.{◌∙◌}
 use Rattle.std.specs.List.{list_any}
 use Rattle.hip_sites.proofs.SiteOrder.{flipped}

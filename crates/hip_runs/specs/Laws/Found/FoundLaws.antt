@@ -62,7 +62,7 @@ same_mark-equivalence = record {
   congr = λ a b c e. ap (λ m. same_mark m c) (same_mark_equal a b e);
 }
 
--- Items that are met list by list are met as one list.
+-- To add new items list by list gives the same as to add the items of the appended lists.
 pub met-append : {A : Type 0} (same : A → A → Bool) (xs ys zs : List A)
     → met same xs (ys ++ zs) ≡ met same (met same xs ys) zs
 met-append same xs [] zs = refl

@@ -93,8 +93,9 @@ byte_shown o n (suc count) b later c s = go (λ t. byte_shown o n count (suc b) 
 
 -- ---- the loose parts of a line, by their places
 
--- Loose part y is the part p, at place i of these parts and place k + i of its line. It is of the store of step `made`,
--- after the d durable parts, and the last part over a byte of the range; it is flushed if it is one of the first f.
+-- Loose part y is the part p, at place i of these parts and place k + i of its line. It is a part of the store of step
+-- `made`, is not one of the first d parts, which are durable, and is the last part over a byte of the range. It is
+-- flushed if it is one of the first f parts.
 pub record IsOfPart (o n made d f k : ℕ) (ps : List StorePart) (y : LoosePart) (i : ℕ) (p : StorePart)
     : Type 0 where
   pub at : slice_get ps i ≡ Some p
@@ -430,7 +431,7 @@ part_at [] m l x e i = absurd (let z : ⊥ = cc in z)
 part_at (y ∷ ls) zero l x e i = inl (let z : l ≡ y = cc in subst (λ (w : Line StorePart). In x w.parts) z i)
 part_at (y ∷ ls) (suc m) l x e i = inr (part_at ls m l x e i)
 
--- The lines have each loose part.
+-- Each loose part is a part of one of the lines.
 pub loose_there : (o n made : ℕ) (ls : List (Line StorePart)) (p : LoosePart) → IsLoosePart o n made ls p
     → PartOf ls p.part
 loose_there o n made ls p r =

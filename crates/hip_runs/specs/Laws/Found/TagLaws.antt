@@ -109,7 +109,7 @@ loose_stated P I n o len made =
     let h = are_alike (run P I n).lines (in_lines P I n) o len made in
     record { alike = h; some = some_stated _ _ made h; flushed = flushed_stated _ _ made h }
 
--- Each tag of a loose byte is that of a step that was taken.
+-- The tag of each loose byte is the number of a step that was taken.
 pub tag_made : (P : Program) (I : Input) (n o len : ℕ) (b : LooseByte) → In b (loose_bytes (run P I n) o len)
     → b.tag < (run P I n).counts.steps
 tag_made P I n o len b i =

@@ -15,7 +15,7 @@ use Rattle.hip_runs.specs.State.{Level, Flush, StorePart, Counts}
 use Rattle.hip_runs.specs.StoredParts.Shown.{shown_part, shown_line, shown}
 use Rattle.hip_runs.specs.Standing.{HoldsLines}
 
--- A change of the lines is a change of what is shown of them.
+-- A change of the lines makes the matching change of the pending parts that they show.
 shown_change : (g : ℕ → Line StorePart → Line StorePart) (h : ℕ → Pending Part → Pending Part) (o n : ℕ)
     → ((j : ℕ) (l : Line StorePart) → IsOrdered l → shown_line (g j l) ≡ h j (shown_line l)) →
     (j : ℕ) (ls : List (Line StorePart)) → AreOrdered ls
@@ -84,7 +84,7 @@ ordered_fences [] a = tt
 ordered_fences (l ∷ ls) a =
     (ordered-fenced_line (map_line noted_fence l) (ordered-map_line noted_fence l a.0), ordered_fences ls a.1)
 
--- The lines into which nothing was stored.
+-- Lines into which nothing was stored show no pending parts.
 pub shown-fresh : (n : ℕ) → none_pending_all n ≡ shown (fresh_lines {P = StorePart} n)
 unfolding none_pending_all fresh_lines
 shown-fresh zero = refl
@@ -122,7 +122,7 @@ module _ {I : Input} {ps : List (Pending Part)} {ls : List (Line StorePart)} (h 
     whole = h.whole ∙ ap (λ n. 64 * n) (sym (length-map ps pending_fenced));
   }
 
-  -- After a store that may lie in the region.
+  -- The pending parts still represent the lines after a store that may be in the region.
   pub holds_store : (counts : Counts) (site : Site) (levels : List Level) (a : ℕ) (bytes : List ℕ) →
       HoldsLines I (cond (in_region I a (length bytes)) (pending_stored (a - I.base) (length bytes) counts.steps ps) ps)
       (stored_lines I counts site levels a bytes ls)
@@ -134,7 +134,7 @@ module _ {I : Input} {ps : List (Pending Part)} {ls : List (Line StorePart)} (h 
       go true = holds_stored counts site levels (a - I.base) bytes
       go false = h
 
-  -- After the flush of a range that has bytes and may lie in the region.
+  -- The pending parts still represent the lines after the flush of a range that has bytes and may be in the region.
   pub holds_flush : (flush : Flush) (a n : ℕ) → 0 < n
       → HoldsLines I (cond (in_region I a n) (pending_flushed_all (a - I.base) n ps) ps)
       (flushed_lines I flush a n ls)

@@ -1,4 +1,4 @@
--- The table is held against the definition at each of the 256 bytes, by computing.
+-- The table is compared with the definition for each of the 256 bytes, by computation.
 use Rattle.std.proofs.Common.{◌≡◌, ℕ, ◌<◌, Bool, true, false, ◌||◌, not, nat_eq, nat_lt, List, slice_index_or, refl, ◌∙◌, arith}
 use Rattle.std.specs.Char.{digit_value}
 use Rattle.std.proofs.lemmas.Bool.{eqb-true, lt-ltb}
@@ -6,7 +6,7 @@ use Rattle.hip_trace.specs.declared.line.TheConstants.{DIGITS}
 use Rattle.hip_trace.proofs.Tables.{holds_below, holds_at}
 use Rattle.hip_trace.proofs.line.digit_of.Goals as goal
 
--- What the table has for a byte is its digit, or is no digit.
+-- Whether the table has for a byte its value as a digit, or a number that is not a digit.
 is_right : List ℕ → ℕ → Bool
 is_right table k = not (nat_lt (slice_index_or table k 0) 16) || nat_eq (slice_index_or table k 0) (digit_value k)
 

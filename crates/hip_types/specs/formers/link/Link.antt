@@ -1,4 +1,4 @@
--- A type may refer to itself through `Link`: how a link holds its value.
+-- How a `Link` holds its value. A type may refer to itself through it.
 use mathlib.Core.Path.{refl}
 use mathlib.Core.Former.{Former, this, const, pair, via}
 use base.Stored.{gnil}

@@ -1,4 +1,4 @@
--- A type may refer to itself through `Row`: how a row holds its items.
+-- How a `Row` holds its items. A type may refer to itself through it.
 use mathlib.Core.Path.{◌≡◌, refl, sym}
 use mathlib.Core.List.{List, []}
 use mathlib.Core.Former.{Former, this, list, via, children}

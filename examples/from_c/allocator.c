@@ -1,13 +1,13 @@
 // A pool of memory with a list of free blocks, and a persistent list whose nodes come from such a pool.
 //
-// The bug: the pool's functions were written for volatile memory and flush nothing. They serve a volatile pool too, so
-// that flushes in them would slow down what needs none.
+// The bug: the pool's functions were written for volatile memory and flush nothing. They also serve a volatile pool, which
+// flushes in them would slow down without any use.
 #include <hippo.h>
 #include <stdint.h>
 
 enum { POOL_BYTES = 1024 };
 
-// Blocks are named by their offset in the pool; 0 is none. `size` counts the bytes after the head.
+// A block is named by its offset in the pool; offset 0 names no block. `size` counts the bytes after the head.
 struct block {
   uint64_t size;
   uint64_t next;
@@ -39,7 +39,7 @@ static void pool_format(struct pool *pool) {
   block_at(pool, 16)->next = 0;
 }
 
-// The first free block that is large enough; what is left of it becomes a free block of its own.
+// The first free block that is large enough; the rest of it becomes a free block of its own.
 static uint64_t pool_take(struct pool *pool, uint64_t size) {
   size = (size + 15) & ~(uint64_t)15;
   uint64_t *link = &pool->first_free;
@@ -91,7 +91,7 @@ static void pop(void) {
   pool_give_back(&heap, offset);
 }
 
-// The sum of the list, by a copy in volatile memory.
+// The sum of the list, computed from a copy in volatile memory.
 static int64_t sum(void) {
   pool_format(&scratch);
   uint64_t copy = pool_take(&scratch, 32 * sizeof(int64_t));

@@ -1,7 +1,7 @@
-// A persistent log. A record is written after the last one and made durable, and then the count includes it. So after
-// a crash the first `count` records are whole.
+// A persistent log. The program writes a record after the last one, makes it durable, and then increments the count. So
+// after a crash the first `count` records are whole.
 //
-// The bug: a record has 24 bytes, so that some records lie in two cache lines, and `append` flushes the first one only.
+// The bug: a record has 24 bytes, so some records are in two cache lines, but `append` flushes only the first line.
 #include <hippo.h>
 #include <stdint.h>
 

@@ -1,11 +1,11 @@
 // An ordered store of texts, by number, in one file of persistent memory: an allocator, and a B+ tree over it. Commands are
-// numbers of the input. When a command has ended, all that it changed has to be durable; the pm_assert in run_commands says so.
+// numbers of the input. When a command ends, all that it changed must be durable; the pm_assert in run_commands checks this.
 //
-// Three things are wrong with it, one of each kind:
+// It has three bugs, one of each kind:
 // - Missing flushes: give_block stores the next block of a free list, and flushes only the list's head; close_gap flushes nothing.
 // - A missing fence: count_keys flushes the number of keys, and no fence comes after it.
 // - A shared helper: open_gap was written for arrays in volatile memory, such as the results of a search, and flushes nothing. The
-//   tree makes room in its persistent nodes by it too.
+//   tree also uses it to make room in its persistent nodes.
 #include <hippo.h>
 #include <stdint.h>
 #include <stdio.h>
@@ -20,7 +20,7 @@ enum { CREATE = 1, POOL_SIZE = 1 << 16, MAGIC = 0x73746f72 };
 enum { CLASSES = 6, SMALLEST = 32 };          // blocks of 32 to 1,024 bytes
 enum { KEYS = 14, LEAST = KEYS / 2, HALF = KEYS / 2 }; // of a node
 
-// The file. Places in it are offsets from its start, and 0 is none.
+// The file. A place is an offset from its start; 0 is no place.
 struct pool {
   uint64_t magic, used;
   uint64_t root, count;
@@ -31,7 +31,7 @@ struct block {
   uint64_t class, next;
 };
 
-// A node of 256 bytes. A leaf has a text for each key, and the next leaf; an inner node has a child more than keys, and the
+// A node of 256 bytes. A leaf has a text for each key, and the next leaf. An inner node has one child more than keys; the
 // keys of child i are below keys[i].
 struct node {
   uint64_t is_leaf, count, next;
@@ -48,7 +48,7 @@ struct store {
   size_t mapped;
 };
 
-// Results of a search, in volatile memory, in the order that its comparison says.
+// Results of a search, in volatile memory, in the order of its comparison.
 struct results {
   uint64_t *keys;
   size_t count, room;
@@ -61,12 +61,12 @@ static struct node *node_at(const struct store *store, uint64_t place) { return 
 
 // --- arrays of words
 
-// Moves the words from a place on by one, to make room there.
+// Moves the words from a place on up by one, to make room at the place.
 static void open_gap(uint64_t *words, uint64_t count, uint64_t place) {
   for (uint64_t i = count; i > place; i--) words[i] = words[i - 1];
 }
 
-// Moves the words after a place back by one, over what stood there.
+// Moves the words after a place down by one, over the word at the place.
 static void close_gap(uint64_t *words, uint64_t count, uint64_t place) {
   for (uint64_t i = place; i + 1 < count; i++) words[i] = words[i + 1];
 }
@@ -83,7 +83,7 @@ static struct block *block_of(const struct store *store, uint64_t place) {
   return (struct block *)at(store, place) - 1;
 }
 
-// The place of memory of this size, or 0 where the file has no room.
+// The place of memory of this size, or 0 if the file has no room.
 static uint64_t take_block(struct store *store, size_t size) {
   struct pool *pool = store->pool;
   uint64_t class = class_of(size), place;
@@ -181,7 +181,7 @@ static void remove_key(struct node *node, uint64_t place) {
   pmem_persist(&node->count, sizeof node->count);
 }
 
-// What an insertion made of a node that was full: the new node to the right of it, and the key between the two.
+// The result of an insertion into a full node: the new node to the right of it, and the key between the two.
 struct split {
   uint64_t key, right;
 };
@@ -204,7 +204,7 @@ static int split_node(struct store *store, struct node *node, struct split *spli
   return 1;
 }
 
-// Puts a key and its link into a node, which is split where it is full. 0 where the file has no room.
+// Puts a key and its link into a node, and splits the node if it is full. Returns 0 if the file has no room.
 static int insert_or_split(struct store *store, struct node *node, uint64_t key, uint64_t link, struct split *split) {
   if (node->count == KEYS) {
     if (!split_node(store, node, split)) return 0;
@@ -221,7 +221,7 @@ static void count_keys(struct store *store, int64_t more) {
   pmem_flush(&store->pool->count, sizeof store->pool->count);
 }
 
-// The leaf in which a key stands, or would stand; a null pointer where the tree is empty.
+// The leaf that has a key, or would have it; a null pointer if the tree is empty.
 static struct node *leaf_for(const struct store *store, uint64_t key) {
   if (!store->pool->root) return NULL;
   struct node *node = node_at(store, store->pool->root);
@@ -305,7 +305,7 @@ static void join(struct store *store, struct node *parent, uint64_t left) {
   give_block(store, gone);
 }
 
-// Gives a child that has too few keys those of a neighbour, or joins the two.
+// Moves a key of a neighbour to a child with too few keys, or joins the two.
 static void refill(struct store *store, struct node *parent, uint64_t child) {
   uint64_t left = child ? child - 1 : child, right = child < parent->count ? child + 1 : child;
   if (node_at(store, parent->links[left])->count > LEAST)
@@ -316,7 +316,7 @@ static void refill(struct store *store, struct node *parent, uint64_t child) {
     join(store, parent, left);
 }
 
-// Removes a key that stands below this place.
+// Removes a key from the subtree at this place.
 static void remove_below(struct store *store, uint64_t place, uint64_t key) {
   struct node *node = node_at(store, place);
   if (node->is_leaf) {
@@ -366,7 +366,7 @@ static int by_bytes(const struct store *store, uint64_t left, uint64_t right) {
   return order ? order : by_length(store, left, right);
 }
 
-// Puts a key where its comparison says, after those that are equal to it.
+// Puts a key at its place in the order of the comparison, after equal keys.
 static int collect(const struct store *store, uint64_t key, const struct text *text, void *with) {
   struct results *results = with;
   (void)text;
@@ -396,7 +396,7 @@ static int add_up(const struct store *store, uint64_t key, const struct text *te
 
 // --- commands
 
-// Puts a text for a key, in place of the one that it has.
+// Puts a text for a key, in place of its old text.
 static long long put(struct store *store) {
   uint64_t key = (uint64_t)read_i64();
   long long size = read_i64();
@@ -467,7 +467,7 @@ static long long status(struct store *store) {
   return (long long)store->pool->used;
 }
 
-// A sequence of keys, each put and, if it is a multiple of the last number, taken again.
+// Goes through a sequence of keys: removes each key that the tree has, and puts each other key.
 static long long many(struct store *store);
 
 static const struct command {

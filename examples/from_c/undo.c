@@ -1,9 +1,9 @@
-// Transfers between accounts, with an undo log. Before a balance is changed its old value is written into the log and
-// the log's count takes it in; the count goes back to 0 when both new balances are durable. After a crash `roll_back`
-// gives back what an unfinished transfer changed.
+// Transfers between accounts, with an undo log. Before the program changes a balance, it writes the old value into the log
+// and increments the log's count. It sets the count back to 0 when both new balances are durable. After a crash
+// `roll_back` restores the balances that an unfinished transfer changed.
 //
-// The bug: the entry is flushed, but no fence stands between it and the count, so that the count may reach memory
-// first.
+// The bug: `remember` flushes the entry, but no fence comes between this flush and the store of the count. So the count
+// may reach memory first.
 #include <hippo.h>
 #include <stdint.h>
 
@@ -60,8 +60,8 @@ static int transfer(uint64_t from, uint64_t to, int64_t amount) {
   return 1;
 }
 
-// Reads how many transfers are wanted, and of each the two accounts and the amount. Prints for each transfer whether it
-// was made, and then the balances.
+// Reads the number of transfers, and for each transfer the two accounts and the amount. Prints for each whether it was
+// made, and then the balances.
 int main(void) {
   roll_back();
   int64_t wanted = read_i64();

@@ -1,6 +1,6 @@
-// A queue of messages in a ring buffer. `put` writes a message into a slot, and then `head` takes it in; `take` reads
-// a message, and then `tail` gives its slot back. So after a crash the messages from `tail` up to `head` are whole.
-// The numbers of the input are what is done: a positive one puts that many messages, a negative one takes that many.
+// A queue of messages in a ring buffer. `put` writes a message into a slot and then increments `head`; `take` reads a
+// message and then increments `tail`, which frees the slot. So after a crash the messages from `tail` up to `head` are
+// whole. Each number of the input is a command: a positive one puts that many messages, a negative one takes that many.
 #include <hippo.h>
 #include <stdint.h>
 #include <string.h>
@@ -64,7 +64,7 @@ static int take(struct ring *r, char *text, uint32_t *length) {
   return 1;
 }
 
-// After a crash: the messages that the ring counts have to be whole.
+// After a crash: the messages that the ring counts must be whole.
 static void recover(const struct ring *r) {
   for (uint64_t i = r->tail; i < r->head; i++) {
     const struct message *slot = &r->slots[i % SLOTS];

@@ -1,7 +1,7 @@
 // A pool of memory with a list of free blocks, and a persistent list whose nodes come from such a pool.
 //
-// The bug: the pool's functions were written for volatile memory and flush nothing. They also serve a volatile pool, which
-// flushes in them would slow down without any use.
+// The bug: the pool's functions were written for volatile memory and flush nothing. Flushes in them would slow down the
+// volatile pool, which uses the same functions.
 #include <hippo.h>
 #include <stdint.h>
 

@@ -61,7 +61,7 @@ static struct node *node_at(const struct store *store, uint64_t place) { return 
 
 // --- arrays of words
 
-// Moves the words from a place on up by one, to make room at the place.
+// Moves the words at and after a place up by one, to make room at the place.
 static void open_gap(uint64_t *words, uint64_t count, uint64_t place) {
   for (uint64_t i = count; i > place; i--) words[i] = words[i - 1];
 }

@@ -1,5 +1,5 @@
-// Transfers between accounts, with an undo log. Before the program changes a balance, it writes the old value into the log
-// and increments the log's count. It sets the count back to 0 when both new balances are durable. After a crash
+// Transfers between accounts, with an undo log. Before the program changes a balance, it writes the old value into the
+// log and increments the log's count. It sets the count back to 0 when both new balances are durable. After a crash
 // `roll_back` restores the balances that an unfinished transfer changed.
 //
 // The bug: `remember` flushes the entry, but no fence comes between this flush and the store of the count. So the count

@@ -1,10 +1,9 @@
 #!/usr/bin/env python3
 """Runs the commands of the pages that no other script runs, as they are written, and compares the pages with what they describe.
 
-`.ci/pages_and_exit_codes.sh` runs the `console` blocks. Here the `sh` blocks run, and the commands in the text that have no placeholder. The
-options and commands that pages list must be those of the programs; files, edits and headings that pages name must exist. Commands that prove,
-that need the network or that run for minutes are in NOT_RUN. It needs the tools of LLVM 19 for the commands on C, and runs without them what it
-can."""
+`.ci/pages_and_exit_codes.sh` runs the `console` blocks. This script runs the lines of the `sh` blocks, except those in NOT_RUN, and the commands
+in COMMANDS, which stand in the text. The options and commands that pages list must be those of the programs; files, edits and headings that pages
+name must exist. Without the tools of LLVM 19 it skips the commands that need them."""
 
 from __future__ import annotations
 
@@ -130,8 +129,8 @@ def run_commands(room: Room, cases: Cases) -> None:
     has_clang = all(map(shutil.which, CLANG_TOOLS))
     skipped = 0
     for given in COMMANDS:
-        stands = given.command in set(in_text(TOP / given.page))
-        cases.count(f"{given.page}: {given.command}", "" if stands else "the page does not have this command any more")
+        is_there = given.command in set(in_text(TOP / given.page))
+        cases.count(f"{given.page}: {given.command}", "" if is_there else "the page no longer has this command")
     for given in [*in_blocks(), *COMMANDS]:
         if not has_clang and needs_clang(f"{given.before} {given.command}"):
             skipped += 1

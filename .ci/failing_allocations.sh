@@ -1,20 +1,32 @@
 #!/usr/bin/env bash
-# Tests out-of-memory paths; run it manually. Each command runs on the examples while its n-th allocation fails, for one n
-# after another. It must answer as with ample memory, or with exit code 7 and its line. Standard output must then be empty,
-# or a prefix of the ample text for the commands that write while they run. If the words themselves find no memory, there is
-# only the exit code. One line for each command gives the counts.
+# Tests out-of-memory paths; run it manually. Each command runs on the examples while its n-th allocation fails, for each n in
+# turn. It must answer as with ample memory, or with exit code 7 and its line. Standard output must then be empty, or a prefix of
+# the ample text for the commands that write while they run. If memory runs out while hippo reads the words, there is only the
+# exit code. One line for each command gives the counts.
 # usage: .ci/failing_allocations.sh [--try] [FIRST [LAST [STEP]]]
 # It runs the built program with a malloc that fails (it needs a C compiler); without FIRST, for the first 100 allocations
 # and for 200 of the others. With --try it runs the unproved program with `rt try --fail-alloc N`, which takes more than a
 # minute for each N; without FIRST, for the 40th only.
 top=$(cd "$(dirname "${BASH_SOURCE[0]}")/.." && pwd) || exit 2
-program=${HIPPO_PROGRAM:-$top/out/hippo}
+program=$(realpath -m "${HIPPO_PROGRAM:-$top/out/hippo}")
 by=preload
 if [ "${1-}" = --try ]; then
   by=try
   shift
 fi
 given=("$@")
+# is_range [FIRST [LAST [STEP]]]: each word is a number from 1, and FIRST is at most LAST
+is_range() {
+  local word
+  for word in "$@"; do
+    case $word in '' | 0* | *[!0-9]*) return 1 ;; esac
+  done
+  [ "$#" -le 3 ] && [ "${1:-1}" -le "${2:-${1:-1}}" ]
+}
+if ! is_range "$@"; then
+  echo 'usage: .ci/failing_allocations.sh [--try] [FIRST [LAST [STEP]]]' >&2
+  exit 2
+fi
 scratch=$(mktemp -d) || exit 2
 trap 'rm -rf "$scratch"' EXIT
 cp -r "$top/examples" "$scratch"
@@ -47,7 +59,7 @@ make_preload() {
   local compiler
   compiler=$(command -v cc clang gcc clang-19 | head -n 1)
   if [ -z "$compiler" ]; then
-    echo 'memory: no C compiler (try --try)'
+    echo 'memory: no C compiler is installed (--try needs none)' >&2
     exit 2
   fi
   cat >failing.c <<'C'
@@ -71,12 +83,12 @@ __attribute__((destructor)) static void end(void) {
 C
   "$compiler" -shared -fPIC -O1 -fno-builtin -o failing.so failing.c || exit 2
   if [ ! -x "$program" ]; then
-    echo 'memory: hippo is not built (./hippo --build builds it; --try needs no build)'
+    echo 'memory: hippo is not built (./hippo --build builds it; --try needs no build)' >&2
     exit 2
   fi
 }
 
-# numbers: prints which allocations fail
+# numbers ALL: prints the numbers of the allocations that fail in turn, if the command makes this many
 numbers() {
   local all=$1
   if [ "${#given[@]}" -gt 0 ]; then
@@ -89,17 +101,17 @@ numbers() {
   fi
 }
 
-# fronts COMMAND: standard output is empty, or a prefix of the ample text if the command writes while it runs
-fronts() {
+# is_prefix COMMAND: standard output is empty, or a prefix of the ample text if the command writes while it runs
+is_prefix() {
   case $1 in
     run | record | rerun | crash) cmp -s -n "$(wc -c <out)" out ample ;;
     *) [ ! -s out ] ;;
   esac
 }
 
-# lacks COMMAND: the answer is out of memory
-lacks() {
-  fronts "$1" && if [ -s notes ]; then [ "$(cat notes)" = 'hippo: out of memory' ]; else [ ! -s out ]; fi
+# is_out_of_memory COMMAND: the answer is out of memory
+is_out_of_memory() {
+  is_prefix "$1" && if [ -s notes ]; then [ "$(cat notes)" = 'hippo: out of memory' ]; else [ ! -s out ]; fi
 }
 
 # starves WORD..: runs a command with failing allocations, and prints its line
@@ -114,7 +126,7 @@ starves() {
     "run_$by" "$n" "$@"
     code=$?
     tried=$((tried + 1))
-    if [ "$code" -eq 7 ] && lacks "$1"; then
+    if [ "$code" -eq 7 ] && is_out_of_memory "$1"; then
       short=$((short + 1))
     elif [ "$code" -ne "$ample" ] || ! cmp -s out ample || ! cmp -s notes ample_notes; then
       failed=$((failed + 1))

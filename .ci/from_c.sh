@@ -65,7 +65,7 @@ options() {
   if [ "$1" = store ]; then echo --pool store.pool=64K; fi
 }
 
-# native NAME: compiles a C program with clang; the runtime's files replace libpmem, over this pool
+# native NAME: compiles a C program with clang; for `store`, files of the runtime replace libpmem
 native() {
   compiled "$folder/$1.c" "$scratch/c.ll"
   if [ "$1" = store ]; then
@@ -98,6 +98,7 @@ ends() {
   shift
   "$hippo" "$@" >"$scratch/printed" 2>"$scratch/notes" && [ "$(tail -n 1 "$scratch/notes")" = "$notes" ]
 }
+# runs NAME: hippo runs a text and its repaired text as stored
 runs() {
   local numbers=()
   if [ -f "$folder/$1.in" ]; then mapfile -t numbers < <(tr ' ' '\n' <"$folder/$1.in"); fi
@@ -105,6 +106,7 @@ runs() {
     ends 'stop 0' run "$folder/$1.repaired.ll" "${numbers[@]}" && cmp -s "$scratch/printed" "$folder/$1.out" &&
     ends 'stop 0' record "$folder/$1.ll" "${numbers[@]}" && cmp -s "$scratch/printed" "$folder/$1.trace"
 }
+# mends NAME: hippo makes the stored repaired text and its trace, and reports nothing on them
 mends() {
   "$hippo" repair "$folder/$1.ll" "$folder/$1.trace" 2>/dev/null | cmp -s - "$folder/$1.repaired.ll" &&
     ends 'after 0' rerun "$folder/$1.ll" "$folder/$1.trace" && cmp -s "$scratch/printed" "$folder/$1.repaired.trace" &&
@@ -119,7 +121,7 @@ else
   echo "from C: runs by hippo are skipped, it is not built"
 fi
 
-# Compares what clang makes of intrinsics at each level, and forms that it seldom writes, with LLVM's own builds of them.
+# Compares the lowered code of intrinsics at each level, and of forms that clang rarely writes, with LLVM's own builds.
 compiled tools/tests/intrinsics.c "$scratch/intrinsics.ll"
 cp tools/tests/forms.ll "$scratch/forms.ll"
 for name in intrinsics forms; do

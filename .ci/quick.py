@@ -39,15 +39,15 @@ def part(name: str, command: list[str], folder: Path) -> bool:
     start = time.monotonic()
     how = {"stdin": subprocess.DEVNULL, "stdout": subprocess.PIPE, "stderr": subprocess.STDOUT, "errors": "replace"}
     ran = subprocess.run(command, cwd=folder, **how)
-    said = ran.stdout if ran.returncode else ""
-    print(f"{said}{name}: {'failed' if ran.returncode else 'passed'}, {time.monotonic() - start:.0f} s", flush=True)
+    output = ran.stdout if ran.returncode else ""
+    print(f"{output}{name}: {'failed' if ran.returncode else 'passed'}, {time.monotonic() - start:.0f} s", flush=True)
     return ran.returncode == 0
 
 
 def main() -> int:
     """Runs each part, and answers whether all passed."""
     words = argparse.ArgumentParser(prog=".ci/quick.py", description=__doc__)
-    words.add_argument("--jobs", type=int, default=AT_ONCE, help="how many parts run side by side")
+    words.add_argument("--jobs", type=int, default=AT_ONCE, help="the number of parts that run in parallel")
     jobs = words.parse_args().jobs
     start = time.monotonic()
     parts = [("the pages and exit codes", ["sh", "-c", PAGES, "", str(UNPROVED)], TOP), ("the tests of the tools", TOOLS, TOP)]

@@ -10,7 +10,7 @@ from measuring import Command, Hippo, figures, leave_out, seconds, show, times
 
 BENCH = Path(__file__).resolve().parent
 INTERPRETER = ("lli-19", "--force-interpreter")
-# Each loop with the number of its turns, and the goals of `run` and of `check`: times as fast as the interpreter.
+# Each loop with the number of its turns (None if it takes no input), and the goals of `run` and of `check`: times as fast as the interpreter.
 LOOPS = {
     "loop": (None, 25, 15),
     "turns": (3_000_000, 25, 20),
@@ -30,7 +30,7 @@ def for_interpreter(text: str, number: int | None) -> str:
 
 def beside_the_interpreter(hippo: Hippo, name: str) -> None:
     """`run` and `check` of a loop, compared with the interpreter."""
-    turns, run_asked, check_asked = LOOPS[name]
+    turns, run_goal, check_goal = LOOPS[name]
     path = BENCH / f"{name}.ll"
     numbers = [] if turns is None else [hippo.size(turns)]
     text = hippo.file(f"{name}.lli.ll", for_interpreter(path.read_text(encoding="ascii"), numbers[0] if numbers else None))
@@ -39,8 +39,8 @@ def beside_the_interpreter(hippo: Hippo, name: str) -> None:
     trace = hippo.recorded(str(path), *numbers)
     ours = [hippo.command("run", path, *numbers), hippo.command("check", path, trace), hippo.command("record", path, *numbers)]
     lli, run, check, record = times(hippo.runs, llvm, *ours)
-    show(f"run: times as fast as LLVM's interpreter, {name}.ll", lli / run, least=run_asked, basis=seconds(run, lli))
-    show(f"check: times as fast as LLVM's interpreter, {name}.ll", lli / check, least=check_asked, basis=seconds(check, lli))
+    show(f"run: times as fast as LLVM's interpreter, {name}.ll", lli / run, least=run_goal, basis=seconds(run, lli))
+    show(f"check: times as fast as LLVM's interpreter, {name}.ll", lli / check, least=check_goal, basis=seconds(check, lli))
     if name == "loop":
         show("record: times the time of run, loop.ll", record / run, most=1.2, basis=seconds(record, run))
         show("check: times the time of run, loop.ll", check / run, most=2, basis=seconds(check, run))

@@ -2,6 +2,7 @@
 
 from __future__ import annotations
 
+import contextlib
 import math
 import os
 import resource
@@ -59,7 +60,8 @@ def spent(command: Command) -> float:
 
 
 def times(runs: int, *commands: Command) -> list[float]:
-    """The least time of each command, since other work on the machine only adds to a time. They run in turn, so that it affects all of them."""
+    """The least time of each command, since other work on the machine only adds to a time. The commands run in turn, so that this work
+    affects all of them."""
     taken: list[list[float]] = [[] for _ in commands]
     for _ in range(runs):
         for found, command in zip(taken, commands):
@@ -68,15 +70,13 @@ def times(runs: int, *commands: Command) -> list[float]:
 
 
 def peak(command: Command) -> float:
-    """The peak of a run's memory in MB, as last seen before its end; it is read every 2 milliseconds."""
+    """The peak of a run's memory in MB, which is read every 2 milliseconds until the run ends."""
     high = 0
     process = started(command)
     while process.poll() is None:
-        try:
+        with contextlib.suppress(OSError):  # the process may end between the poll and the read
             with open(f"/proc/{process.pid}/status", encoding="ascii", errors="replace") as file:
                 high = max([high, *(int(line.split()[1]) for line in file if line.startswith("VmHWM:"))])
-        except OSError:
-            pass
         time.sleep(0.002)
     require(command, process.returncode)
     return high / 1000
@@ -84,9 +84,9 @@ def peak(command: Command) -> float:
 
 def show(name: str, measured: float, least: float | None = None, most: float | None = None, basis: str = "", form: str = ".2f") -> None:
     """Prints a figure: its name, the measured value, the goal if there is one, and the values that it comes from."""
-    asked = f"at least {least:g}" if least is not None else f"at most {most:g}" if most is not None else ""
+    goal = f"at least {least:g}" if least is not None else f"at most {most:g}" if most is not None else ""
     missed = least is not None and measured < least or most is not None and measured > most
-    print(f"{name:<66} {measured:>8{form}}  {asked:<13} {'missed' if missed else '':<6}  {basis}".rstrip(), flush=True)
+    print(f"{name:<66} {measured:>8{form}}  {goal:<13} {'missed' if missed else '':<6}  {basis}".rstrip(), flush=True)
 
 
 def show_missed(name: str, fault: Missed) -> None:
@@ -114,7 +114,7 @@ def exponent(sizes: list[int], taken: list[float]) -> float:
 class Hippo:
     """The program that is measured, with a folder for its files."""
 
-    def __init__(self, program: str, folder: str, runs: int, scale: float):
+    def __init__(self, program: str, folder: str, runs: int, scale: float) -> None:
         self.program, self.folder, self.runs, self.scale = program, folder, runs, scale
 
     def size(self, number: int) -> int:
@@ -142,7 +142,7 @@ class Hippo:
 
 
 def figures(name: str, measure: Callable[..., None], *words: object) -> None:
-    """Takes some figures; if a command ends in an unexpected way, one line says so and the other figures go on."""
+    """Takes some figures. If a command ends in an unexpected way, a line says so, and the caller goes on with other figures."""
     try:
         measure(*words)
     except Missed as fault:

@@ -1,4 +1,4 @@
-"""`run` and `check` of C programs, compared with native code, which LLVM builds at -O1, and with valgrind's memcheck of that code."""
+"""`run` and `check` of C programs, compared with native code, which clang builds at -O1, and with valgrind's memcheck of that code."""
 
 from __future__ import annotations
 
@@ -59,7 +59,8 @@ def built(hippo: Hippo, name: str, text: str) -> str:
 
 
 def beside_native_code(hippo: Hippo, name: str) -> None:
-    """The multiples of a program: the extra time for the longer input over the shorter one, with each tool and natively."""
+    """How many times native code each tool takes for a program. A time is the difference between a long and a short input, so that
+    the start does not count."""
     text = (TOP / "examples" / "from_c" / f"{name}.ll").read_text(encoding="ascii")
     text = longer(name, text) if name in ROUNDS else text
     path, program = hippo.file(f"{name}.ll", text), built(hippo, name, text)

@@ -10,7 +10,8 @@ declare void @llvm.x86.sse.sfence()
 
 
 def loop(name: str, turns: int, body: str, before: str, after: str) -> str:
-    """Blocks that run a body, in which `%NAME` counts the turns; they come after a block and go on to another."""
+    """Blocks that run a body in a loop, in which `%NAME` counts the turns. The block before them is `before`, the block after them
+    `after`."""
     return f"""  br label %{name}.head
 {name}.head:
   %{name} = phi i64 [ 0, %{before} ], [ %{name}.next, %{name}.head ]
@@ -71,8 +72,8 @@ def asserts_over_loose(asserts: int) -> str:
 def wide_call(count: int, argument: str = "@x") -> str:
     """One call with this many pointers."""
     parameters = ", ".join(f"ptr %p{number}" for number in range(count))
-    taken = f"define void @take({parameters}) {{\nentry:\n  store i64 1, ptr %p0\n  ret void\n}}" if argument == "@x" else (
-        f"define void @take({parameters}) {{\nentry:\n  ret void\n}}")
+    store = "  store i64 1, ptr %p0\n" if argument == "@x" else ""
+    taken = f"define void @take({parameters}) {{\nentry:\n{store}  ret void\n}}"
     given = ", ".join([f"ptr {argument}"] * count)
     return program(f"  call void @take({given})\n", region(1), taken)
 
@@ -135,7 +136,7 @@ def fences_beside_loose_lines(count: int) -> str:
 
 
 def back_edges(count: int) -> str:
-    """A chain of this many blocks, each with an edge back to the one half as far."""
+    """A chain of this many blocks, in which block n has an edge back to block n / 2."""
     blocks = "".join(f"b{number}:\n  %v{number} = add i64 %v{number - 1}, 1\n"
                      f"  br i1 true, label %b{number + 1}, label %b{max(1, number // 2)}\n" for number in range(1, count))
     return program(f"  br label %b0\nb0:\n  %v0 = add i64 1, 1\n  br label %b1\n{blocks}b{count}:\n")

@@ -42,7 +42,7 @@ done:
 """
 
 
-# Each form: what comes before the first piece, a piece by its number, and what comes after the last one, by their number.
+# Each form: what comes before the first piece, a piece by its number, and what comes after the last one, by the number of pieces.
 Form = tuple[str, Callable[[int], str], Callable[[int], str]]
 FORMS: dict[str, Form] = {
     "mixed functions": ("@a = global [64 x i64] zeroinitializer\n", mixed, lambda count: ""),

@@ -3,9 +3,9 @@
     python3 tools/contract_sizes.py [--crates FOLDER] [--crate NAME]... [--clauses N] [--parameters N] [--body N] [--file N]
 
 A line for each function with too many clauses (`requires` and `ensures` of its own), too many parameters (`self` counts) or
-a body of too many lines, and for each file of too many lines. The exit code is 1 where there is such a line. The sources have
-the layout of `rt fmt`, which this relies on: a clause begins a line, and the brace that ends a body stands in the column of
-its `fn`.
+a body of too many lines, and for each file of too many lines. The exit code is 1 if there is such a line, and 2 for bad input.
+The sources must have the layout of `rt fmt`: a clause begins a line, and the brace that ends a body stands in the column of its
+`fn`.
 """
 
 from __future__ import annotations
@@ -22,6 +22,10 @@ HEAD = re.compile(r"^(\s*)(?:pub(?:\([a-z ]+\))? )?(?:const )?(?:unsafe )?fn (\w
 CLAUSE = re.compile(r"^\s*(?:requires|ensures)\b")
 OPENING, CLOSING = "([{<", ")]}>"
 SOURCES = ("src/**/*.rt", "specs/**/*.antt", "proofs/**/*.antt")
+
+
+class Refused(Exception):
+    """A folder or a file that cannot be read, and the reason."""
 
 
 @dataclass(frozen=True)
@@ -87,7 +91,10 @@ def function_at(lines: list[str], at: int, indent: str, name: str) -> Function:
     parameters = parameters_in(signature[signature.index(f"fn {name}") + 3 :])
     body = 0
     if lines[opening].endswith("{"):
-        body = next(row for row in range(opening, len(lines)) if lines[row] == indent + "}") - opening - 1
+        closing = next((row for row in range(opening, len(lines)) if lines[row] == indent + "}"), None)
+        if closing is None:
+            raise Refused(f"line {at + 1}: a function without an end")
+        body = closing - opening - 1
     return Function(name, at + 1, len(clauses), parameters, body)
 
 
@@ -104,7 +111,7 @@ def last_of_head(lines: list[str], at: int, indent: str) -> int:
         depth += line.count("{") - line.count("}")
         if not depth and line.endswith(";"):
             return row
-    raise ValueError(f"line {at + 1}: a function without an end")
+    raise Refused(f"line {at + 1}: a function without an end")
 
 
 def excesses(name: str, text: str, limits: Limits) -> list[str]:
@@ -130,27 +137,46 @@ def report_of(crate: Path, limits: Limits) -> list[str]:
     files = [file for pattern in SOURCES for file in sorted(crate.glob(pattern))]
     found: list[str] = []
     for file in files:
-        found += excesses(str(file.relative_to(crate)), file.read_text(encoding="utf-8"), limits)
+        try:
+            found += excesses(str(file.relative_to(crate)), file.read_text(encoding="utf-8"), limits)
+        except (OSError, UnicodeDecodeError, Refused) as fault:
+            raise Refused(f"{file}: {fault}") from None
     return [f"{crate.name}:", *(f"  {line}" for line in found)] if found else []
 
 
-def main(words: list[str]) -> int:
-    """Reads the words, prints what is too large, and answers the exit code."""
+def folders_of(crates: Path, names: list[str] | None) -> list[Path]:
+    """The folders of the named crates, or of all."""
+    if not crates.is_dir():
+        raise Refused(f"no such folder: {crates}")
+    if names is None:
+        return [folder for folder in sorted(crates.iterdir()) if folder.is_dir()]
+    missing = [name for name in names if not (crates / name).is_dir()]
+    if missing:
+        raise Refused(f"no such crate: {' '.join(missing)}")
+    return [crates / name for name in names]
+
+
+def parse(words: list[str]) -> argparse.Namespace:
+    """The options of the command line."""
     parser = argparse.ArgumentParser(description=__doc__.splitlines()[0])
     parser.add_argument("--crates", type=Path, default=TOP / "crates", help="the folder of the crates")
-    parser.add_argument("--crate", action="append", help="this crate alone; else all")
-    parser.add_argument("--clauses", type=int, default=Limits.clauses, help="how many clauses a contract may have")
-    parser.add_argument("--parameters", type=int, default=Limits.parameters, help="how many parameters a function may have")
-    parser.add_argument("--body", type=int, default=Limits.body, help="how many lines a body may have")
-    parser.add_argument("--file", type=int, default=Limits.file, help="how many lines a file may have")
-    order = parser.parse_args(words)
+    parser.add_argument("--crate", action="append", help="this crate only; may be given again")
+    parser.add_argument("--clauses", type=int, default=Limits.clauses, help="the most clauses of a contract")
+    parser.add_argument("--parameters", type=int, default=Limits.parameters, help="the most parameters of a function")
+    parser.add_argument("--body", type=int, default=Limits.body, help="the most lines of a body")
+    parser.add_argument("--file", type=int, default=Limits.file, help="the most lines of a file")
+    return parser.parse_args(words)
+
+
+def main(words: list[str]) -> int:
+    """Reads the words, prints what is too large, and returns the exit code."""
+    order = parse(words)
     limits = Limits(order.clauses, order.parameters, order.body, order.file)
-    folders = [order.crates / name for name in order.crate] if order.crate else sorted(order.crates.iterdir())
-    missing = [folder.name for folder in folders if order.crate and not folder.is_dir()]
-    if missing:
-        print(f"contract_sizes: no such crate: {' '.join(missing)}", file=sys.stderr)
+    try:
+        lines = [line for folder in folders_of(order.crates, order.crate) for line in report_of(folder, limits)]
+    except Refused as fault:
+        print(f"contract_sizes: {fault}", file=sys.stderr)
         return 2
-    lines = [line for folder in folders if folder.is_dir() for line in report_of(folder, limits)]
     if lines:
         print("\n".join(lines))
     return 1 if lines else 0

@@ -2,15 +2,16 @@
 
     python3 tools/crate_schedule.py [--crates FILE] [--weights FILE] [--top CRATE] [--processors N,N] [--whole]
 
-crates.txt says which crates a crate stands on. The file of weights has a line `NAME SECONDS` for each crate. A crate without
-a line is left out: the crates of tests. The schedule is a list schedule: a free processor takes the crate with the longest
-chain above it, among those whose libraries are proved.
+crates.txt lists the crates that each crate depends on. The file of weights has a line `NAME SECONDS` for each crate. A crate
+without a line, as the crates of tests, is left out. The schedule is a list schedule: among the crates whose libraries are
+proved, a free processor takes the one with the longest chain above it.
 """
 
 from __future__ import annotations
 
 import argparse
 import heapq
+import math
 import sys
 from dataclasses import dataclass
 from pathlib import Path
@@ -48,7 +49,7 @@ def read_weights(text: str) -> dict[str, float]:
             name, seconds = words[0], float(words[1])
         except (IndexError, ValueError):
             raise Refused(f"no crate and seconds in the line: {line}") from None
-        if len(words) > 2 or seconds < 0:
+        if len(words) > 2 or not 0 <= seconds < math.inf:
             raise Refused(f"no crate and seconds in the line: {line}")
         weights[name] = seconds
     return weights
@@ -56,6 +57,8 @@ def read_weights(text: str) -> dict[str, float]:
 
 def below(crates: dict[str, list[str]], top: str) -> list[str]:
     """The crate and all that it depends on, each after its own dependencies."""
+    if top not in crates:
+        raise Refused(f"no such crate: {top}")
     order: list[str] = []
     entered: set[str] = set()
 
@@ -127,8 +130,6 @@ class Piece:
 
 def graph_of(crates: dict[str, list[str]], weights: dict[str, float], top: str | None) -> Graph:
     """The graph of the crates below `top`, or of all that have a weight."""
-    if top is not None and top not in crates:
-        raise Refused(f"no such crate: {top}")
     tops = [top] if top is not None else [name for name in crates if name in weights]
     order = list(dict.fromkeys(name for each in tops for name in below(crates, each)))
     missing = [name for name in order if name not in weights]
@@ -190,28 +191,34 @@ def report(graph: Graph, processors: list[int], whole: bool) -> list[str]:
         pieces = schedule(graph, count)
         lines.append(f"{count} processors: {makespan(pieces):.0f} s, {makespan(pieces) / 60:.1f} min")
         if whole:
-            lines += [f"  {p.start:6.0f} {p.end:6.0f}  {p.processor + 1}  {p.name}" for p in pieces]
+            lines += [f"  {piece.start:6.0f} {piece.end:6.0f}  {piece.processor + 1}  {piece.name}" for piece in pieces]
     return lines
+
+
+def processors_in(text: str) -> list[int]:
+    """The numbers of processors, joined by commas."""
+    words = text.split(",")
+    if not all(word.isdecimal() and int(word) > 0 for word in words):
+        raise Refused(f"not numbers of processors, such as 2,4: {text}")
+    return [int(word) for word in words]
 
 
 def main(words: list[str]) -> int:
     """Reads the words, prints the report, and answers the exit code."""
     parser = argparse.ArgumentParser(description=__doc__.splitlines()[0])
-    parser.add_argument("--crates", type=Path, default=TOP / "crates.txt")
-    parser.add_argument("--weights", type=Path, default=TOP / "tools" / "crate_weights.txt")
-    parser.add_argument("--top", help="only what this crate stands on; else all crates that have a weight")
-    parser.add_argument("--processors", default="2,4", help="how many there are, joined by commas")
-    parser.add_argument("--whole", action="store_true", help="also each crate's longest chain, and what is proved when")
+    parser.add_argument("--crates", type=Path, default=TOP / "crates.txt", help="the list of crates and what they depend on")
+    parser.add_argument("--weights", type=Path, default=TOP / "tools" / "crate_weights.txt",
+                        help="the seconds of each crate")
+    parser.add_argument("--top", help="this crate and all that it depends on; otherwise all crates that have a weight")
+    parser.add_argument("--processors", default="2,4", help="the numbers of processors, joined by commas (2,4)")
+    parser.add_argument("--whole", action="store_true", help="also print the longest chain through each crate, and when each crate is proved")
     order = parser.parse_args(words)
     try:
         crates = read_crates(order.crates.read_text(encoding="utf-8"))
         weights = read_weights(order.weights.read_text(encoding="utf-8"))
         graph = graph_of(crates, weights, order.top)
-        processors = [int(word) for word in order.processors.split(",")]
-        if min(processors) < 1:
-            raise Refused("no processors")
-        lines = report(graph, processors, order.whole)
-    except (OSError, ValueError, Refused) as fault:
+        lines = report(graph, processors_in(order.processors), order.whole)
+    except (OSError, UnicodeDecodeError, Refused) as fault:
         print(f"crate_schedule: {fault}", file=sys.stderr)
         return 1
     print("\n".join(lines))

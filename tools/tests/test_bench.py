@@ -89,6 +89,28 @@ class Sizes(unittest.TestCase):
         self.assertEqual(native.numbers_of("store", 4), [8, 4, 37, 0])
 
 
+class Command(unittest.TestCase):
+    """The words of bench/figures that are refused."""
+
+    def refused(self, *words: str) -> str:
+        """What the command writes to standard error, with nothing on standard output."""
+        ran = subprocess.run([sys.executable, "-B", str(TOP / "bench" / "figures"), *words], capture_output=True, text=True, check=False)
+        self.assertNotEqual(ran.returncode, 0)
+        self.assertEqual(ran.stdout, "")
+        self.assertNotIn("Traceback", ran.stderr)
+        return ran.stderr
+
+    def test_numbers_out_of_their_range(self) -> None:
+        for words in (["--runs", "0"], ["--runs", "-1"], ["--runs", "x"]):
+            self.assertIn("a number from 1", self.refused(*words))
+        for words in (["--scale", "0"], ["--scale", "2"], ["--scale", "nan"]):
+            self.assertIn("a number from 0.001 to 1", self.refused(*words))
+
+    def test_what_is_not_a_program(self) -> None:
+        for program in ("/nowhere/hippo", str(TOP)):
+            self.assertEqual(self.refused("--program", program), f"bench: {program} is not a program (./hippo --build builds it)\n")
+
+
 class Figures(unittest.TestCase):
     """How times become figures."""
 

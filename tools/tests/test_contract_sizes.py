@@ -57,6 +57,8 @@ def functions() -> dict[str, tool.Function]:
 
 
 class Functions(unittest.TestCase):
+    """The functions of a file and their sizes."""
+
     def test_each_function_is_found_once_with_its_line(self) -> None:
         found = [(function.name, function.line) for function in tool.functions_in(SOURCE)]
         self.assertEqual(found, [("swap", 5), ("none", 20), ("put", 24), ("law", 28), ("plain", 32)])
@@ -76,6 +78,8 @@ class Functions(unittest.TestCase):
 
 
 class Excesses(unittest.TestCase):
+    """What is too large in a file."""
+
     def test_a_size_at_its_limit_is_allowed(self) -> None:
         self.assertEqual(tool.excesses("pair.rt", SOURCE, tool.Limits(clauses=2, parameters=3, body=4, file=34)), [])
 
@@ -85,6 +89,8 @@ class Excesses(unittest.TestCase):
 
 
 class Command(unittest.TestCase):
+    """The command over a folder of crates."""
+
     def run_on(self, *words: str) -> tuple[int, str, str]:
         """The exit code and both texts of the command over two crates, of which `low` has the source and a long definition."""
         with tempfile.TemporaryDirectory() as room:
@@ -113,7 +119,23 @@ class Command(unittest.TestCase):
     def test_an_unknown_crate_is_refused(self) -> None:
         code, out, notes = self.run_on("--crate", "high")
         self.assertEqual((code, out), (2, ""))
-        self.assertIn("high", notes)
+        self.assertEqual(notes, "contract_sizes: no such crate: high\n")
+
+    def test_a_missing_folder_is_refused(self) -> None:
+        code, out, notes = self.run_on("--crates", "/nowhere/crates")
+        self.assertEqual((code, out, notes), (2, "", "contract_sizes: no such folder: /nowhere/crates\n"))
+
+    def test_a_source_that_cannot_be_read_is_refused_with_its_file(self) -> None:
+        for source, reason in ((b"fn cut() {\n    0\n", "line 1: a function without an end"), (b"\n\nfn cut(", "line 3: a function without an end"),
+                               (b"// \xff\n", "can't decode byte 0xff")):
+            with self.subTest(source), tempfile.TemporaryDirectory() as room:
+                file = Path(room, "low", "src", "lib.rt")
+                file.parent.mkdir(parents=True)
+                file.write_bytes(source)
+                code, out, notes = self.run_on("--crates", room)
+                self.assertEqual((code, out), (2, ""))
+                self.assertTrue(notes.startswith(f"contract_sizes: {file}: "), notes)
+                self.assertIn(reason, notes)
 
 
 if __name__ == "__main__":

@@ -23,6 +23,8 @@ def graph(top: str | None = "top") -> tool.Graph:
 
 
 class Reading(unittest.TestCase):
+    """The two files, and what is refused in them."""
+
     def test_libraries_of_the_kit_are_left_out(self) -> None:
         self.assertEqual(tool.read_crates(CRATES)["left"], ["low"])
 
@@ -34,7 +36,7 @@ class Reading(unittest.TestCase):
             tool.read_crates("low high\n")
 
     def test_weights_that_are_no_numbers_are_refused(self) -> None:
-        for line in ("low", "low ten", "low -1", "low 1 2"):
+        for line in ("low", "low ten", "low -1", "low 1 2", "low nan", "low inf"):
             with self.subTest(line), self.assertRaises(tool.Refused):
                 tool.read_weights(line)
 
@@ -51,6 +53,8 @@ class Reading(unittest.TestCase):
 
 
 class Chains(unittest.TestCase):
+    """Longest chains, and the total."""
+
     def test_the_chain_takes_the_dearer_way(self) -> None:
         self.assertEqual(graph().chain(), ["low", "right", "top"])
 
@@ -62,6 +66,8 @@ class Chains(unittest.TestCase):
 
 
 class Schedules(unittest.TestCase):
+    """When each crate is proved, and on which processor."""
+
     def test_one_processor_takes_the_total(self) -> None:
         self.assertEqual(tool.makespan(tool.schedule(graph(), 1)), 24.5)
 
@@ -93,6 +99,8 @@ class Schedules(unittest.TestCase):
 
 
 class Command(unittest.TestCase):
+    """The command on two files."""
+
     def run_on(self, crates: str, weights: str, *words: str) -> tuple[int, str, str]:
         """The exit code and both texts of the command on these files."""
         with tempfile.TemporaryDirectory() as room:
@@ -116,10 +124,25 @@ class Command(unittest.TestCase):
         self.assertIn("low ten", notes)
 
     def test_no_processors_are_refused(self) -> None:
-        self.assertEqual(self.run_on(CRATES, WEIGHTS, "--processors", "0")[0], 1)
+        for words in ("0", "x", "2,", "-1"):
+            with self.subTest(words):
+                code, out, notes = self.run_on(CRATES, WEIGHTS, f"--processors={words}")
+                self.assertEqual((code, out), (1, ""))
+                self.assertEqual(notes, f"crate_schedule: not numbers of processors, such as 2,4: {words}\n")
+
+    def test_an_unknown_top_is_refused(self) -> None:
+        code, out, notes = self.run_on(CRATES, WEIGHTS, "--top", "high")
+        self.assertEqual((code, out, notes), (1, "", "crate_schedule: no such crate: high\n"))
+
+    def test_a_file_that_cannot_be_read_is_refused(self) -> None:
+        code, out, notes = self.run_on(CRATES, WEIGHTS, "--crates", "/nowhere/crates.txt")
+        self.assertEqual((code, out), (1, ""))
+        self.assertIn("/nowhere/crates.txt", notes)
 
 
 class Repository(unittest.TestCase):
+    """The crates and weights of this repository."""
+
     def test_each_crate_of_the_program_has_a_weight(self) -> None:
         crates = tool.read_crates((tool.TOP / "crates.txt").read_text(encoding="utf-8"))
         weights = tool.read_weights((tool.TOP / "tools" / "crate_weights.txt").read_text(encoding="utf-8"))

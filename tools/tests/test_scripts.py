@@ -25,6 +25,8 @@ def scripts(ending: str, word: str) -> list[Path]:
 
 
 class Scripts(unittest.TestCase):
+    """The scripts of the repository."""
+
     def test_python_compiles(self) -> None:
         found = scripts(".py", "python3")
         self.assertIn(TOP / "tools" / "lower", found)

@@ -204,7 +204,7 @@ def compare_names(cases: Cases) -> None:
 
 
 def main() -> int:
-    """Runs all cases, and answers whether they passed."""
+    """Runs all cases; returns 0 if they passed, otherwise 1."""
     cases = Cases()
     with tempfile.TemporaryDirectory(prefix="hippo-pages-") as folder:
         room = Room(Path(folder))

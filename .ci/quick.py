@@ -45,7 +45,7 @@ def part(name: str, command: list[str], folder: Path) -> bool:
 
 
 def main() -> int:
-    """Runs each part, and answers whether all passed."""
+    """Runs each part; returns 0 if all passed, otherwise 1."""
     words = argparse.ArgumentParser(prog=".ci/quick.py", description=__doc__)
     words.add_argument("--jobs", type=int, default=AT_ONCE, help="the number of parts that run in parallel")
     jobs = words.parse_args().jobs

@@ -204,7 +204,7 @@ def processors_in(text: str) -> list[int]:
 
 
 def main(words: list[str]) -> int:
-    """Reads the words, prints the report, and answers the exit code."""
+    """Reads the words, prints the report, and returns the exit code."""
     parser = argparse.ArgumentParser(description=__doc__.splitlines()[0])
     parser.add_argument("--crates", type=Path, default=TOP / "crates.txt", help="the list of crates and what they depend on")
     parser.add_argument("--weights", type=Path, default=TOP / "tools" / "crate_weights.txt",

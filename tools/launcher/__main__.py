@@ -101,7 +101,7 @@ def install(top: Path, words: list[str]) -> int:
 
 
 def version(top: Path) -> str:
-    """The version, the commit, the toolchain, and what is known of the program."""
+    """The version, the commit, the toolchain, and whether the program is proved."""
     sources = Sources(top)
     proved = Kept(top / PROVED)
     stamp = proved.read_stamp()
@@ -124,8 +124,8 @@ def version(top: Path) -> str:
 def build_words(words: list[str]) -> argparse.Namespace:
     """The words after `--build`."""
     parser = argparse.ArgumentParser(prog="./hippo --build", allow_abbrev=False)
-    parser.add_argument("--jobs", type=int, default=processors(), metavar="N", help="how many crates are proved side by side")
-    parser.add_argument("--write-weights", action="store_true", help="write what each crate took to tools/crate_weights.txt")
+    parser.add_argument("--jobs", type=int, default=processors(), metavar="N", help="the number of crates that are proved side by side")
+    parser.add_argument("--write-weights", action="store_true", help="write the seconds of each crate to tools/crate_weights.txt")
     given = parser.parse_args(words)
     if given.jobs < 1:
         parser.error("--jobs takes a number from 1")
@@ -133,7 +133,7 @@ def build_words(words: list[str]) -> argparse.Namespace:
 
 
 def run(top: Path, words: list[str]) -> int:
-    """Does what the words ask for."""
+    """Carries out the words, and returns the exit code."""
     if words[:1] == ["--help"]:
         sys.stdout.write(HELP)
         return 0

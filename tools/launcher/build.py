@@ -17,14 +17,14 @@ from typing import Iterator
 
 import crate_schedule
 from kept import Kept
-from progress import Meter, Plan, minutes, spoken, write_weights
+from progress import Meter, Plan, duration, minutes, write_weights
 from sources import PROGRAM, Failed, Sources
 
 # What one proof may take, in bytes of memory.
 MEMORY = 4 << 30
 # A disk with less than this is full, in bytes.
 FULL = 64 << 20
-# How often it looks at the proofs, in seconds.
+# The seconds between two looks at the proofs.
 STEP = 1.0
 # What a copy of a crate leaves out: what the toolchain made, and the edits that only the gate tries.
 LEFT_OUT = ("out", "must-fail")
@@ -50,7 +50,7 @@ def processors() -> int:
 
 @contextlib.contextmanager
 def alone(file: Path) -> Iterator[None]:
-    """Waits until no other build works in this folder, and keeps others waiting."""
+    """Waits until no other build works in this folder, and lets no other build in."""
     file.parent.mkdir(parents=True, exist_ok=True)
     with file.open("a+", encoding="utf-8") as lock:
         try:
@@ -97,7 +97,7 @@ class Build:
         self.waits: set[str] = set()
 
     def prove(self, room: Path) -> Path:
-        """Proves every crate in a copy, builds the program and tries it, over what earlier runs kept; it returns the program."""
+        """Proves every crate in a copy, except those whose proof an earlier run kept, builds the program and tries it; returns its path."""
         copy_crates(self.sources, room)
         status = self.run(room)
         unproved = UNPROVED.search(self.text())
@@ -143,8 +143,8 @@ class Build:
             if name in self.plan.expected:
                 self.ended.setdefault(name, now)
         left = self.plan.remaining(now, self.ended, frozenset(self.ended) - frozenset(self.measured))
-        line = (f"hippo: {len(self.ended)} of {len(self.sources.crates)} crates proved, {spoken(now)} so far, "
-                f"about {spoken(left)} left")
+        line = (f"hippo: {len(self.ended)} of {len(self.sources.crates)} crates proved, {duration(now)} so far, "
+                f"about {duration(left)} left")
         if sys.stderr.isatty():
             print(f"\r{line}\033[K", end="\n" if is_end else "", file=sys.stderr, flush=True)
         elif len(self.ended) > before:
@@ -152,12 +152,12 @@ class Build:
 
 
 def interrupted(number: int, _frame: object) -> None:
-    """Ends the launcher as an exception does, so that what it started ends too."""
+    """Ends the launcher by an exception, so that the processes that it started end too."""
     raise SystemExit(128 + number)
 
 
 def build(rt: str, sources: Sources, kept: Kept, toolchain: str, jobs: int, weighs: bool) -> int:
-    """Proves and builds the program if it is not built from these sources, and answers the exit code."""
+    """Proves and builds the program if it is not built from these sources, and returns the exit code."""
     signal.signal(signal.SIGINT, interrupted)
     with alone(sources.top / "out" / "build.lock"):
         digest = sources.digest()
@@ -165,7 +165,7 @@ def build(rt: str, sources: Sources, kept: Kept, toolchain: str, jobs: int, weig
             say(f"{kept.program} is proved and built from these sources")
             return 0
         work = Build(rt, sources, jobs)
-        say(f"proving {len(sources.crates)} crates, {jobs} side by side, and building; about {minutes(work.plan.whole)} where none is kept")
+        say(f"proving {len(sources.crates)} crates, {jobs} side by side, and building; about {minutes(work.plan.whole)} if no proof is kept")
         with tempfile.TemporaryDirectory(prefix="hippo-build-") as room:
             try:
                 made = work.prove(Path(room))
@@ -177,5 +177,5 @@ def build(rt: str, sources: Sources, kept: Kept, toolchain: str, jobs: int, weig
             kept.keep(made, digest, sources.commit(), toolchain)
         if weighs:
             write_weights(sources, work.measured)
-        say(f"proved and built in {spoken(time.monotonic() - work.start)}: {kept.program}")
+        say(f"proved and built in {duration(time.monotonic() - work.start)}: {kept.program}")
         return 0

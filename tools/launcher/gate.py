@@ -13,7 +13,7 @@ from sources import Failed, Sources, files_below, toolchain, WHOLE  # noqa: E402
 
 
 def main() -> int:
-    """Keeps the program that the gate made, unless a source changed after it was made, and answers the exit code."""
+    """Keeps the program that the gate made, unless a source changed after it was made, and returns the exit code."""
     try:
         sources = Sources(TOP)
         made = sources.made.stat().st_mtime_ns

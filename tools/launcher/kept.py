@@ -14,7 +14,7 @@ from typing import Callable, Iterable
 # Where the proved program is, below the top.
 PROVED = "out/hippo"
 FIELDS = ("sources", "program", "commit", "toolchain", "time")
-# More than the step of the clock with which a file system dates a change.
+# Seconds; more than the step of the clock from which a file system takes the time of a change.
 CLOCK_STEP = 0.02
 
 
@@ -35,7 +35,7 @@ class Kept:
         self.stamp = program.with_name(program.name + ".stamp")
 
     def read_stamp(self) -> dict[str, str]:
-        """The fields of the stamp; nothing where there is none or a field is missing."""
+        """The fields of the stamp; none if there is no stamp or a field is missing."""
         try:
             lines = self.stamp.read_text(encoding="utf-8").splitlines()
         except (OSError, UnicodeDecodeError):
@@ -53,7 +53,7 @@ class Kept:
             return False
 
     def keep(self, made: Path, sources: str, commit: str, toolchain: str) -> None:
-        """Puts a made program in this place. Even after an interrupt, a stamp is only there with the program that it names."""
+        """Moves a program to its place, with its stamp. Even after an interrupt, a stamp stands only beside the program that it names."""
         self.program.parent.mkdir(parents=True, exist_ok=True)
         with tempfile.TemporaryDirectory(dir=self.program.parent, prefix=".new-") as room:
             program, stamp = Path(room, "program"), Path(room, "stamp")
@@ -81,7 +81,8 @@ class Mark:
         self.watched = program.with_name(program.name + ".watched")
 
     def make(self, paths: Iterable[Path], is_unchanged: Callable[[], bool]) -> None:
-        """Makes the mark, and keeps it if the sources are unchanged after it was made, so that no change escapes it."""
+        """Makes the mark, and keeps it only if the sources are still unchanged after that, so that no change escapes it."""
+        # Where the folder cannot be written to, there is no mark, and each call reads the sources.
         with contextlib.suppress(OSError):
             self.remove()
             new = self.watched.with_name(self.watched.name + ".new")

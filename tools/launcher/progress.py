@@ -19,26 +19,26 @@ def weights_of(sources: Sources) -> dict[str, float]:
     """The seconds of each crate below the program; a crate without a weight gets the median."""
     try:
         known = crate_schedule.read_weights((sources.top / WEIGHTS).read_text(encoding="utf-8"))
-    except (OSError, crate_schedule.Refused) as fault:
+    except (OSError, UnicodeDecodeError, crate_schedule.Refused) as fault:
         raise Failed(f"{WEIGHTS}: {fault}") from None
     middle = statistics.median(known.values()) if known else USUAL
     return {name: known.get(name, middle) for name in sources.crates}
 
 
-def spoken(seconds: float) -> str:
-    """A time as a person says it."""
+def duration(seconds: float) -> str:
+    """A time that passed, in minutes and seconds."""
     minutes, rest = divmod(int(seconds), 60)
     return f"{minutes} min {rest:02d} s" if minutes else f"{rest} s"
 
 
 def minutes(seconds: float) -> str:
-    """A time that is expected, in whole minutes."""
+    """An estimated time, in whole minutes."""
     count = max(1, round(seconds / 60))
     return f"{count} minute{'s' * (count > 1)}"
 
 
 class Plan:
-    """When each crate is expected to be proved, corrected by when those before it were."""
+    """When each crate is expected to be proved. The estimate is corrected by the times at which earlier crates were proved."""
 
     def __init__(self, sources: Sources, processors: int) -> None:
         self.sources, self.processors = sources, processors
@@ -46,7 +46,7 @@ class Plan:
         self.schedule(frozenset())
 
     def schedule(self, kept: frozenset[str]) -> None:
-        """Lays out the proofs, of which these take no time since an earlier run kept them."""
+        """Schedules the proofs. The kept ones, of an earlier run, take no time."""
         self.kept = kept
         weights = {name: 0.0 if name in kept else self.weights[name] for name in self.sources.crates}
         graph = crate_schedule.graph_of(self.sources.libraries, weights, self.sources.crates[-1])
@@ -55,7 +55,7 @@ class Plan:
         self.whole = crate_schedule.makespan(pieces)
 
     def remaining(self, now: float, ended: dict[str, float], kept: frozenset[str]) -> float:
-        """The seconds that are left, where these crates ended at these times, and these were kept by an earlier run."""
+        """The seconds that are left, from the times at which crates ended, and the crates that an earlier run kept."""
         if kept != self.kept:
             self.schedule(kept)
         left = [self.expected[name] for name in self.expected if name not in ended]
@@ -102,7 +102,7 @@ class Meter:
 
 
 def crate_of(number: int) -> str | None:
-    """The crate that a process proves, if it proves one; a pass over the sources that proves nothing does not count."""
+    """The crate that a process proves, or nothing if it proves none, as in a pass over the sources."""
     try:
         words = Path(f"/proc/{number}/cmdline").read_bytes().decode(errors="replace").split("\0")
     except OSError:

@@ -33,7 +33,7 @@ def toolchain() -> tuple[str, str]:
 
 
 def files_below(folder: Path) -> list[Path]:
-    """Each file at or below the folder, in an order that depends on names alone; none where there is no folder."""
+    """Each file at or below the folder, in an order that depends on names alone; none if there is no folder."""
     found: list[Path] = []
     for path, folders, names in os.walk(folder):
         folders.sort()
@@ -49,7 +49,7 @@ class Sources:
         try:
             self.libraries = crate_schedule.read_crates((top / "crates.txt").read_text(encoding="utf-8"))
             self.crates = crate_schedule.below(self.libraries, PROGRAM)
-        except (OSError, KeyError, crate_schedule.Refused) as fault:
+        except (OSError, UnicodeDecodeError, crate_schedule.Refused) as fault:
             raise Failed(f"crates.txt does not list the crates of {PROGRAM}: {fault}") from None
 
     @property
@@ -89,7 +89,7 @@ class Sources:
         return [path.relative_to(self.top) for path in found]
 
     def commit(self) -> str:
-        """The commit of the clone, with a word if files differ from it; `unknown` outside a clone."""
+        """The commit of the clone, with `with changes` after it if files differ from it; `unknown` outside a clone."""
         def git(*words: str) -> str:
             ran = subprocess.run(["git", "-C", str(self.top), *words], capture_output=True, text=True, check=True)
             return ran.stdout.strip()

@@ -21,9 +21,9 @@ from kept import Kept
 from sources import CODE, Failed, Sources
 
 ENDLESS = "define i32 @main() {\nentry:\n  br label %turn\nturn:\n  br label %turn\n}\n"
-# How often the launcher looks at the processes of `rt try`, in seconds.
+# The seconds between two looks at the processes of `rt try`.
 STEP = 0.05
-# A report of a check at run time goes to a file, so that it does not mix with what the program writes.
+# A report of a check at run time goes to a file, so that it does not mix with the output of the program.
 CHECKS = "log_path={}/report"
 # A disk with less than this is full, in bytes.
 FULL = 64 << 20
@@ -31,7 +31,7 @@ FULL = 64 << 20
 
 @contextlib.contextmanager
 def locked(file: Path, waits: Callable[[], None]) -> Iterator[bool]:
-    """Lets one process at a time through, and gives whether it had to wait; `waits` is called before it waits."""
+    """Lets one process at a time through, and yields whether it had to wait; it calls `waits` before it waits."""
     file.parent.mkdir(parents=True, exist_ok=True)
     with file.open("w") as opened:
         waited = False
@@ -45,7 +45,7 @@ def locked(file: Path, waits: Callable[[], None]) -> Iterator[bool]:
 
 
 def running(words: list[str], folder: Path) -> Path | None:
-    """The program below the folder that a process runs with exactly these words, also through a loader."""
+    """The program below the folder that some process runs with exactly these words, directly or through a loader."""
     for process in Path("/proc").iterdir():
         with contextlib.suppress(OSError):
             given = [os.fsdecode(word) for word in (process / "cmdline").read_bytes().split(b"\0")[:-1]]
@@ -79,7 +79,7 @@ def make(rt: str, sources: Sources, kept: Kept, toolchain: str) -> None:
 
 
 def not_made(log: Path, folder: Path) -> str:
-    """Why there is no program, with what `rt try` wrote put into this folder."""
+    """Why there is no program; copies the output of `rt try` into this folder."""
     if shutil.disk_usage(log.parent).free < FULL:
         return f"the disk of {log.parent.parent} is full"
     folder.mkdir(parents=True, exist_ok=True)
@@ -111,7 +111,7 @@ def end(tried: subprocess.Popen) -> None:
 
 
 def answer(program: Path, words: list[str], build: str) -> int:
-    """Runs the unproved program on the words, and answers its exit code."""
+    """Runs the unproved program on the words, and returns its exit code."""
     with tempfile.TemporaryDirectory(prefix="hippo-") as room:
         # Ctrl-C reaches the program too, and the way it ends decides the exit code.
         signal.signal(signal.SIGINT, lambda *_: None)
@@ -123,7 +123,7 @@ def answer(program: Path, words: list[str], build: str) -> int:
         finally:
             if ran.poll() is None:
                 ran.terminate()
-        reports = "".join(it.read_text(encoding="utf-8", errors="replace") for it in sorted(Path(room).iterdir()))
+        reports = "".join(file.read_text(encoding="utf-8", errors="replace") for file in sorted(Path(room).iterdir()))
     if "failed to allocate" in reports or "out-of-memory" in reports:
         raise Failed(f"the unproved build needs more memory than this process may take; {build}")
     if reports:

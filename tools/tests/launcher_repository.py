@@ -1,7 +1,7 @@
 """For the tests of the launcher: a small repository, and a toolchain that proves nothing.
 
 The program of `rt try` is a copy of bash here: `hippo WORD ...` runs the script WORD in the caller's folder. The proved program is a
-script that says so. Files beside the toolchain say what it does next.
+script that prints `proved` and its words. Files beside the toolchain decide what it does next.
 """
 
 from __future__ import annotations
@@ -14,6 +14,7 @@ import subprocess
 import tempfile
 import unittest
 from pathlib import Path
+from typing import Any
 
 TOP = Path(__file__).resolve().parents[2]
 RT = r"""#!/bin/bash
@@ -51,6 +52,7 @@ class Repository(unittest.TestCase):
     """A repository of two crates with the launcher, and a toolchain."""
 
     def setUp(self) -> None:
+        """Makes the repository, the toolchain and a folder of the caller."""
         self.room = Path(tempfile.mkdtemp(prefix="launcher-"))
         self.addCleanup(shutil.rmtree, self.room, ignore_errors=True)
         self.top, self.kit, self.work = self.room / "clone", self.room / "kit", self.room / "work"
@@ -76,7 +78,7 @@ class Repository(unittest.TestCase):
         kept = {name: value for name, value in os.environ.items() if name != "HIPPO_PROGRAM"}
         return {**kept, "PATH": f"{self.kit}:{os.environ['PATH']}", **more}
 
-    def hippo(self, *words: str, **how) -> subprocess.CompletedProcess:
+    def hippo(self, *words: str, **how: Any) -> subprocess.CompletedProcess:
         """Runs the launcher in the folder of the caller's files."""
         environment = self.environment(**how.pop("more", {}))
         command = [str(how.pop("script", self.top / "hippo")), *words]

@@ -10,6 +10,7 @@ import subprocess
 import sys
 import time
 import unittest
+from typing import Any, Callable
 
 from launcher_repository import RT, TOP, Repository, small_files
 
@@ -23,7 +24,7 @@ class Proved(Repository):
         self.assertEqual((ran.returncode, ran.stdout), (0, ""), ran.stderr)
         return ran
 
-    def is_proved(self, **how) -> bool:
+    def is_proved(self, **how: Any) -> bool:
         """Whether the proved program answers, and the launcher writes nothing."""
         ran = self.hippo("repair", "/dev/null", **how)
         if ran.returncode == 3:
@@ -161,6 +162,16 @@ class Proved(Repository):
         (self.kit / "rt").write_text("#!/bin/sh\nexit 1\n")
         self.fails(self.hippo("--build"), "toolchain does not work: .*rt version fails")
 
+    def test_a_list_of_crates_that_cannot_be_read_is_named(self) -> None:
+        for text in (b"hip_low:\n", b"hippo: \xff\n", b"a line\n"):
+            (self.top / "crates.txt").write_bytes(text)
+            self.fails(self.hippo("--build"), "hippo: crates.txt does not list the crates of hippo: ")
+
+    def test_weights_that_cannot_be_read_are_named(self) -> None:
+        for text in (b"hip_low ten\n", b"\xff\n"):
+            (self.top / "tools" / "crate_weights.txt").write_bytes(text)
+            self.fails(self.hippo("--build"), "hippo: tools/crate_weights.txt: ")
+
     def test_a_second_build_waits_for_the_first(self) -> None:
         (self.kit / "waits").touch()
         command = [str(self.top / "hippo"), "--build"]
@@ -195,8 +206,8 @@ class Proved(Repository):
         self.build("--write-weights")
         self.assertEqual((self.top / "tools" / "crate_weights.txt").read_text(), "# Seconds.\nhip_low 60\nhippo 120\n")
 
-    def wait_for(self, holds) -> None:
-        """Waits until something holds."""
+    def wait_for(self, holds: Callable[[], bool]) -> None:
+        """Waits until a condition holds."""
         until = time.monotonic() + 60
         while not holds():
             self.assertLess(time.monotonic(), until)

@@ -11,7 +11,7 @@ from .suggesting import Suggestions
 from .traps import MEANING
 
 FORMAT = 1
-ABOUT = 'What hippo answered, brought into another form by hippo-c, which is not proved.'
+ABOUT = 'The answer of hippo in another form, which hippo-c made; hippo-c is not proved.'
 
 
 def answer_of(session: Session, results: list[Checked], found: Suggestions | None) -> dict:
@@ -71,7 +71,7 @@ def trap_of(session: Session, checked: Checked) -> dict | None:
 
 
 def fingerprint(session: Session, checked: Checked, group: Group) -> str:
-    """What identifies a group in another run: it stays when lines move, and when other elements of an array are stored to."""
+    """What identifies a group in another run: it does not change if lines move, or if the program stores to other elements of an array."""
     name = re.sub(r'\[\d+\]', '[]', object_of(session, checked, group)[0])
     functions = [place.function for place in session.places.along(group.path)]
     mark = '\n'.join([group.missing, name, *functions])

@@ -8,12 +8,14 @@ TITLE = '# Groups of reports that are known, for hippo-c check --baseline. Made 
 
 
 def read(path: str) -> set[str]:
-    """The fingerprints of a baseline; none if there is no such file yet."""
+    """The fingerprints that a baseline lists."""
     try:
         with open(path, encoding='utf-8') as file:
             return {line.split(' ')[0] for line in file if line.strip() and not line.startswith('#')}
     except FileNotFoundError:
         raise Trouble(f'{path}: no such baseline', 'make it by --write-baseline') from None
+    except UnicodeDecodeError:
+        raise Trouble(f'{path}: not UTF-8 text', 'make it again by --write-baseline') from None
     except OSError as error:
         raise Trouble(f'{path}: {error.strerror}') from None
 
@@ -32,7 +34,7 @@ def write(path: str, session: Session, results: list[Checked]) -> None:
 
 
 def leave_out(session: Session, results: list[Checked], known: set[str]) -> int:
-    """Removes the known groups from the results; gives their number."""
+    """Removes the known groups from the results, and returns their number."""
     count = 0
     for checked in results if known else []:
         new = [group for group in checked.groups if fingerprint(session, checked, group) not in known]

@@ -1,4 +1,5 @@
 """The commands check and run."""
+import argparse
 import json
 import os
 import sys
@@ -7,6 +8,7 @@ from . import baseline, running
 from .answer import answer_of
 from .diagnostics import Printer, amount, print_checked, print_trap
 from .history import histories_of
+from .numbers import from_to
 from .page import page_of
 from .progress import Progress
 from .sarif import sarif_of
@@ -17,10 +19,10 @@ from .traps import find_trap
 from .trouble import Trouble
 
 
-def add_options(command) -> None:
-    """The options that check has besides those of every command."""
+def add_options(command: argparse.ArgumentParser) -> None:
+    """The options of check that other commands do not have."""
     command.add_argument('--inputs', metavar='FILE', help='a file with an input in each line; each is checked')
-    command.add_argument('--groups', type=int, default=50, metavar='N', help='show at most N groups, 0 for all (50)')
+    command.add_argument('--groups', type=from_to(0), default=50, metavar='N', help='show at most N groups, 0 for all (50)')
     command.add_argument('--fix', action='store_true', help='suggest for each group what to add to the C')
     command.add_argument('--diff', metavar='FILE', help='write the suggestions as a unified diff, - for standard output')
     command.add_argument('--verify-fix', action='store_true', help='check the C again with the suggestions applied')
@@ -32,13 +34,14 @@ def add_options(command) -> None:
     command.add_argument('--no-coverage', action='store_true', help='do not count the lines of C that ran')
 
 
-def printer_of(options) -> Printer:
+def printer_of(options: argparse.Namespace) -> Printer:
+    """The printer of diagnostics on standard output, in colours if the options or the terminal want them."""
     colour = options.color == 'always' or (
         options.color == 'auto' and sys.stdout.isatty() and os.environ.get('TERM') != 'dumb' and 'NO_COLOR' not in os.environ)
     return Printer(sys.stdout, colour, not options.no_source)
 
 
-def check(options, request: Request, progress: Progress) -> int:
+def check(options: argparse.Namespace, request: Request, progress: Progress) -> int:
     """Checks the program on each input: 0 if nothing was found, 1 if something was, 2 if a run did not end."""
     printer = printer_of(options)
     if options.expand_macros and (options.diff or options.verify_fix):
@@ -73,7 +76,8 @@ def check(options, request: Request, progress: Progress) -> int:
     return code_of(results)
 
 
-def write_forms(options, session: Session, results: list[Checked], found: Suggestions | None, printer: Printer) -> None:
+def write_forms(options: argparse.Namespace, session: Session, results: list[Checked], found: Suggestions | None,
+                printer: Printer) -> None:
     """Writes the answer in the requested forms."""
     if not (options.json or options.sarif or options.html):
         return
@@ -86,7 +90,7 @@ def write_forms(options, session: Session, results: list[Checked], found: Sugges
 
 
 def write_text(path: str, text: str, printer: Printer) -> None:
-    """A text into a file, or to standard output for `-`."""
+    """Writes a text into a file, or to standard output if the path is `-`."""
     if path == '-':
         printer.stream.write(text)
         return
@@ -95,6 +99,7 @@ def write_text(path: str, text: str, printer: Printer) -> None:
 
 
 def print_all(printer: Printer, session: Session, results: list[Checked], most: int, found: Suggestions | None) -> None:
+    """Prints the results of all inputs, with at most `most` groups of each."""
     for number, checked in enumerate(results, 1):
         if len(results) > 1:
             printer.line(f'input {number}: {" ".join(map(str, checked.numbers))}'.rstrip())
@@ -109,7 +114,7 @@ def code_of(results: list[Checked]) -> int:
     return 0 if all(checked.ended.startswith('stop') for checked in results) else 2
 
 
-def run(options, request: Request, progress: Progress) -> int:
+def run(options: argparse.Namespace, request: Request, progress: Progress) -> int:
     """Runs the program, and shows what it prints and where it traps."""
     printer = Printer(sys.stderr, printer_of(options).colour and sys.stderr.isatty(), not options.no_source)
     with Session(request, progress) as session:

@@ -3,8 +3,10 @@ import argparse
 import os
 import re
 import sys
+import traceback
 
 from . import checking, crashing, install, repairing
+from .numbers import MOST_TURNS, from_to, numbers_in
 from .progress import Progress
 from .session import Request
 from .trouble import Trouble
@@ -45,62 +47,46 @@ def parser() -> argparse.ArgumentParser:
 
 
 def add_program(command: argparse.ArgumentParser) -> None:
-    """What each command that runs a program has."""
+    """The words of each command that runs a program."""
     command.add_argument('files', nargs='+', metavar='FILE', help='.c, or .ll in hippo\'s subset or of clang 19')
     command.add_argument('-O', dest='level', choices=list('0123s'), help='the level of clang (1)')
     for name, metavar in LOWER_VALUES.items():
         command.add_argument(f'--{name}', action='append', metavar=metavar, help='as for lower')
     for name in LOWER_FLAGS:
         command.add_argument(f'--{name}', action='store_true', help='as for lower')
-    command.add_argument('--input', nargs='*', type=int, metavar='N', default=None, help='the numbers that the program reads')
+    command.add_argument('--input', nargs='*', metavar='N', default=None, help='the numbers that the program reads')
     command.add_argument('--input-file', metavar='FILE', help='a file with these numbers')
-    command.add_argument('--limit', type=int, metavar='N', help='the greatest number of turns of a run (1,000,000,000)')
+    command.add_argument('--limit', type=from_to(0, MOST_TURNS), metavar='N', help='the greatest number of turns of a run (1,000,000,000)')
     command.add_argument('--expand-macros', action='store_true', help='expand the macros of each .c on its line, so that '
                          'columns distinguish the statements of a macro')
     command.add_argument('--color', choices=['auto', 'always', 'never'], default='auto')
     command.add_argument('--no-source', action='store_true', help='leave out the lines of C under the warnings')
-    command.add_argument('--keep', metavar='FOLDER', help='keep the lowered text and the traces there')
-
-
-def numbers_in(text: str, where: str) -> list[int]:
-    """The numbers of a text, between blanks."""
-    try:
-        return [int(word) for word in text.split()]
-    except ValueError:
-        word = next(word for word in text.split() if not re.fullmatch(r'[+-]?\d+', word))
-        raise Trouble(f'{where}: {word!r} is not a number') from None
+    command.add_argument('--keep', metavar='FOLDER', help='keep the lowered text and the traces in this folder')
 
 
 def file_text(path: str) -> str:
+    """The text of a file of inputs."""
     try:
         with open(path, encoding='utf-8') as file:
             return file.read()
     except (OSError, UnicodeDecodeError) as error:
-        raise Trouble(f'{path}: {getattr(error, "strerror", None) or "not a text"}') from None
+        raise Trouble(f'{path}: {getattr(error, "strerror", None) or "not UTF-8 text"}') from None
 
 
-def inputs_of(options) -> list[list[int]]:
+def inputs_of(options: argparse.Namespace) -> list[list[int]]:
     """The inputs of the runs: one, or one for each line of a file."""
     given = [name for name in ('input', 'input_file', 'inputs') if getattr(options, name, None) is not None]
     if len(given) > 1:
         raise Trouble('give one of --input, --input-file and --inputs')
-    if options.input_file:
+    if options.input_file is not None:
         return [numbers_in(file_text(options.input_file), options.input_file)]
-    if getattr(options, 'inputs', None):
+    if getattr(options, 'inputs', None) is not None:
         rows = file_text(options.inputs).rstrip('\n').split('\n')
         return [numbers_in(row, f'{options.inputs}:{number}') for number, row in enumerate(rows, 1)]
-    return [options.input or []]
+    return [numbers_in(' '.join(options.input or []), '--input')]
 
 
-def check_numbers(rows: list[list[int]]) -> list[list[int]]:
-    """The inputs, each number of which has 64 bits with its sign."""
-    for number in (number for row in rows for number in row):
-        if not -2 ** 63 <= number < 2 ** 63:
-            raise Trouble(f'the input {number} has more than 64 bits')
-    return rows
-
-
-def lower_words(options) -> list[str]:
+def lower_words(options: argparse.Namespace) -> list[str]:
     """The options that are passed on to tools/lower."""
     words = [f'-O{options.level}'] if options.level else []
     given = vars(options)
@@ -110,37 +96,64 @@ def lower_words(options) -> list[str]:
     return words
 
 
-def request_of(options, clang: list[str], arguments: list[str]) -> Request:
+def request_of(options: argparse.Namespace, clang: list[str], arguments: list[str]) -> Request:
+    """What the command runs; makes the folder of `--keep`."""
+    inputs = inputs_of(options)
     if options.keep:
-        os.makedirs(options.keep, exist_ok=True)
-    return Request(options.files, clang, lower_words(options), check_numbers(inputs_of(options)), options.limit, options.keep or '',
-                   options.expand_macros, arguments)
+        try:
+            os.makedirs(options.keep, exist_ok=True)
+        except OSError as error:
+            raise Trouble(f'--keep {options.keep}: {error.strerror}') from None
+    return Request(options.files, clang, lower_words(options), inputs, options.limit, options.keep or '', options.expand_macros, arguments)
 
 
-def main(words: list[str]) -> int:
-    """Carries out a command line; its exit code."""
-    clang: list[str] = []
-    if '--' in words:
-        clang = words[words.index('--') + 1:]
-        words = words[:words.index('--')]
-    arguments: list[str] = []
-    if '--args' in words:
-        arguments = words[words.index('--args'):]
-        words = words[:words.index('--args')]
+def split(words: list[str], mark: str) -> tuple[list[str], list[str]]:
+    """The words before a mark, and those from the mark on."""
+    place = words.index(mark) if mark in words else len(words)
+    return words[:place], words[place:]
+
+
+def carry_out(words: list[str], progress: Progress) -> int:
+    """Carries out a command line, and returns its exit code."""
+    words, clang = split(words, '--')
+    words, arguments = split(words, '--args')
     options = parser().parse_args([re.sub(r'^-O([0123s])$', r'-O=\1', word) for word in words])
-    progress = Progress()
     try:
         if options.command == 'install':
             return install.install(options, parser())
-        return options.carry_out(options, request_of(options, clang, arguments), progress)
+        return options.carry_out(options, request_of(options, clang[1:], arguments), progress)
     except Trouble as trouble:
         progress.wipe()
         print('\n'.join(trouble.lines(getattr(options, 'files', []))), file=sys.stderr)
         return FAILED
-    except BrokenPipeError:
-        os.dup2(os.open(os.devnull, os.O_WRONLY), sys.stdout.fileno())
-        return FAILED
+
+
+def main(words: list[str]) -> int:
+    """Carries out a command line, and returns its exit code, also where its output cannot be written or a defect ends it."""
+    for stream in (sys.stdout, sys.stderr):
+        stream.reconfigure(errors='surrogateescape')  # names of files need not be UTF-8
+    progress = Progress()
+    try:
+        code = carry_out(words, progress)
+        sys.stdout.flush()
+        return code
     except KeyboardInterrupt:
         progress.wipe()
         print('hippo-c: interrupted', file=sys.stderr)
         return INTERRUPTED
+    except BrokenPipeError:
+        drop_output()
+    except OSError as error:
+        progress.wipe()
+        print(f'hippo-c: error: {error.filename or "standard output"}: {error.strerror}', file=sys.stderr)
+        drop_output()
+    except Exception as error:  # the exit code of an exception is that of a durability bug
+        progress.wipe()
+        place = traceback.extract_tb(error.__traceback__)[-1]
+        print(f'hippo-c: error: a defect of hippo-c: {type(error).__name__}: {error} at {place.name}, line {place.lineno}', file=sys.stderr)
+    return FAILED
+
+
+def drop_output() -> None:
+    """Sends what is left of the output nowhere; otherwise Python would write it at the end, and fail again."""
+    os.dup2(os.open(os.devnull, os.O_WRONLY), sys.stdout.fileno())

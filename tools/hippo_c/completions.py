@@ -23,6 +23,7 @@ def files(parser: argparse.ArgumentParser) -> dict[str, str]:
 
 
 def bash(commands: dict[str, list[str]]) -> str:
+    """The completion of bash."""
     cases = ''.join(f'    {name}) words="{" ".join(options)}" ;;\n' for name, options in commands.items())
     return f'''_hippo_c() {{
   local words="{' '.join(commands)}"
@@ -47,6 +48,7 @@ complete -o filenames -F _hippo_c hippo-c
 
 
 def zsh(commands: dict[str, list[str]]) -> str:
+    """The completion of zsh."""
     cases = ''.join(f'  {name}) compadd -- {" ".join(options)} ;;\n' for name, options in commands.items())
     return f'''#compdef hippo-c
 if (( CURRENT == 2 )); then
@@ -60,6 +62,7 @@ _files
 
 
 def fish(commands: dict[str, list[str]]) -> str:
+    """The completion of fish."""
     lines = [f"complete -c hippo-c -n '__fish_use_subcommand' -f -a '{' '.join(commands)}'"]
     for name, options in commands.items():
         for option in options:

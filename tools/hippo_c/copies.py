@@ -1,16 +1,22 @@
 """Flushing copies of C functions: the clones of hippo in C."""
+from __future__ import annotations
+
 import re
+from typing import TYPE_CHECKING
 
 from .edits import Additions, Edit, applied
 from .places import head_of
 from .program import Site
-from .syntax import Tree
+from .syntax import Statement, Tree
+
+if TYPE_CHECKING:
+    from .fixes import Fixer
 
 
 class Copies:
     """The copies that the calls of some clones need."""
 
-    def __init__(self, fixer):
+    def __init__(self, fixer: Fixer) -> None:
         self.fixer, self.repair = fixer, fixer.repair
         self.additions = Additions()
         self.waiting: list[str] = []
@@ -23,7 +29,7 @@ class Copies:
         return f'{original.name_in_c}_flushed'
 
     def call(self, tree: Tree, offset: int, clone: str, additions: Additions | None = None) -> bool:
-        """Makes the call at a place call the copy; whether the name is there."""
+        """Replaces the name of the called function at a place by that of its copy; false if the name does not stand there."""
         name = self.name_of(clone)[:-len('_flushed')].encode()
         if tree.source[offset:offset + len(name)] != name:
             return False
@@ -34,14 +40,14 @@ class Copies:
         return True
 
     def finish(self) -> bool:
-        """Writes each copy after its original; whether that could be done for all."""
+        """Writes each copy after its original; false if that is not possible for one of them."""
         while self.waiting:
             if not self.copy(self.waiting.pop(0)):
                 return False
         return all(self.declare(clone) for clone in self.trees)
 
     def copy(self, clone: str) -> bool:
-        """Writes the copy for a clone: its function's text under another name, with the flushes."""
+        """Writes the copy for a clone: the text of its function under another name, with the flushes; false if that is not possible."""
         original = self.fixer.session.program.functions[self.repair.clones[clone]]
         tree = original.place and self.fixer.tree_of(head_of(original))
         if not tree:
@@ -58,15 +64,15 @@ class Copies:
         self.additions.replace(tree, Edit(end, end, '\n\n' + text.decode('utf-8', 'surrogateescape')))
         return True
 
-    def statement(self, site: Site, tree: Tree):
-        """The statement of an instruction in a function, and the place in it."""
+    def statement(self, site: Site, tree: Tree) -> tuple[Statement | None, int]:
+        """The statement of an instruction in a function, and the offset of the instruction in the file."""
         places = self.fixer.places.of(site)
         place = next((place for place in places if place.exact and place.file == tree.file), None)
         offset = tree.offset(place.line, place.column) if place else -1
         return (tree.statement(offset) if place else None), offset
 
     def flush_stores(self, clone: str, tree: Tree, inside: Additions) -> bool:
-        """Puts a flush after each store that has one in the clone."""
+        """Puts a flush after each store that has one in the clone; false if that is not possible."""
         for item in self.repair.insertions:
             if item.clone != clone or item.is_fence:
                 continue
@@ -78,7 +84,7 @@ class Copies:
         return True
 
     def follow_calls(self, clone: str, tree: Tree, inside: Additions) -> bool:
-        """Makes the calls in a copy call copies; a call of a function that is not the user's gets a flush of its range."""
+        """Replaces the calls in a copy by calls of copies; after a call of a function that is not the user's it puts a flush of the range."""
         program, original = self.fixer.session.program, self.repair.clones[clone]
         cloned = {name: one for one, name in self.repair.clones.items()}
         for site, instruction in program.sites():
@@ -110,7 +116,7 @@ class Copies:
         return any(self.stores(callee, seen | {name}) for callee in callees)
 
     def declare(self, clone: str) -> bool:
-        """Declares a copy before its first use, if that comes before it in the file; a use in another file is not possible."""
+        """Declares a copy before its first use if that comes before it in the file; false if another file uses it."""
         tree = self.trees[clone]
         if any(use.file != tree.file for use, _ in self.uses[clone]):
             return False

@@ -1,10 +1,13 @@
 """What the images of a crash showed, by C lines."""
+from __future__ import annotations
+
 import shlex
 import tempfile
 from dataclasses import dataclass
+from typing import TYPE_CHECKING
 
 from . import images, running
-from .diagnostics import Printer, amount
+from .diagnostics import Printer, amount, print_calls
 from .entries import paths_of_entries
 from .places import Place
 from .program import GLOBAL, REGION_BASE, Program, Site
@@ -12,8 +15,12 @@ from .session import Session
 from .traces import read_trace
 from .traps import MEANING, Trap, find_trap
 
+if TYPE_CHECKING:
+    from .crashing import Exploration, Outcome
+
 LARGEST_IMAGE = 1 << 20
 MOST_LOST = 4
+MOST_CALLS = 4
 
 
 @dataclass
@@ -21,17 +28,17 @@ class Row:
     """The entries at one place after which a crash leaves an image that fails in one way."""
     place: Place | None
     ended: str
-    outcomes: list
+    outcomes: list[Outcome]
     failing: int = 0
     tried: int = 0
 
     @property
-    def best(self):
+    def best(self) -> Outcome:
         """The outcome with the smallest image."""
         return min(self.outcomes, key=lambda outcome: (len(outcome.point.picks), outcome.point.entry))
 
 
-def print_crashes(printer: Printer, session: Session, path: str, found, smallest: list, again: list[str]) -> None:
+def print_crashes(printer: Printer, session: Session, path: str, found: Exploration, smallest: list[Outcome], again: list[str]) -> None:
     """The table of failing points by C line; the first has its smallest image and the command that repeats it."""
     paths = paths_of_entries(session.places, session.request.inputs[0], path) if found.failing else {}
     rows = rows_of(session, found, smallest, paths)
@@ -43,16 +50,17 @@ def print_crashes(printer: Printer, session: Session, path: str, found, smallest
             print_lost(printer, session, path, row.best.point, paths)
         printer.line(f'  see it again: {shlex.join([*again, *again_words(session, row.best.point)])}')
     entries = amount(len(found.tried), 'entry').replace('entrys', 'entries')
-    limit = '' if found.whole else ' (the time was over before all were tried)'
+    limit = '' if found.whole else ' (the time ran out before all were tried)'
     printer.line(f'{amount(found.count, "crash image")} after {entries} tried{limit}; {amount(len(found.failing), "run")} failed')
 
 
 def again_words(session: Session, point: images.Point) -> list[str]:
+    """The words that select an image, after those of the command, with the arguments for clang."""
     words = ['--entries', str(point.entry), '--pick', *(f'{line}:{upto}' for line, upto in point.picks)]
     return words + (['--', *session.request.clang] if session.request.clang else [])
 
 
-def rows_of(session: Session, found, smallest: list, paths: dict[int, tuple[Site, ...]]) -> list[Row]:
+def rows_of(session: Session, found: Exploration, smallest: list[Outcome], paths: dict[int, tuple[Site, ...]]) -> list[Row]:
     """Rows by the place of the entry and the ending, in the order of their first entries."""
     rows: dict[tuple, Row] = {}
     by_entry = {}
@@ -68,19 +76,21 @@ def rows_of(session: Session, found, smallest: list, paths: dict[int, tuple[Site
 
 
 def print_row(printer: Printer, row: Row, with_source: bool) -> None:
+    """The error for the entries at one place."""
     where = 'here' if row.place else f'after entry {row.best.point.entry} of the trace'
     printer.diagnostic(row.place, 'error', f'after a power cut {where} the next run fails: {meaning(row.ended)} '
                        f'[{row.failing:,} of {amount(row.tried, "image")}]', with_source)
 
 
 def meaning(ended: str) -> str:
+    """How a run ended, in words."""
     word, _, kind = ended.partition(' ')
     if word == 'trap':
         return MEANING.get(kind, kind)
     return 'it does not end within the limit of turns' if word == 'cut' else f'main returns {kind}'
 
 
-def print_recovery_trap(printer: Printer, session: Session, path: str, outcome) -> None:
+def print_recovery_trap(printer: Printer, session: Session, path: str, outcome: Outcome) -> None:
     """Where the run from the image trapped, by the program with the image as its initial bytes."""
     if not outcome.ended.startswith('trap'):
         return
@@ -88,11 +98,11 @@ def print_recovery_trap(printer: Printer, session: Session, path: str, outcome) 
     places = session.places.along(trap.path) if trap else []
     for place in places[:1]:
         printer.diagnostic(place, 'note', 'the run from that image ends here')
-    for inner, outer in list(zip(places, places[1:]))[:4]:
-        printer.diagnostic(outer, 'note', f"'{inner.function}' is called here, by '{outer.function}'")
+    print_calls(printer, places, MOST_CALLS)
 
 
-def trap_from_image(session: Session, path: str, outcome) -> Trap | None:
+def trap_from_image(session: Session, path: str, outcome: Outcome) -> Trap | None:
+    """The trap of the run from an image; nothing if the image is too large to be written as a constant."""
     if session.program.region_size() > LARGEST_IMAGE:
         return None
     image = image_of(session, path, outcome.point)
@@ -133,7 +143,8 @@ def with_image(program: Program, image: bytearray) -> Program:
     return changed
 
 
-def print_lost(printer: Printer, session: Session, path: str, point: images.Point, paths) -> None:
+def print_lost(printer: Printer, session: Session, path: str, point: images.Point,
+               paths: dict[int, tuple[Site, ...]]) -> None:
     """The stores that the image does not have, by C lines."""
     lost = images.lost_stores(path, point)
     stores = read_trace(path, session.program, set(lost)).wanted

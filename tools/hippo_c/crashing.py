@@ -1,18 +1,26 @@
 """The command crash: it runs the program from what a power cut may leave, at many places of its trace."""
+import argparse
 import os
 import re
+import subprocess
 import time
 from collections import Counter
-from concurrent.futures import FIRST_COMPLETED, ThreadPoolExecutor, wait
+from collections.abc import Callable, Iterable, Iterator
+from concurrent.futures import FIRST_COMPLETED, Future, ThreadPoolExecutor, wait
 from dataclasses import dataclass, field
 
 from . import images, running
 from .checking import printer_of
 from .crash_answers import print_crashes
 from .images import Point
+from .numbers import from_to, seconds
 from .progress import Progress
 from .session import Request, Session
+from .traces import pieces
 from .trouble import Trouble
+
+# Whether the ending of a run from an image is a failure.
+Fails = Callable[[str], bool]
 
 
 @dataclass
@@ -24,30 +32,32 @@ class Outcome:
 
 @dataclass
 class Exploration:
-    """The points that were tried, and how those ended that fail."""
+    """The points that were tried, counted by their entries, and the outcomes of those that fail."""
     tried: Counter = field(default_factory=Counter)
     failing: list[Outcome] = field(default_factory=list)
     whole: bool = True
 
     @property
     def count(self) -> int:
+        """The number of points that were tried."""
         return sum(self.tried.values())
 
 
-def add_options(command) -> None:
-    """The options that crash has besides those of every command."""
+def add_options(command: argparse.ArgumentParser) -> None:
+    """The options of crash that other commands do not have."""
     command.add_argument('--entries', metavar='A-B', help='the entries of the trace after which the power is cut')
-    command.add_argument('--sample', type=int, default=2, metavar='N', help='random images for each entry (2)')
+    command.add_argument('--sample', type=from_to(0), default=2, metavar='N', help='random images for each entry (2)')
     command.add_argument('--seed', type=int, default=1, metavar='N', help='the seed of these images (1)')
-    command.add_argument('--time', type=float, metavar='SECONDS', help='stop after this time')
-    command.add_argument('--jobs', type=int, default=os.cpu_count(), metavar='N', help='runs at a time (as many as processors)')
+    command.add_argument('--time', type=seconds, metavar='SECONDS', help='stop after this time')
+    command.add_argument('--jobs', type=from_to(1), default=os.cpu_count(), metavar='N',
+                         help='the number of parallel runs (one for each processor)')
     command.add_argument('--pick', dest='picks', nargs='*', metavar='LINE:UPTO',
-                         help='try this image alone, after the one entry of --entries')
+                         help='try only this image, after the one entry of --entries')
     command.add_argument('--status', action='store_true',
                          help='an image also fails if main returns another number than in the recorded run')
 
 
-def crash(options, request: Request, progress: Progress) -> int:
+def crash(options: argparse.Namespace, request: Request, progress: Progress) -> int:
     """Tries the images: 0 if no run fails, 1 if one does."""
     if len(request.inputs) > 1:
         raise Trouble('crash takes one input')
@@ -65,6 +75,8 @@ def crash(options, request: Request, progress: Progress) -> int:
             points = images.points_of(path, lambda number: first <= number <= last, options.seed, options.sample)
         fails = failing_test(recorded, options.status)
         found = explore(session, path, points, fails, options)
+        if found.whole and not found.tried:
+            raise Trouble(f'--entries {options.entries}: the trace has entries 1 to {sum(1 for _ in pieces(path))}')
         shrunk = [shrink(session, path, outcome, fails) for outcome in smallest_of(found)]
         progress.say('looking for the places')
         print_crashes(printer, session, path, found, shrunk, words_again(options, request))
@@ -73,36 +85,44 @@ def crash(options, request: Request, progress: Progress) -> int:
 
 def entries_of(text: str | None) -> tuple[int, int]:
     """The first and the last entry of `A-B`, or of one number."""
-    found = re.fullmatch(r'(\d+)(?:-(\d+))?', text) if text else None
-    if text and not found:
-        raise Trouble(f'--entries {text}: not a number nor A-B')
-    return (int(found[1]), int(found[2] or found[1])) if found else (1, 1 << 62)
+    found = re.fullmatch(r'([0-9]{1,18})(?:-([0-9]{1,18}))?', text) if text is not None else None
+    if text is not None and not found:
+        raise Trouble(f'--entries {text}: neither a number nor A-B')
+    first, last = (int(found[1]), int(found[2] or found[1])) if found else (1, 1 << 62)
+    if first > last:
+        raise Trouble(f'--entries {text}: the first entry is above the last')
+    return first, last
 
 
-def single_point(options, first: int, last: int) -> Point:
+def single_point(options: argparse.Namespace, first: int, last: int) -> Point:
+    """The image that `--pick` names."""
     if first != last:
         raise Trouble('--pick needs one entry: --entries N')
-    if strange := [pick for pick in options.picks if not re.fullmatch(r'\d+:\d+', pick)]:
+    if strange := [pick for pick in options.picks if not re.fullmatch(r'[0-9]{1,18}:[0-9]{1,18}', pick)]:
         raise Trouble(f'--pick {strange[0]}: not LINE:UPTO')
     return Point(first, tuple(tuple(map(int, pick.split(':'))) for pick in options.picks), ())
 
 
-def failing_test(recorded: str, status: bool):
-    """Whether a run from an image fails: it traps or is cut, or ends with another status where that counts."""
+def failing_test(recorded: str, status: bool) -> Fails:
+    """The test whether a run from an image fails: it traps, it is cut, or, with `--status`, main returns another number."""
     return lambda ended: not ended.startswith('stop') or status and ended != recorded
 
 
 def try_point(session: Session, path: str, point: Point) -> Outcome:
     """Runs the program from one image."""
+    return Outcome(point, try_picks(session, path, point, (0, running.TRAPPED, running.CUT)).how)
+
+
+def try_picks(session: Session, path: str, point: Point, accepted: tuple[int, ...]) -> running.Ended:
+    """Runs the program from an image, with one of the accepted exit codes."""
     picks = [f'{line}:{upto}' for line, upto in point.picks]
     words = ['crash', session.text_path, path, str(point.entry), *picks]
-    process = running.start([running.hippo_program(), *words], stdout=-3)
-    ended = running.accept(words, running.finish(process), (0, running.TRAPPED, running.CUT))
-    return Outcome(point, ended.how)
+    process = running.start([running.hippo_program(), *words], stdout=subprocess.DEVNULL)
+    return running.accept(words, running.finish(process), accepted)
 
 
-def explore(session: Session, path: str, points, fails, options) -> Exploration:
-    """Tries points, several at a time, until no point is left or the time is over."""
+def explore(session: Session, path: str, points: Iterator[Point], fails: Fails, options: argparse.Namespace) -> Exploration:
+    """Tries points, several at a time, until no point is left or the time runs out."""
     found, until = Exploration(), time.monotonic() + (options.time or 1e18)
     with ThreadPoolExecutor(options.jobs) as pool:
         running_now = set()
@@ -119,7 +139,8 @@ def explore(session: Session, path: str, points, fails, options) -> Exploration:
     return found
 
 
-def take_in(found: Exploration, done, fails, progress: Progress) -> None:
+def take_in(found: Exploration, done: Iterable[Future[Outcome]], fails: Fails, progress: Progress) -> None:
+    """Adds the outcomes of runs that ended."""
     for future in done:
         outcome = future.result()
         found.tried[outcome.point.entry] += 1
@@ -137,21 +158,18 @@ def smallest_of(found: Exploration) -> list[Outcome]:
     return list(best.values())
 
 
-def shrink(session: Session, path: str, outcome: Outcome, fails) -> Outcome:
-    """The same failure with as few stores in the image as leaving them out allows."""
+def shrink(session: Session, path: str, outcome: Outcome, fails: Fails) -> Outcome:
+    """The same failure from an image with fewer stores, until no smaller one fails."""
     if len(outcome.point.picks) < 2:
         return outcome
     for point in images.smaller(outcome.point):
-        try:
-            smaller = try_point(session, path, point)
-        except Trouble:
-            continue
-        if fails(smaller.ended):
-            return shrink(session, path, smaller, fails)
+        ended = try_picks(session, path, point, (0, running.TRAPPED, running.CUT, running.NO_PICK))
+        if ended.code != running.NO_PICK and fails(ended.how):
+            return shrink(session, path, Outcome(point, ended.how), fails)
     return outcome
 
 
-def words_again(options, request: Request) -> list[str]:
+def words_again(options: argparse.Namespace, request: Request) -> list[str]:
     """The words that run this program again, up to the entry."""
     words = ['hippo-c', 'crash', *request.files, *request.lower]
     if options.input_file:

@@ -1,10 +1,10 @@
-"""A repaired program with debug information, for llc, gdb and perf: the places of the program it was made from."""
+"""A repaired program with debug information, for llc, gdb and perf: the places in C of the program before the repair."""
 import os
 
 from lowering.lines import Frame
 
 from .plan import Repair
-from .program import Function, Program
+from .program import Function, Program, Site
 
 FLAGS = ('!{i32 7, !"Dwarf Version", i32 5}', '!{i32 2, !"Debug Info Version", i32 3}')
 
@@ -12,19 +12,20 @@ FLAGS = ('!{i32 7, !"Dwarf Version", i32 5}', '!{i32 2, !"Debug Info Version", i
 class DebugInfo:
     """The metadata of a text, numbered in the order of first use."""
 
-    def __init__(self):
+    def __init__(self) -> None:
         self.lines: list[str] = []
         self.numbers: dict[object, int] = {}
         self.unit = self.node('unit', '')
 
-    def node(self, key, text: str) -> int:
-        """The number of a node; one of a known key is not written twice."""
+    def node(self, key: object, text: str) -> int:
+        """The number of a node; a node with a known key is not written again."""
         if key not in self.numbers:
             self.numbers[key] = len(self.lines)
             self.lines.append(text)
         return self.numbers[key]
 
     def file(self, name: str) -> int:
+        """The number of a file."""
         folder = '' if os.path.isabs(name) else os.getcwd()
         return self.node(('file', name), f'!DIFile(filename: {quoted(name)}, directory: {quoted(folder)})')
 
@@ -89,8 +90,8 @@ def with_debug_info(repair: Repair, head: list[str], functions: list[tuple[Funct
     return '\n'.join(out) + '\n' + info.text()
 
 
-def places_of(repair: Repair, site) -> tuple[Frame, ...]:
-    """The frames of an instruction of the repaired program; where none are known, line 0 of its function."""
+def places_of(repair: Repair, site: Site) -> tuple[Frame, ...]:
+    """The frames of an instruction of the repaired program; line 0 of its function if none are known."""
     original = repair.program.instruction(repair.site_of(site))
     if original and original.frames:
         return original.frames

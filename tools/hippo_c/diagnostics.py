@@ -1,5 +1,7 @@
 """What was found, as text in the format of clang's diagnostics."""
 import sys
+from collections.abc import Callable
+from typing import TextIO
 
 from .places import Place
 from .program import show_site
@@ -11,21 +13,25 @@ from .traps import MEANING
 COLOURS = {'warning': '\x1b[0;1;35m', 'error': '\x1b[0;1;31m', 'note': '\x1b[0;1;36m', 'bold': '\x1b[1m',
            'caret': '\x1b[0;1;32m', 'off': '\x1b[0m'}
 
+MOST_CALLS = 12
+
 
 class Printer:
     """Writes diagnostics to a stream, with clang's colours on request."""
 
-    def __init__(self, stream=sys.stdout, colour: bool = False, source: bool = True):
+    def __init__(self, stream: TextIO = sys.stdout, colour: bool = False, source: bool = True) -> None:
         self.stream, self.colour, self.source = stream, colour, source
 
     def paint(self, name: str, text: str) -> str:
+        """A text in a colour, if colours are on."""
         return f'{COLOURS[name]}{text}{COLOURS["off"]}' if self.colour else text
 
     def line(self, text: str = '') -> None:
+        """Writes a line."""
         print(text, file=self.stream)
 
     def diagnostic(self, place: Place | None, level: str, message: str, with_source: bool = False, site: str = '') -> None:
-        """`file:line:column: level: message`, and on demand the line of C with a caret; a site stands where no place is known."""
+        """Writes `file:line:column: level: message`, on demand with the line of C and a caret; the site stands for an unknown place."""
         where = f'{show_place(place) if place else site or "hippo-c"}: '
         text = self.paint('bold', message) if level != 'note' else message
         self.line(self.paint('bold', where) + self.paint(level, f'{level}: ') + text)
@@ -33,6 +39,7 @@ class Printer:
             self.snippet(place)
 
     def snippet(self, place: Place) -> None:
+        """Writes the line of a place, and a caret below its column."""
         code = line_of(place.file, place.line)
         if code is None:
             return
@@ -44,6 +51,7 @@ class Printer:
 
 
 def show_place(place: Place) -> str:
+    """A place as diagnostics name it."""
     return str(place) if place.column else place.short
 
 
@@ -90,7 +98,12 @@ def print_group(printer: Printer, session: Session, checked: Checked, group: Gro
     if group.flush:
         flushed = session.places.along((group.flush,))
         printer.diagnostic(flushed[0] if flushed else None, 'note', 'no fence follows this flush', site=show_site(group.flush))
-    for inner, outer in zip(places, places[1:]):
+    print_calls(printer, places)
+
+
+def print_calls(printer: Printer, places: list[Place], most: int | None = None) -> None:
+    """A note for each call of a path, at most `most` of them."""
+    for inner, outer in list(zip(places, places[1:]))[:most]:
         printer.diagnostic(outer, 'note', f"'{inner.function}' is called here, by '{outer.function}'")
 
 
@@ -102,11 +115,9 @@ def print_trap(printer: Printer, session: Session, checked: Checked) -> None:
         return
     places = session.places.along(checked.trap.path)
     printer.diagnostic(places[0] if places else None, 'error', f'the run trapped: {MEANING.get(kind, kind)} [{kind}]', True)
-    shown = list(zip(places, places[1:]))
-    for inner, outer in shown[:12]:
-        printer.diagnostic(outer, 'note', f"'{inner.function}' is called here, by '{outer.function}'")
-    if len(shown) > 12:
-        printer.line(f'  ({len(shown) - 12:,} more calls outwards)')
+    print_calls(printer, places, MOST_CALLS)
+    if len(places) - 1 > MOST_CALLS:
+        printer.line(f'  ({len(places) - 1 - MOST_CALLS:,} more calls outwards)')
 
 
 def warnings_of(session: Session, checked: Checked) -> list[str]:
@@ -115,7 +126,7 @@ def warnings_of(session: Session, checked: Checked) -> list[str]:
     persistent = session.program.persistent
     if not persistent:
         found.append('no global is persistent, so nothing is checked: put PERSISTENT before the definitions of those '
-                     'that are')
+                     'that must be')
     elif checked.trace.asserts == 0:
         found.append('no pm_assert ran, so stores are checked at the return of main alone')
     for item in persistent:
@@ -134,10 +145,9 @@ def counts_of(checked: Checked) -> str:
     return text
 
 
-def print_checked(printer: Printer, session: Session, checked: Checked, most: int = 0, notes=None) -> None:
-    """All that a check of one input found; at most `most` groups, where it is not 0.
-
-    `notes(group)` adds what belongs under a group."""
+def print_checked(printer: Printer, session: Session, checked: Checked, most: int = 0,
+                  notes: Callable[[Group], None] | None = None) -> None:
+    """All that a check of one input found; at most `most` groups if it is not 0. `notes(group)` adds what belongs under a group."""
     shown = checked.groups[:most] if most else checked.groups
     for group in shown:
         print_group(printer, session, checked, group)

@@ -15,6 +15,7 @@ class Addition:
 
     @property
     def texts(self) -> list[str]:
+        """The statements in their order: flushes before fences."""
         return self.flushes + self.fences
 
 
@@ -29,7 +30,7 @@ class Edit:
 class Additions:
     """The additions to the files, one for each statement, and the functions that are copied."""
 
-    def __init__(self):
+    def __init__(self) -> None:
         self.by_statement: dict[tuple[str, int], Addition] = {}
         self.replacements: dict[str, list[Edit]] = {}
         self.sources: dict[str, bytes] = {}

@@ -1,4 +1,4 @@
-"""Which instruction made each entry of a trace: a marked copy of the program prints what makes entries as it runs."""
+"""Which instruction made each entry of a trace: a marked copy of the program prints a number at each instruction that makes entries."""
 import re
 from collections.abc import Iterator
 
@@ -25,7 +25,7 @@ def operands(text: str) -> list[str]:
 
 
 def printed(instruction: Instruction) -> list[str]:
-    """The operands by which it shows whether an instruction makes an entry; nothing for one that makes none."""
+    """The operands that decide whether an instruction makes an entry; none if it always or never makes one."""
     if instruction.text.startswith('store '):
         return [operands(instruction.text)[1]]
     callee = instruction.callee
@@ -47,7 +47,7 @@ def makes_entry(instruction: Instruction, values: list[int], size: int) -> bool:
 def paths_of_entries(places: Places, numbers: list[int], path: str) -> dict[int, tuple[Site, ...]]:
     """The site of each entry after the header, up to the first that does not fit the marked copy.
 
-    After a site in a function that is not the user's comes the user's call by which it ran."""
+    After a site in a function that is not the user's comes the site of the user's call that ran it."""
     program = places.program
     made = [(site, instruction) for site, instruction in program.sites()
             if printed(instruction) or instruction.callee in (*FENCES, 'pm_assert') or is_way_out(places, site, instruction)]
@@ -77,7 +77,7 @@ def is_way_out(places: Places, site: Site, instruction: Instruction) -> bool:
             and places.is_users_function(functions[site[0]]))
 
 
-def sites_in_order(made, marks: Iterator[int], program: Program) -> Iterator[tuple[tuple[Site, ...], int]]:
+def sites_in_order(made: list[tuple[Site, Instruction]], marks: Iterator[int], program: Program) -> Iterator[tuple[tuple[Site, ...], int]]:
     """The sites of the entries with the first operand of each, from the marks of a run."""
     size, outside = program.region_size(), []
     for mark in marks:

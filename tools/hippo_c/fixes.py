@@ -1,4 +1,4 @@
-"""Suggestions: what to add to the C, for each group, as the plan of hippo's repair has it.
+"""Suggestions: what to add to the C for each group, by the plan of hippo's repair.
 
 A suggestion is not proved. The repaired text is proved; `--verify-fix` checks the edited C like any other."""
 from dataclasses import dataclass
@@ -9,7 +9,7 @@ from .copies import Copies
 from .edits import Additions
 from .parsing import parsed
 from .places import Place
-from .plan import Repair
+from .plan import Insertion, Repair
 from .program import Site
 from .reports import Group
 from .session import Session
@@ -18,7 +18,7 @@ from .syntax import Statement, Tree, address_of
 
 @dataclass
 class Suggestion:
-    """What to do at a place, the statements that are added there, and the edits where they could be found."""
+    """What to do at a place, the statements that are added there, and the edits if they are known."""
     place: Place | None
     text: str
     statements: list[str]
@@ -28,18 +28,18 @@ class Suggestion:
 class Fixer:
     """Finds the suggestions for the groups of a program."""
 
-    def __init__(self, session: Session, repair: Repair):
+    def __init__(self, session: Session, repair: Repair) -> None:
         self.session, self.repair, self.places = session, repair, session.places
         callees = {instruction.callee for _, instruction in session.program.sites()}
         self.uses_libpmem = bool(callees & LIBPMEM) and not callees & LINE_FLUSHES
         self.fence = 'pmem_drain();' if self.uses_libpmem else '_mm_sfence();'
-        self.put_in: dict[Site, list] = {}
+        self.put_in: dict[Site, list[Insertion]] = {}
         for item in repair.insertions:
             if not item.clone:
                 self.put_in.setdefault(item.site, []).append(item)
 
     def suggest(self, group: Group) -> Suggestion | None:
-        """What to do about a group; nothing where the plan has nothing for it."""
+        """What to do about a group; nothing if the plan has nothing for it."""
         if group.kind == 'fence' and group.flush:
             return self.after_flush((group.flush,))
         found = [suggestion for suggestion in map(self.for_path, (group.path, *group.more)) if suggestion]
@@ -79,12 +79,13 @@ class Fixer:
         return None
 
     def after_flush(self, path: tuple[Site, ...]) -> Suggestion:
+        """A fence after a flush that no fence follows."""
         place, tree, statement, _ = self.located(path)
         additions = self.added(tree, statement, [], [self.fence])
         return Suggestion(place, f"add '{self.fence}' after this flush", [self.fence], additions)
 
-    def added(self, tree, statement, flushes: list[str], fences: list[str]) -> Additions | None:
-        """The edits that put statements after one, where that can be done."""
+    def added(self, tree: Tree | None, statement: Statement | None, flushes: list[str], fences: list[str]) -> Additions | None:
+        """The edits that put statements after one, if that is possible."""
         if tree is None or statement is None or statement.role == 'other':
             return None
         additions = Additions()
@@ -92,7 +93,7 @@ class Fixer:
         return additions
 
     def flush(self, path: tuple[Site, ...], fenced: bool, wide: bool) -> Suggestion:
-        """A flush after the statement that stores, and a fence where none follows."""
+        """A flush after the statement that stores, and a fence if none follows."""
         place, tree, statement, offset = self.located(path)
         fences = [self.fence] if fenced else []
         direct = bool(self.places.of(path[0]))
@@ -104,7 +105,7 @@ class Fixer:
         additions = self.added(tree, statement, [text], fences)
         return Suggestion(place, f"add '{shown}' after this statement", [text, *fences], additions)
 
-    def flush_text(self, tree, statement, offset: int, one_line: bool) -> str | None:
+    def flush_text(self, tree: Tree | None, statement: Statement | None, offset: int, one_line: bool) -> str | None:
         """The flush of what a statement stores at a place, if its expression can be repeated."""
         if tree is None or statement is None:
             return None
@@ -115,7 +116,7 @@ class Fixer:
         return f'pmem_flush({found[0]}, {found[1]});' if found else None
 
     def hoist(self, path: tuple[Site, ...], clone: str) -> Suggestion:
-        """A flushing copy of a function that is called; where the function is not the user's, a flush of its range."""
+        """A flushing copy of a function that is called; if the function is not the user's, a flush of its range."""
         original = self.session.program.functions[self.repair.clones[clone]]
         if not self.places.is_users_function(original):
             return self.flush(path, True, True)

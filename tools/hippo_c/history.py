@@ -1,5 +1,6 @@
 """The history of a cache line over a run: the stores into it, its flushes, the fences and the check of a report."""
 from collections import deque
+from collections.abc import Iterator
 from dataclasses import dataclass, field
 
 from .entries import paths_of_entries
@@ -9,6 +10,8 @@ from .session import Checked, Session
 from .traces import pieces
 
 MOST_EVENTS = 40
+# An event of a cache line: the number of its entry, its kind, and the offset and the size of its bytes.
+Event = tuple[int, str, int, int]
 DURABLE, STORED, FLUSHED = '.', 's', 'f'
 
 
@@ -19,11 +22,11 @@ class History:
     check: int
     state: list[str] = field(default_factory=lambda: [DURABLE] * LINE)
     now: list[str] = field(default_factory=lambda: [DURABLE] * LINE)
-    events: deque = field(default_factory=deque)
+    events: deque[Event] = field(default_factory=deque)
     left_out: int = 0
 
-    def take(self, event: tuple) -> None:
-        """Takes in `(entry, kind, offset, size)`; drops the oldest event if there are too many."""
+    def take(self, event: Event) -> None:
+        """Takes in an event; drops the oldest one if there are too many."""
         changed = applied(self.now, event)
         if event[1] == 'fence' and changed == self.now and STORED not in changed:
             return
@@ -34,12 +37,13 @@ class History:
             self.left_out += 1
 
     def data(self, places: dict[int, str]) -> dict:
+        """The history as plain data, with the places in C of its events."""
         rows = [[*event, places.get(event[0], '')] for event in self.events]
         return {'state': ''.join(self.state), 'left_out': self.left_out, 'events': rows,
                 'address': REGION_BASE + self.line * LINE, 'check': self.check}
 
 
-def applied(state: list[str], event: tuple) -> list[str]:
+def applied(state: list[str], event: Event) -> list[str]:
     """The bytes of a line after an event."""
     _, kind, offset, size = event
     if kind == 'store':
@@ -58,6 +62,7 @@ def histories_of(session: Session, results: list[Checked]) -> list[list[dict]]:
 
 
 def histories(session: Session, checked: Checked) -> list[dict]:
+    """The history of the cache line of each group of one input."""
     by_group = [History((checked.trace.wanted[group.entry][0] - REGION_BASE) // LINE, group.check)
                 for group in checked.groups]
     unique = {(history.line, history.check): history for history in sorted(by_group, key=lambda one: one.check)}
@@ -75,16 +80,16 @@ def histories(session: Session, checked: Checked) -> list[dict]:
     return [unique[history.line, history.check].data(places) for history in by_group]
 
 
-def settle(active: set[int], line: int, event: tuple, history: History) -> None:
-    """Keeps the lines that have bytes which are not durable."""
+def settle(active: set[int], line: int, event: Event, history: History) -> None:
+    """Updates the set of lines with bytes that are not durable, after an event of a line."""
     if event[1] == 'store':
         active.add(line)
     elif event[1] == 'fence' and event[0] < history.check and set(history.now) == {DURABLE}:
         active.discard(line)
 
 
-def events_of(number: int, entry: str, lines, active: set[int]):
-    """The events of an entry in the lines that are wanted; a fence is one in those with bytes that are not durable."""
+def events_of(number: int, entry: str, lines: dict[int, list[History]], active: set[int]) -> Iterator[tuple[int, Event]]:
+    """The events of an entry, each with its line, in the lines of histories; a fence is an event of the lines that are not durable."""
     word, *rest = entry.split(';')
     if word in ('STORE', 'FLUSH', 'PERSIST'):
         start, size = int(rest[0], 16) - REGION_BASE, int(rest[-1], 16)
@@ -99,7 +104,7 @@ def events_of(number: int, entry: str, lines, active: set[int]):
 
 
 def entry_places(session: Session, checked: Checked) -> dict[int, str]:
-    """`FILE:LINE` of each entry that a marked copy shows."""
+    """`FILE:LINE` of each entry whose site is known."""
     paths = paths_of_entries(session.places, checked.numbers, checked.path)
     short: dict[tuple, str] = {}
     for path in set(paths.values()):

@@ -2,7 +2,7 @@
 
 This only enumerates what to try: hippo makes the image, and refuses picks that no crash leaves."""
 import random
-from collections.abc import Iterator
+from collections.abc import Callable, Iterable, Iterator
 from dataclasses import dataclass, field
 
 from .program import REGION_BASE
@@ -31,13 +31,13 @@ class Point:
 class CacheLines:
     """The cache lines of the region, entry by entry."""
 
-    def __init__(self):
+    def __init__(self) -> None:
         self.lines: dict[int, CacheLine] = {}
         self.durable: dict[int, int] = {}
         self.pending: set[int] = set()
 
-    def take(self, number: int, entry: str) -> bool:
-        """Takes in an entry; whether a crash after it may leave another image than before."""
+    def take(self, number: int, entry: str) -> None:
+        """Takes in an entry."""
         word, *rest = entry.split(';')
         if word in ('STORE', 'FLUSH', 'PERSIST'):
             address, size = int(rest[0], 16) - REGION_BASE, int(rest[-1], 16)
@@ -48,19 +48,21 @@ class CacheLines:
                 self.flush(numbers)
         if word in ('FENCE', 'PERSIST'):
             self.fence()
-        return word == 'STORE'
 
-    def store(self, numbers, entry: int) -> None:
+    def store(self, numbers: Iterable[int], entry: int) -> None:
+        """A store into these lines."""
         for number in numbers:
             self.lines.setdefault(number, CacheLine()).stores.append(entry)
             self.pending.add(number)
 
-    def flush(self, numbers) -> None:
+    def flush(self, numbers: Iterable[int]) -> None:
+        """A flush of these lines."""
         for number in numbers:
             if number in self.lines:
                 self.lines[number].flushed = len(self.lines[number].stores)
 
     def fence(self) -> None:
+        """A fence, after which all flushed stores are durable."""
         for number in list(self.pending):
             line = self.lines[number]
             line.durable = line.flushed
@@ -84,7 +86,7 @@ class CacheLines:
             yield Point(entry, tuple(sorted(picks.items())), self.key(picks))
 
 
-def points_of(path: str, wanted, seed: int, count: int) -> Iterator[Point]:
+def points_of(path: str, wanted: Callable[[int], bool], seed: int, count: int) -> Iterator[Point]:
     """The points of a trace, each image once; `wanted(entry)` says after which entries a crash is tried."""
     lines, chance, seen = CacheLines(), random.Random(seed), set()
     for number, entry in enumerate(pieces(path), 1):
@@ -109,7 +111,7 @@ def lost_stores(path: str, point: Point) -> list[int]:
 
 
 def smaller(point: Point) -> Iterator[Point]:
-    """Points with one pick less, or with one pick cut to its half."""
+    """Points with one pick fewer, or with half the stores of one pick."""
     for place, (number, upto) in enumerate(point.picks):
         rest = point.picks[:place] + point.picks[place + 1:]
         yield Point(point.entry, rest, ())

@@ -1,4 +1,5 @@
 """The command install: program, tools, header, pages and completions under one folder."""
+import argparse
 import os
 import shutil
 import stat
@@ -15,29 +16,31 @@ TOOLS = ('hippo-c', 'lower', 'hippo.h', 'external_functions.c')
 FOLDERS = ('lowering', 'hippo_c', 'runtime', 'build')
 
 
-def add_options(command) -> None:
+def add_options(command: argparse.ArgumentParser) -> None:
     """The words of install."""
     command.add_argument('prefix', metavar='PREFIX', help='the folder, such as /usr/local')
     command.add_argument('--program', metavar='FILE', help='the built hippo; otherwise the one that hippo-c runs')
 
 
-def install(options, parser) -> int:
-    """Copies everything; it replaces existing files."""
+def install(options: argparse.Namespace, parser: argparse.ArgumentParser) -> int:
+    """Copies everything, and replaces existing files."""
     program = options.program or running.hippo_program()
     if not is_program(program):
         raise Trouble(f'{program} is not a built program', 'build it by ./hippo --build, or name it by --program')
     prefix = os.path.abspath(options.prefix)
+    if os.path.realpath(f'{prefix}/lib/hippo') == os.path.realpath(running.TOOLS):
+        raise Trouble(f'{prefix} is the installation that runs this command', 'name another folder, or install from the repository')
     try:
         put(program, f'{prefix}/bin/hippo', executable=True)
         for name in ('hippo-c', 'lower'):
-            write(f'{prefix}/bin/{name if name != "lower" else "hippo-lower"}', WRAPPER.format(name=name), executable=True)
+            write(f'{prefix}/bin/{"hippo-lower" if name == "lower" else name}', WRAPPER.format(name=name), executable=True)
         copy_tools(prefix)
         for page in ('hippo.1', 'hippo-c.1'):
             put(os.path.join(manual_folder(), page), f'{prefix}/share/man/man1/{page}')
         for path, text in completions.files(parser).items():
             write(f'{prefix}/share/{path}', text)
     except OSError as error:
-        raise Trouble(f'{error.filename}: {error.strerror}') from None
+        raise Trouble(f'{error.filename or prefix}: {error.strerror or error}') from None
     Progress().wipe()
     print(f'installed: hippo, hippo-c and hippo-lower in {prefix}/bin')
     return 0
@@ -53,6 +56,7 @@ def is_program(path: str) -> bool:
 
 
 def copy_tools(prefix: str) -> None:
+    """Copies hippo-c, the lowering, the runtime and the manual pages, without files of an earlier version."""
     library = f'{prefix}/lib/hippo'
     for name in TOOLS:
         put(os.path.join(running.TOOLS, name), f'{library}/{name}')
@@ -71,11 +75,13 @@ def manual_folder() -> str:
 
 
 def put(source: str, target: str, executable: bool = False) -> None:
+    """Copies a file."""
     with open(source, 'rb') as file:
         write(target, file.read(), executable)
 
 
 def write(target: str, content: str | bytes, executable: bool = False) -> None:
+    """Writes a file, in a folder that it makes if there is none."""
     os.makedirs(os.path.dirname(target), exist_ok=True)
     with running.whole_file(target) as file:
         file.write(content.encode() if isinstance(content, str) else content)

@@ -1,23 +1,24 @@
 """Copies of a program that print numbers as they run: which checks, blocks and calls ran, and in which order.
 
-A copy has the program's memory, blocks and depth of calls, so it does what the program does. It prints no numbers of
-the program's own, and it takes more turns."""
+A copy has the program's memory, blocks and depth of calls, so it does what the program does. It does not print the numbers that
+the program prints, and it takes more turns."""
 import contextlib
 import itertools
 import os
+import subprocess
 import tempfile
 from collections.abc import Callable, Iterator
 
-from .program import Program, Site
-from .running import finish, hippo_program, start, stop
+from .numbers import MOST_TURNS
+from .program import Instruction, Program, Site
+from .running import Ended, finish, hippo_program, start, stop
 
-MOST_TURNS = 1 << 40
 PRINTS = 'print_i64'
-# What is printed before an instruction, as operands, and what after it.
+# The operands that are printed before an instruction, and those after it.
 Marks = tuple[list[str], list[str]]
 
 
-def marked_text(program: Program, marks: Callable[[Site, object], Marks]) -> str:
+def marked_text(program: Program, marks: Callable[[Site, Instruction], Marks]) -> str:
     """The program with the prints that `marks` asks for at each instruction, in place of its own."""
     out = [line for line in program.head if not line.startswith(f'declare void @{PRINTS}(')]
     out.append(f'declare void @{PRINTS}(i64)')
@@ -47,8 +48,8 @@ def print_lines(operands: list[str], counter: Iterator[int]) -> Iterator[str]:
 
 
 @contextlib.contextmanager
-def marked_run(text: str, numbers: list[int]) -> Iterator:
-    """The output of a run of a marked text, as a binary file, and afterwards how it ended: `run.ended`."""
+def marked_run(text: str, numbers: list[int]) -> Iterator['MarkedRun']:
+    """A run of a marked text, which is ended and whose file is removed after the block."""
     with tempfile.NamedTemporaryFile('w', suffix='.ll', delete=False) as file:
         file.write(text)
     run = MarkedRun(file.name, numbers)
@@ -62,22 +63,22 @@ def marked_run(text: str, numbers: list[int]) -> Iterator:
 class MarkedRun:
     """A run whose marks are read while it goes on."""
 
-    def __init__(self, path: str, numbers: list[int]):
+    def __init__(self, path: str, numbers: list[int]) -> None:
         words = ['run', path, '--limit', str(MOST_TURNS), '--', *map(str, numbers)]
-        self.process = start([hippo_program(), *words], stdout=-1)
+        self.process = start([hippo_program(), *words], stdout=subprocess.PIPE)
 
     def marks(self) -> Iterator[int]:
         """The marks one by one."""
         return map(int, self.process.stdout)
 
     def chunks(self, seen: Callable[[], bool] = lambda: True) -> Iterator[list[bytes]]:
-        """The marks in large pieces, for what is done in bulk, while `seen` holds."""
+        """The marks in large pieces, for work in bulk, while `seen` holds."""
         rest = b''
         while seen() and (piece := self.process.stdout.read(1 << 20)):
             *whole, rest = (rest + piece).split(b'\n')
             yield whole
 
-    def ended(self):
+    def ended(self) -> Ended:
         """How the run ended, after its last mark."""
         return finish(self.process)
 
@@ -89,7 +90,7 @@ def checks_of(program: Program) -> list[Site]:
 
 
 def sites_of_checks(program: Program, numbers: list[int], asserts: int, ends: bool) -> list[Site]:
-    """The site of each assert that ran, in order, and then that of the last return of main where the run ends."""
+    """The site of each assert that ran, in order, and then that of the last return of main if the run ends."""
     sites = checks_of(program)
     by_site = {site: [str(number)] for number, site in enumerate(sites)}
     text = marked_text(program, lambda site, _: (by_site.get(site, []), []))

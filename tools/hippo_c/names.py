@@ -3,6 +3,7 @@ import re
 import subprocess
 from concurrent.futures import ThreadPoolExecutor
 
+from .clang import emit_text
 from .program import Program
 
 NODE = re.compile(r'^!(\d+) = (?:distinct )?!(DI\w+|)(?:\((.*)\)|\{(.*)\})$', re.M)
@@ -13,39 +14,44 @@ SAME_TYPE = ('DW_TAG_typedef', 'DW_TAG_const_type', 'DW_TAG_volatile_type', 'DW_
 class Types:
     """The types of the globals of one C file."""
 
-    def __init__(self, text: str):
+    def __init__(self, text: str) -> None:
         self.nodes = {number: fields or items or '' for number, _, fields, items in NODE.findall(text)}
-        self.variables = {}
+        self.variables: dict[str, str | None] = {}
         for name, number in VARIABLE.findall(text):
             variable = self.link(number, 'var') or number
             self.variables[name.strip('"')] = self.link(variable, 'type')
 
-    def link(self, number, name):
+    def link(self, number: str | None, name: str) -> str | None:
+        """The number of the node that a field names."""
         found = re.search(rf'\b{name}: !(\d+)', self.nodes.get(number, ''))
         return found and found[1]
 
-    def value(self, number, name):
+    def value(self, number: str | None, name: str) -> int:
+        """The integer in a field, or 0."""
         found = re.search(rf'\b{name}: (-?\d+)', self.nodes.get(number, ''))
         return int(found[1]) if found else 0
 
-    def items(self, number):
+    def items(self, number: str | None) -> list[str]:
+        """The elements of a type: the fields of a struct, the dimensions of an array."""
         return re.findall(r'!(\d+)', self.nodes.get(self.link(number, 'elements'), ''))
 
-    def plain(self, number):
+    def plain(self, number: str | None) -> str | None:
         """A type without its other names."""
         while number and self.tag(number) in SAME_TYPE:
             number = self.link(number, 'baseType')
         return number
 
-    def tag(self, number):
+    def tag(self, number: str | None) -> str | None:
+        """The kind of a type."""
         found = re.search(r'\btag: (\w+)', self.nodes.get(number, ''))
         return found and found[1]
 
-    def bytes(self, number):
+    def bytes(self, number: str | None) -> int:
+        """The size of a type."""
         number = self.plain(number)
         return self.value(number, 'size') // 8
 
-    def within(self, number, offset: int) -> str:
+    def within(self, number: str | None, offset: int) -> str:
         """The path of fields and elements to the innermost object at an offset."""
         number = self.plain(number)
         tag = number and self.tag(number)
@@ -61,7 +67,8 @@ class Types:
                 return (f'.{name[1]}' if name else '') + inner
         return ''
 
-    def in_array(self, number, offset: int) -> str:
+    def in_array(self, number: str, offset: int) -> str:
+        """The same in an array: the indices of the element, and the path in it."""
         element = self.link(number, 'baseType')
         size, text = self.bytes(element), ''
         counts = [self.value(item, 'count') for item in self.items(number)]
@@ -75,9 +82,9 @@ class Types:
 
 
 class Names:
-    """The names of persistent objects of a program; the C files are compiled when a name is first asked for."""
+    """The names of persistent objects of a program; the C files are compiled when a name is first needed."""
 
-    def __init__(self, program: Program, files: list[str], clang: list[str], include: str):
+    def __init__(self, program: Program, files: list[str], clang: list[str], include: str) -> None:
         self.program, self.include = program, include
         self.files, self.clang = [file for file in files if file.endswith('.c')], clang
         self.units: list[Types] | None = None
@@ -93,8 +100,8 @@ class Names:
             return item.name + (f'+{offset}' if offset else '')
         return re.sub(r'\.\d+$', '', item.name) + types.within(number, offset)
 
-    def type_of(self, name: str, size: int):
-        """The type of the one global that has this name, or this name before a linker's number, and this size."""
+    def type_of(self, name: str, size: int) -> tuple[Types | None, str | None]:
+        """The type of the only global with this name, or with this name without a linker's number, and with this size."""
         if self.units is None:
             with ThreadPoolExecutor() as pool:
                 self.units = [Types(text) for text in pool.map(self.debug_text, self.files)]
@@ -106,7 +113,7 @@ class Names:
         return None, None
 
     def debug_text(self, file: str) -> str:
-        command = ['clang-19', '-w', '-g', '-O0', '-S', '-emit-llvm', '-target', 'x86_64-pc-linux-gnu', '-mclwb',
-                   '-mclflushopt', f'-I{self.include}', *self.clang, '-o', '-', file]
+        """LLVM's text form of a C file with debug information; without it, names are those of the globals alone."""
+        command = emit_text(self.include, self.clang, file, '-g')
         ran = subprocess.run(command, stdout=subprocess.PIPE, stderr=subprocess.DEVNULL, stdin=subprocess.DEVNULL)
         return ran.stdout.decode('latin-1')

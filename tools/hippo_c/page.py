@@ -30,12 +30,13 @@ def page_of(answer: dict, histories: list[list[dict]]) -> str:
 
 
 def part(name: str) -> str:
+    """The text of a file beside this one, from which the page is made."""
     with open(os.path.join(FOLDER, name), encoding='utf-8') as file:
         return file.read()
 
 
-def places_in(group: dict):
-    """The places of the user's that a group has."""
+def places_in(group: dict) -> list[dict]:
+    """The places in the user's C that a group names."""
     suggestion = group['suggestion'] and group['suggestion']['place']
     return [place for place in (group['store'], group['flush'], group['check'], suggestion, *group['calls']) if place]
 
@@ -88,6 +89,7 @@ def source(file: str, number: int, groups: list[dict]) -> str:
 
 
 def line_row(file: int, line: int, code: str, here: list[int], groups: list[dict]) -> str:
+    """A line of a file, with the number of its reports."""
     mark = ''
     if here:
         count = sum(groups[index]['reports'] for index in here)

@@ -3,13 +3,16 @@ import json
 import os
 import subprocess
 import tempfile
+from collections.abc import Iterator
 from functools import cache
 
+from .clang import CLANG
 from .sources import bytes_of, overlay
 from .syntax import Node, Tree
 
+# A file of fewer bytes than LARGE is parsed as a whole after FEW functions; until then, and otherwise, function by function.
 FEW, LARGE = 6, 200_000
-# Replaces <immintrin.h>, whose tree has 160 MB: it has what a program for persistent memory needs from it.
+# Replaces <immintrin.h>, whose tree has 160 MB, by the part that a program for persistent memory needs.
 INTRINSICS = b'''#ifndef __IMMINTRIN_H
 #define __IMMINTRIN_H
 void _mm_clwb(const void *);
@@ -26,12 +29,13 @@ void _mm_stream_si64(long long *, long long);
 
 
 class Reader:
-    """Reads one document of clang's tree; locations name their file where it changes."""
+    """Reads one document of clang's tree, in which a location names its file only if it differs from that of the last location."""
 
-    def __init__(self, file: str):
+    def __init__(self, file: str) -> None:
         self.file = file
 
     def node(self, raw: dict) -> Node:
+        """A node with all nodes in it."""
         begin = end = None
         node = Node(raw.get('kind', ''), -1, -1, False, raw.get('opcode', ''), raw.get('name', ''))
         for key, value in raw.items():
@@ -60,32 +64,31 @@ class Reader:
 class Parsed:
     """The functions of one C file and of the headers that it includes; clang runs when one is first needed."""
 
-    def __init__(self, unit: str, clang: tuple[str, ...]):
+    def __init__(self, unit: str, clang: tuple[str, ...]) -> None:
         self.unit, self.clang = unit, clang
         self.functions: dict[str, list[Tree]] = {}
-        self.asked: set[str] = set()
+        self.parsed: set[str] = set()
         self.whole = False
         self.reader = Reader('')
 
     def named(self, name: str) -> list[Tree]:
-        """The definitions of a function; after a few of them a file that is not large is read as a whole."""
-        if name not in self.asked and not self.whole:
-            self.whole = len(self.asked) >= FEW and len(bytes_of(self.unit)) < LARGE
+        """The definitions of a function."""
+        if name not in self.parsed and not self.whole:
+            self.whole = len(self.parsed) >= FEW and len(bytes_of(self.unit)) < LARGE
             if self.whole:
                 self.functions = {}
-            self.asked.add(name)
+            self.parsed.add(name)
             for raw in self.documents([] if self.whole else ['-Xclang', f'-ast-dump-filter={name}']):
                 for function in raw.get('inner', []) if raw.get('kind') == 'TranslationUnitDecl' else [raw]:
                     self.take(function, None if self.whole else name)
         return self.functions.get(name, [])
 
-    def documents(self, filtered: list[str]):
-        """What clang writes, one tree after another."""
+    def documents(self, filtered: list[str]) -> Iterator[dict]:
+        """The trees that clang writes."""
         with tempfile.TemporaryDirectory(prefix='hippo-c-') as folder:
             small = overlay({intrinsics_header(): INTRINSICS}, folder)
-            command = ['clang-19', '-w', '-fsyntax-only', '-target', 'x86_64-pc-linux-gnu', '-mclwb', '-mclflushopt',
-                       '-Wno-error=implicit-function-declaration', *small, *self.clang, '-Xclang', '-ast-dump=json',
-                       *filtered, self.unit]
+            command = [*CLANG, '-fsyntax-only', '-Wno-error=implicit-function-declaration', *small, *self.clang, '-Xclang',
+                       '-ast-dump=json', *filtered, self.unit]
             ran = subprocess.run(command, stdout=subprocess.PIPE, stderr=subprocess.DEVNULL, stdin=subprocess.DEVNULL)
         text, place, decoder = ran.stdout.decode('utf-8', 'replace'), 0, json.JSONDecoder()
         while (place := text.find('{', place)) >= 0:
@@ -93,7 +96,7 @@ class Parsed:
             yield raw
 
     def take(self, raw: dict, name: str | None) -> None:
-        """Keeps a definition; the file of a location is that of the one before it where it names none."""
+        """Keeps a definition, with the file that its location names, or else that of the last location."""
         reader = self.reader if self.whole else Reader('')
         before = reader.file
         function = reader.node(raw)
@@ -108,10 +111,12 @@ class Parsed:
 
 @cache
 def intrinsics_header() -> str:
-    ran = subprocess.run(['clang-19', '-print-resource-dir'], stdout=subprocess.PIPE, stdin=subprocess.DEVNULL)
+    """The path of clang's <immintrin.h>."""
+    ran = subprocess.run([CLANG[0], '-print-resource-dir'], stdout=subprocess.PIPE, stdin=subprocess.DEVNULL)
     return os.path.join(ran.stdout.decode().strip(), 'include', 'immintrin.h')
 
 
 @cache
 def parsed(unit: str, clang: tuple[str, ...]) -> Parsed:
+    """The functions of a C file, the same object for each call."""
     return Parsed(unit, clang)

@@ -3,8 +3,9 @@ import re
 import subprocess
 from dataclasses import dataclass
 
+from .clang import emit_text
 from .plan import Repair
-from .program import GLOBAL, HEAD, Function, type_text
+from .program import GLOBAL, Function, type_text
 from .session import Session
 from .trouble import Trouble
 
@@ -22,9 +23,11 @@ class Part:
 
 def visible_names(session: Session, file: str) -> set[str]:
     """The names that a C file defines for the linker."""
-    command = ['clang-19', '-w', '-O0', '-S', '-emit-llvm', '-target', 'x86_64-pc-linux-gnu', '-mclwb', '-mclflushopt',
-               f'-I{session.names.include}', *session.request.clang, '-o', '-', file]
-    text = subprocess.run(command, stdout=subprocess.PIPE, stdin=subprocess.DEVNULL).stdout.decode('latin-1')
+    command = emit_text(session.names.include, session.request.clang, file)
+    ran = subprocess.run(command, stdout=subprocess.PIPE, stderr=subprocess.PIPE, stdin=subprocess.DEVNULL)
+    if ran.returncode:
+        raise Trouble(f'{file}: clang-19 does not compile it at -O0:\n{ran.stderr.decode("utf-8", "replace").rstrip()}')
+    text = ran.stdout.decode('latin-1')
     found = set()
     for before, function, variable, kind in DEFINED.findall(text):
         if not HIDDEN.search(before + kind):
@@ -49,9 +52,9 @@ def part_for(session: Session, repair: Repair, files: list[str]) -> Part:
 
 
 def names_in(function: Function) -> set[str]:
-    return {name for block in function.blocks for instruction in block.instructions
-            for name in USED.findall(instruction.text)} | {
-                name for block in function.blocks for phi in block.phis for name in USED.findall(phi)}
+    """The names of globals and functions that a function uses."""
+    lines = [line for block in function.blocks for line in (*block.phis, *(instruction.text for instruction in block.instructions))]
+    return {name for line in lines for name in USED.findall(line)}
 
 
 def closure(repair: Repair, roots: list[str], others: set[str]) -> set[str]:
@@ -66,11 +69,12 @@ def closure(repair: Repair, roots: list[str], others: set[str]) -> set[str]:
 
 
 def shown_head(function: Function, own: set[str]) -> str:
+    """The head of a function, which is internal if the files do not define it for the linker."""
     return function.head if function.name in own else function.head.replace('define ', 'define internal ', 1)
 
 
 def head_line(line: str, own: set[str], others: set[str], used: set[str]) -> str:
-    """A line before the functions as the part has it; nothing where it is not used."""
+    """A line before the functions as the part has it; an empty text if the part does not use it."""
     found = GLOBAL.match(line)
     if not found:
         return line
@@ -84,6 +88,6 @@ def head_line(line: str, own: set[str], others: set[str], used: set[str]) -> str
 
 
 def declaration(function: Function) -> str:
+    """The declaration of a function that another file defines."""
     head = re.sub(r' %[-\w$.]+(?=[,)])', '', function.head[len('define '):].removesuffix(' {'))
-    assert HEAD.match(function.head)
     return f'declare {head}'

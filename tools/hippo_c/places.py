@@ -2,9 +2,7 @@
 import os
 from typing import NamedTuple
 
-from lowering.lines import Frame
-
-from .program import Program, Site
+from .program import Function, Program, Site
 from .running import TOOLS
 
 OWN = (f'{TOOLS}/runtime/', f'{TOOLS}/hippo.h')
@@ -12,9 +10,9 @@ SYSTEM = ('/usr/include/', '/usr/lib/', '/usr/local/include/')
 
 
 class Place(NamedTuple):
-    """A place in the user's C, in which function it is, and whether it is that of an instruction itself.
+    """A place in the user's C, and its function.
 
-    Where clang gives no line, the place is the line of the function's head, and `exact` is false."""
+    If clang gives no line for an instruction, the place is the line of the function's head, and `exact` is false."""
     file: str
     line: int
     column: int
@@ -26,22 +24,24 @@ class Place(NamedTuple):
 
     @property
     def short(self) -> str:
+        """`FILE:LINE`."""
         return f'{self.file}:{self.line}'
 
 
 def is_users(file: str) -> bool:
-    """Whether a file is the user's, not a header of the system and not part of hippo's tools."""
+    """Whether a file is the user's: neither a header of the system nor part of hippo's tools."""
     return not file.startswith(SYSTEM) and not os.path.abspath(file).startswith(OWN)
 
 
 class Places:
     """The places of a program."""
 
-    def __init__(self, program: Program):
+    def __init__(self, program: Program) -> None:
         self.program = program
         self.users: dict[str, bool] = {}
 
     def is_users(self, file: str) -> bool:
+        """Whether a file is the user's; each file is decided once."""
         if file not in self.users:
             self.users[file] = is_users(file)
         return self.users[file]
@@ -56,7 +56,8 @@ class Places:
         found = [Place(*frame) for frame in named if frame.line and self.is_users(frame.file)]
         return found or [head_of(function)]
 
-    def is_users_function(self, function) -> bool:
+    def is_users_function(self, function: Function) -> bool:
+        """Whether a function stands in a file of the user's."""
         return function.place is not None and self.is_users(function.place.file)
 
     def first(self, path: tuple[Site, ...]) -> Place | None:
@@ -68,9 +69,6 @@ class Places:
         return [place for site in path for place in self.of(site)]
 
 
-def head_of(function) -> Place:
+def head_of(function: Function) -> Place:
+    """The place of the head of a function."""
     return Place(function.place.file, function.place.line, 1, function.name_in_c, exact=False)
-
-
-def frame_text(frame: Frame) -> str:
-    return f'{frame.file}:{frame.line}:{frame.column}'

@@ -1,6 +1,6 @@
 """What a repair added: compares the repaired program with the program, instruction by instruction."""
 import re
-from collections.abc import Callable
+from collections.abc import Callable, Iterator
 from dataclasses import dataclass
 
 from lowering.externs import FENCES
@@ -12,20 +12,21 @@ CALLEE = re.compile(r'(call \S+ @)[-\w$.]+\(', re.ASCII)
 
 @dataclass
 class Insertion:
-    """An instruction that was put after a site: in the function itself, or in the clone that is named."""
+    """An instruction that the repair put after a site: in the function itself, or in the named clone."""
     site: Site
     instruction: Instruction
     clone: str = ''
 
     @property
     def is_fence(self) -> bool:
+        """Whether the instruction is a fence."""
         return self.instruction.callee in FENCES
 
 
 class Repair:
     """The insertions, the hoisted calls with their clones, and the site in the program of each repaired one."""
 
-    def __init__(self, program: Program, repaired: Program):
+    def __init__(self, program: Program, repaired: Program) -> None:
         self.program, self.repaired = program, repaired
         self.insertions: list[Insertion] = []
         self.hoists: dict[Site, str] = {}
@@ -57,6 +58,7 @@ class Repair:
         return found
 
     def is_clone(self, name: str) -> bool:
+        """Whether the repair added a function of this name."""
         return name in self.repaired.functions and name not in self.program.functions
 
     def site_of(self, site: Site) -> Site:
@@ -79,8 +81,9 @@ def inserted(new: list[Instruction], old: list[Instruction], is_clone: Callable[
     return found
 
 
-def paired(new: list[Instruction], old: list[Instruction], is_clone: Callable[[str], bool]):
-    """Each number of `new`, the number of `old` that it copies or follows, whether the repair added it, and the instruction."""
+def paired(new: list[Instruction], old: list[Instruction], is_clone: Callable[[str], bool]) -> Iterator[tuple[int, int, bool, Instruction]]:
+    """For each instruction of `new`: its number, the number of the one of `old` that it copies or follows, whether the repair added it,
+    and itself."""
     extra, site = inserted(new, old, is_clone), -1
     for index, instruction in enumerate(new):
         site += index not in extra

@@ -1,6 +1,7 @@
 """A text in hippo's subset as functions, blocks and instructions, each with its places in C."""
 import re
 from bisect import bisect_right
+from collections.abc import Iterator
 from typing import NamedTuple
 
 from lowering import lines
@@ -17,7 +18,7 @@ Site = tuple[str, str, int]
 
 
 class Instruction(NamedTuple):
-    """An instruction without its comment; `added` says that it has no place since tools/lower put it there."""
+    """An instruction without its comment; `added` is true if tools/lower added it, so that it has no place."""
     text: str
     frames: tuple[Frame, ...] = ()
     added: bool = False
@@ -32,7 +33,7 @@ class Instruction(NamedTuple):
 class Block:
     """A basic block: its phis, then its instructions with the one that ends it."""
 
-    def __init__(self, label: str):
+    def __init__(self, label: str) -> None:
         self.label = label
         self.phis: list[str] = []
         self.instructions: list[Instruction] = []
@@ -41,7 +42,7 @@ class Block:
 class Function:
     """A function: its head as it stands in the text, its name and place in C, its blocks."""
 
-    def __init__(self, name: str, head: str, comment: str):
+    def __init__(self, name: str, head: str, comment: str) -> None:
         self.name, self.head = name, head
         place = lines.read(comment)
         self.place = place[0] if place else None
@@ -50,14 +51,14 @@ class Function:
 
     @property
     def name_in_c(self) -> str:
-        """The function's name in C; that of what tools/lower added is without its number."""
+        """The function's name in C; for a function that tools/lower added, its name without its number."""
         if self.place and self.place.function:
             return self.place.function
         return self.name.split('.')[0] if self.added else self.name
 
 
 class Global(NamedTuple):
-    """A global: what it is called, whether it is persistent, where it lies, its size and alignment in bytes."""
+    """A global: its name, whether it is persistent, its address, its size and its alignment in bytes."""
     name: str
     persistent: bool
     address: int
@@ -68,7 +69,7 @@ class Global(NamedTuple):
 class Program:
     """A text of hippo's subset; `head` has its lines before the first function."""
 
-    def __init__(self, text: str):
+    def __init__(self, text: str) -> None:
         self.head: list[str] = []
         self.functions: dict[str, Function] = {}
         self.comments: dict[str, tuple[tuple[Frame, ...], bool]] = {'': ((), False)}
@@ -80,6 +81,7 @@ class Program:
                        for block in function.blocks}
 
     def read(self, text: str) -> None:
+        """Reads the lines of a text."""
         function = None
         for line in text.split('\n'):
             written, _, comment = line.partition(' ; ')
@@ -95,6 +97,7 @@ class Program:
                 function.blocks[-1].instructions.append(Instruction(written.strip(), *self.places(comment)))
 
     def read_head(self, written: str, comment: str) -> Function | None:
+        """The function that a line begins; any other line goes to `head`."""
         found = HEAD.match(written)
         if not found:
             if written.strip():
@@ -104,16 +107,17 @@ class Program:
         return function
 
     def places(self, comment: str) -> tuple[tuple[Frame, ...], bool]:
-        """The frames of a comment, and whether it marks what was added; equal comments share one answer."""
+        """The frames of a comment, and whether it marks an added instruction; equal comments share one answer."""
         if comment not in self.comments:
             self.comments[comment] = (tuple(lines.read(comment)), comment == lines.ADDED)
         return self.comments[comment]
 
     def instruction(self, site: Site) -> Instruction | None:
+        """The instruction of a site, if there is one."""
         block = self.blocks.get(site[:2])
         return block.instructions[site[2]] if block and site[2] < len(block.instructions) else None
 
-    def sites(self):
+    def sites(self) -> Iterator[tuple[Site, Instruction]]:
         """Each site with its instruction, in the order of the text."""
         for name, function in self.functions.items():
             for block in function.blocks:
@@ -121,6 +125,7 @@ class Program:
                     yield (name, block.label, index), instruction
 
     def region_size(self) -> int:
+        """The size of the region, in whole cache lines."""
         end = max((item.address + item.size for item in self.persistent), default=REGION_BASE)
         return -(-(end - REGION_BASE) // 64) * 64
 
@@ -166,4 +171,5 @@ def parse_site(text: str) -> Site:
 
 
 def show_site(site: Site) -> str:
+    """A site as `@function:label:index`."""
     return f'@{site[0]}:{site[1]}:{site[2]}'

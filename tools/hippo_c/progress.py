@@ -5,6 +5,7 @@ import subprocess
 import sys
 import time
 from collections.abc import Iterable, Iterator
+from typing import TextIO
 
 EVERY = 0.2
 
@@ -12,17 +13,18 @@ EVERY = 0.2
 class Progress:
     """The current line of progress; it is wiped before anything else is written."""
 
-    def __init__(self, stream=sys.stderr, shown: bool | None = None):
+    def __init__(self, stream: TextIO = sys.stderr, shown: bool | None = None) -> None:
         self.stream = stream
         self.shown = stream.isatty() if shown is None else shown
         self.last, self.width, self.step, self.began = 0.0, 0, '', time.monotonic()
 
     def say(self, text: str) -> None:
-        """Shows what goes on now."""
+        """Shows the step that begins."""
         self.step = text
         self.show(text)
 
     def show(self, text: str) -> None:
+        """Shows a text in place of the current one."""
         if not self.shown:
             return
         self.stream.write('\r' + f'hippo-c: {text}'.ljust(self.width)[:100])
@@ -30,6 +32,7 @@ class Progress:
         self.width, self.last = len(text) + 9, time.monotonic()
 
     def wipe(self) -> None:
+        """Removes the current text."""
         if self.shown and self.width:
             self.stream.write('\r' + ' ' * self.width + '\r')
             self.stream.flush()
@@ -41,12 +44,13 @@ class Progress:
 
     @contextlib.contextmanager
     def growing(self, step: str) -> Iterator[None]:
+        """A step that writes a file; `watch` shows its size."""
         self.say(step)
         self.began = time.monotonic()
         yield
 
     def watch(self, process: subprocess.Popen, path: str) -> None:
-        """Shows how large the file is that a command writes, until the command ends."""
+        """Shows the size of the file that a command writes, until the command ends."""
         while self.shown:
             with contextlib.suppress(subprocess.TimeoutExpired):
                 process.wait(EVERY)

@@ -1,4 +1,5 @@
 """The command repair: a repaired program as text or as an object file, and what was added, by C lines."""
+import argparse
 import subprocess
 
 from . import running
@@ -7,6 +8,7 @@ from .debuginfo import plain, with_debug_info
 from .diagnostics import Printer, amount
 from .partial import Part, part_for
 from .plan import Repair
+from .program import Site
 from .progress import Progress
 from .session import Checked, Request, Session
 from .suggesting import read_repair, repaired_program
@@ -19,18 +21,18 @@ LLC = ['llc-19', '--trap-unreachable', '-mtriple=x86_64-pc-linux-gnu', '-relocat
        '-mattr=+clwb,+clflushopt', '-filetype=obj']
 
 
-def add_options(command) -> None:
-    """The options that repair has besides those of every command."""
+def add_options(command: argparse.ArgumentParser) -> None:
+    """The options of repair that other commands do not have."""
     command.add_argument('-o', dest='out', required=True, metavar='OUT', help='the repaired program, .ll or .o')
     command.add_argument('--inputs', metavar='FILE', help='a file with an input in each line; one repair serves all')
     command.add_argument('--thin', action='store_true', help='leave out the flushes of stores in clones that are never persistent')
     command.add_argument('--for', dest='parts', action='append', metavar='PART.c',
                          help='write the functions of this file only; may be given again')
-    command.add_argument('-g', dest='debug', action='store_true', help='put debug information into a .ll, too')
+    command.add_argument('-g', dest='debug', action='store_true', help='put debug information into a .ll file too')
     command.add_argument('--clflush', action='store_true', help='flush by CLFLUSH, for processors without CLWB')
 
 
-def repair(options, request: Request, progress: Progress) -> int:
+def repair(options: argparse.Namespace, request: Request, progress: Progress) -> int:
     """Writes the repaired program: 0, or 1 if a report is left, which hippo's proof excludes."""
     check_words(options, request)
     printer = printer_of(options)
@@ -50,7 +52,8 @@ def repair(options, request: Request, progress: Progress) -> int:
     return 1 if any(reports for reports, _ in after) else 0
 
 
-def check_words(options, request: Request) -> None:
+def check_words(options: argparse.Namespace, request: Request) -> None:
+    """Refuses options that do not fit together."""
     if not options.out.endswith(('.ll', '.o')):
         raise Trouble(f'{options.out}: not a name that ends in .ll or .o')
     if options.thin and len(request.inputs) > 1:
@@ -71,7 +74,7 @@ def trace_after(session: Session, path: str, checked: Checked, number: int, by_r
     return left, read_trace(trace_path, session.program)
 
 
-def write(options, session: Session, found: Repair) -> None:
+def write(options: argparse.Namespace, session: Session, found: Repair) -> None:
     """Writes the repaired program, or the part of it, as text or as an object file."""
     repaired = found.repaired
     whole = Part(repaired.head, [(function, function.head) for function in repaired.functions.values()])
@@ -88,6 +91,7 @@ def write(options, session: Session, found: Repair) -> None:
 
 
 def assemble(text: str, path: str) -> None:
+    """Writes the object file of a text."""
     try:
         ran = subprocess.run([*LLC, '-o', path, '-'], input=text.encode('latin-1'), stderr=subprocess.PIPE)
     except FileNotFoundError:
@@ -117,11 +121,13 @@ def print_repair(printer: Printer, session: Session, found: Repair) -> None:
         printer.line(f"clone of '{name}': {counted(flushes, 'flush', 'flushes')}")
 
 
-def of_helper(session: Session, site) -> str:
+def of_helper(session: Session, site: Site) -> str:
+    """` of 'memcpy'` for a site in a function that is not the user's."""
     return '' if session.places.of(site) else f" of '{session.program.functions[site[0]].name_in_c}'"
 
 
 def counted(number: int, one: str, many: str) -> str:
+    """A number with the word for one or for many."""
     return f'{number:,} {one if number == 1 else many}'
 
 

@@ -9,9 +9,9 @@ MISSING = {'flush': 'missing-flush', 'fence': 'missing-fence', 'both': 'missing-
 
 @dataclass
 class Group:
-    """Reports of one kind, of one store by one path; the numbers are those of the first of them.
+    """Reports of one kind, of one store by one path, with the numbers of the first report.
 
-    `more` has the other paths that differ in functions which are not the user's."""
+    `more` has the other paths, which differ from `path` only in functions that are not the user's."""
     kind: str
     flush: Site | None
     path: tuple[Site, ...]
@@ -23,6 +23,7 @@ class Group:
 
     @property
     def missing(self) -> str:
+        """What the store lacks, as reports name it."""
         return MISSING[self.kind]
 
 
@@ -44,13 +45,14 @@ def grouped(lines: Iterable[str]) -> list[Group]:
 
 
 def new_group(kind: str, entry: int, check: int, closed: int, rest: str) -> Group:
+    """The group of a first report, whose line ends with `rest`."""
     flush, _, path = rest.rpartition('path ')
     flush_site = parse_site(flush.split(' ')[1]) if flush else None
     return Group(kind, flush_site, tuple(map(parse_site, path.split(' '))), 1, entry, check, closed)
 
 
 def joined(groups: list[Group], is_users: Callable[[Site], bool]) -> list[Group]:
-    """The groups with those put together that differ only in functions which are not the user's."""
+    """Joins the groups that differ only in functions that are not the user's."""
     found: dict[tuple, Group] = {}
     for group in groups:
         start = next((level for level, site in enumerate(group.path) if is_users(site)), 0)

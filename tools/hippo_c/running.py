@@ -1,15 +1,22 @@
-"""Runs hippo and tools/lower: their output goes to files that appear only when complete, and their refusals become troubles."""
+"""Runs hippo and tools/lower. Their output goes to files that appear only when they are complete; a refusal becomes a Trouble."""
+from __future__ import annotations
+
 import contextlib
 import os
 import re
 import subprocess
 import sys
-from collections.abc import Iterator
+from collections.abc import Callable, Iterator
+from typing import TYPE_CHECKING, Any, BinaryIO
 
 from .trouble import Trouble
 
+if TYPE_CHECKING:
+    from .session import Request
+
 TOOLS = os.path.dirname(os.path.dirname(os.path.abspath(__file__)))
-TRAPPED, CUT = 9, 10
+# Exit codes of hippo: a run trapped, a run was cut, no crash leaves the image of a pick.
+TRAPPED, CUT, NO_PICK = 9, 10, 13
 HINTS = (
     (r'program line 1: (syntax|unsupported)', 'hippo reads LLVM text of its subset; give a .c file to hippo-c'),
     (r'trace .*(differs|early|extra|malformed)', 'the trace is of another program or was cut short; record it again'),
@@ -39,7 +46,7 @@ def hint_for(message: str) -> str:
 
 
 @contextlib.contextmanager
-def whole_file(path: str) -> Iterator:
+def whole_file(path: str) -> Iterator[BinaryIO]:
     """A binary file to write to; it gets its name when it is complete, and there is no file after a failure."""
     half = f'{path}.{os.getpid()}.part'
     try:
@@ -56,7 +63,7 @@ def whole_file(path: str) -> Iterator:
 class Ended:
     """How a command ended: its exit code and what it wrote to standard error."""
 
-    def __init__(self, code: int, notes: str):
+    def __init__(self, code: int, notes: str) -> None:
         self.code, self.notes = code, notes
 
     @property
@@ -66,12 +73,12 @@ class Ended:
         return found[-1] if found else ''
 
     def word(self, name: str) -> str:
-        """What stands after a word at the start of a line of the notes."""
+        """The rest of the line of the notes that begins with a word."""
         found = re.search(rf'^{name}\b ?(.*)$', self.notes, re.M)
         return found[1] if found else ''
 
 
-def start(command: list[str], **more) -> subprocess.Popen:
+def start(command: list[str], **more: Any) -> subprocess.Popen[bytes]:
     """Starts a command, with its standard error in a pipe."""
     try:
         return subprocess.Popen(command, stdin=subprocess.DEVNULL, stderr=subprocess.PIPE, **more)
@@ -99,10 +106,11 @@ def stop(process: subprocess.Popen) -> None:
             pipe.close()
 
 
-def hippo(words: list[str], path: str, accepted: tuple[int, ...] = (0,), watch=None) -> Ended:
-    """Runs hippo with its standard output in a file; another exit code than the accepted ones is a trouble.
+def hippo(words: list[str], path: str, accepted: tuple[int, ...] = (0,),
+          watch: Callable[[subprocess.Popen[bytes], str], None] | None = None) -> Ended:
+    """Runs hippo with its standard output in a file; any exit code that is not accepted is a Trouble.
 
-    `watch(file)` is called while it runs, with the file that grows."""
+    `watch(process, file)` is called while hippo writes the file."""
     with whole_file(path) as file:
         process = start([hippo_program(), *words], stdout=file)
         if watch:
@@ -118,14 +126,14 @@ def accept(words: list[str], ended: Ended, accepted: tuple[int, ...] = (0,)) -> 
         return ended
     if ended.code < 0:
         raise Trouble(f'hippo was ended by signal {-ended.code}', '', words[0])
-    # A launcher may say first which build answers.
+    # The first line may be the launcher's, which says which build answers.
     said = re.findall(r'^hippo: .*$', ended.notes, re.M) or [f'hippo {words[0]} answered {ended.code}']
     message = said[-1]
     raise Trouble(message, hint_for(message), words[0])
 
 
 def lines_of(words: list[str], accepted: tuple[int, ...] = (0,)) -> Iterator[str]:
-    """The lines that hippo writes, one by one; the exit code is looked at after the last."""
+    """The lines that hippo writes, one by one; after the last line the exit code must be accepted."""
     process = start([hippo_program(), *words], stdout=subprocess.PIPE)
     try:
         for line in process.stdout:
@@ -135,8 +143,8 @@ def lines_of(words: list[str], accepted: tuple[int, ...] = (0,)) -> Iterator[str
         stop(process)
 
 
-def lower(request, path: str) -> str:
-    """Lowers the files of a request into one text with places; what tools/lower notes."""
+def lower(request: Request, path: str) -> str:
+    """Lowers the files of a request into one text with places, and returns the notes of tools/lower."""
     clang = ['--', *request.clang] if request.clang else []
     command = [sys.executable, os.path.join(TOOLS, 'lower'), '--lines', *request.lower, *request.files, *request.arguments, *clang]
     with whole_file(path) as file:

@@ -33,6 +33,7 @@ def sarif_of(answer: dict) -> dict:
 
 
 def rule_of(name: str) -> dict:
+    """The rule of a kind of result."""
     title, text = RULES[name]
     return {'id': name, 'name': title.title().replace(' ', ''), 'shortDescription': {'text': title},
             'fullDescription': {'text': text}, 'help': {'text': text},
@@ -50,7 +51,7 @@ def result_of(group: dict, numbers: list[int]) -> dict:
         'ruleId': group['kind'], 'ruleIndex': list(RULES).index(group['kind']), 'level': 'warning',
         'message': {'text': text}, 'locations': [location_of(group['store'])] if group['store'] else [],
         'relatedLocations': [{**location_of(place), 'id': number, 'message': {'text': what}}
-                             for number, (place, what) in enumerate(((p, w) for p, w in related if p), 1)],
+                             for number, (place, what) in enumerate((one for one in related if one[0]), 1)],
         'partialFingerprints': {'hippoStore/v1': group['fingerprint']},
         'occurrenceCount': group['reports'], 'properties': {'input': numbers, 'sites': group['sites']},
     }
@@ -58,18 +59,20 @@ def result_of(group: dict, numbers: list[int]) -> dict:
 
 
 def trap_result(trap: dict) -> dict:
+    """A trap as a result."""
     return {'ruleId': 'trap', 'ruleIndex': list(RULES).index('trap'), 'level': 'error',
             'message': {'text': f'The run ended with a trap: {trap["meaning"]}'},
             'locations': [location_of(trap['place'])] if trap['place'] else []}
 
 
 def uri_of(path: str) -> str:
-    """A path as the URI of a file, relative where it is."""
+    """A path as the URI of a file; a relative path stays relative."""
     raw = quote(path.encode('utf-8', 'surrogateescape'))
     return f'file://{raw}' if os.path.isabs(path) else raw
 
 
 def location_of(place: dict) -> dict:
+    """A place as a location."""
     artifact = {'uri': uri_of(place['file'])}
     if not os.path.isabs(place['file']):
         artifact['uriBaseId'] = 'SRCROOT'

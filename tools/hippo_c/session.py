@@ -1,4 +1,6 @@
-"""One program through lower, record and check: its files in a folder, and what came out."""
+"""Lowers a program, records its runs and checks them; its files are in one folder."""
+from __future__ import annotations
+
 import contextlib
 import os
 import tempfile
@@ -19,7 +21,7 @@ MOST_MARKS = 50_000_000
 
 @dataclass
 class Request:
-    """What is to be run: files, clang's arguments, words for lower, the numbers of the input, the limit of turns."""
+    """What a command runs: files, arguments for clang, words for lower, the numbers of each input, the limit of turns."""
     files: list[str]
     clang: list[str] = field(default_factory=list)
     lower: list[str] = field(default_factory=list)
@@ -44,25 +46,27 @@ class Checked:
 
     @property
     def reports(self) -> int:
+        """The number of reports in all groups."""
         return sum(group.count for group in self.groups)
 
 
 class Session:
     """The lowered program of a request and the checks of its inputs."""
 
-    def __init__(self, request: Request, progress: Progress):
+    def __init__(self, request: Request, progress: Progress) -> None:
         self.request, self.progress = request, progress
         self.room = contextlib.ExitStack()
         self.folder = request.folder or self.room.enter_context(tempfile.TemporaryDirectory(prefix='hippo-c-'))
         self.text_path = self.file('program.ll')
 
-    def __enter__(self):
+    def __enter__(self) -> Session:
         return self
 
-    def __exit__(self, *_):
+    def __exit__(self, *_: object) -> None:
         self.room.close()
 
     def file(self, name: str) -> str:
+        """The path of a file in the folder."""
         return os.path.join(self.folder, name)
 
     def lower(self) -> None:
@@ -109,7 +113,7 @@ class Session:
         return checked
 
     def check_places(self, checked: Checked) -> dict[int, Place | None]:
-        """The place of each check that a group names, by the number of its entry; the end has a place, too."""
+        """The place of each check that a group names, by the number of its entry; the return of main is one of the checks."""
         wanted = {group.check for group in checked.groups}
         trace = checked.trace
         if not wanted:
@@ -122,7 +126,7 @@ class Session:
         return {number: self.places.first((numbered[number],)) for number in wanted if number in numbered}
 
     def only_sites(self, trace: Trace) -> list[Site] | None:
-        """The sites of all checks of a run, where the program has no choice of them."""
+        """The sites of all checks of a run, if the program has at most one assert and one return of main; otherwise nothing."""
         sites = marking.checks_of(self.program)
         asserts = [site for site in sites if self.program.instruction(site).callee == 'pm_assert']
         returns = [site for site in sites if site not in asserts]
@@ -131,7 +135,7 @@ class Session:
         return asserts * trace.asserts + returns
 
     def lines_that_ran(self, numbers: list[int]) -> tuple[int, int, bool]:
-        """How many lines of the user's functions ran, how many there are, and whether the count is whole."""
+        """The number of lines of the user's functions that ran, the number of all, and whether the whole run was counted."""
         self.progress.say('counting lines')
         ran, whole = marking.blocks_that_ran(self.program, numbers, MOST_MARKS)
         lines: dict[bool, set] = {True: set(), False: set()}

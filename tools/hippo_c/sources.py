@@ -1,9 +1,10 @@
-"""The C files as clang reads them: as they are, or with the macros of the file itself expanded line by line."""
+"""The C files as clang reads them: unchanged, or with their macros expanded line by line."""
 import json
 import os
 import subprocess
 from functools import cache
 
+from .clang import CLANG
 from .trouble import Trouble
 
 expanded: dict[str, bytes] = {}
@@ -11,7 +12,7 @@ expanded: dict[str, bytes] = {}
 
 @cache
 def bytes_of(file: str) -> bytes:
-    """The text of a file; none where it cannot be read."""
+    """The bytes of a file; none if it cannot be read, since places can name files that are gone."""
     if os.path.abspath(file) in expanded:
         return expanded[os.path.abspath(file)]
     try:
@@ -28,16 +29,16 @@ def lines_of(file: str) -> list[str]:
 
 
 def line_of(file: str, line: int) -> str | None:
+    """A line of a file, counted from 1."""
     lines = lines_of(file)
     return lines[line - 1].rstrip('\r') if 0 < line <= len(lines) else None
 
 
 def expand_macros(files: list[str], clang: list[str], include: str, folder: str) -> list[str]:
-    """Expands the macros of C files, each on its line; arguments for clang by which it reads these texts."""
+    """Expands the macros of C files, each on its line; returns the arguments by which clang reads these texts."""
     texts = {}
     for file in files:
-        command = ['clang-19', '-w', '-target', 'x86_64-pc-linux-gnu', '-mclwb', '-mclflushopt', f'-I{include}', *clang,
-                   '-fsyntax-only', '-Xclang', '-rewrite-macros', '-o', '-', file]
+        command = [*CLANG, f'-I{include}', *clang, '-fsyntax-only', '-Xclang', '-rewrite-macros', '-o', '-', file]
         ran = subprocess.run(command, stdout=subprocess.PIPE, stderr=subprocess.PIPE, stdin=subprocess.DEVNULL)
         if ran.returncode:
             raise Trouble(f'{file}: the macros cannot be expanded:\n{ran.stderr.decode("utf-8", "replace").rstrip()}')
@@ -48,7 +49,7 @@ def expand_macros(files: list[str], clang: list[str], include: str, folder: str)
 
 
 def overlay(files: dict[str, bytes], folder: str) -> list[str]:
-    """Arguments for clang, by which it reads these contents in place of the files."""
+    """The arguments by which clang reads these contents in place of the files."""
     roots = []
     for number, (file, content) in enumerate(sorted(files.items())):
         path = os.path.join(folder, f'edited.{number}.c')

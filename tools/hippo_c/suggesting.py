@@ -1,10 +1,11 @@
-"""The suggestions for all groups: found by hippo's repair, tried by clang, shown, written as a diff, verified."""
+"""The suggestions for all groups: from hippo's repair, compiled by clang, shown, written as a diff, verified."""
 import os
 import subprocess
 import tempfile
 from dataclasses import dataclass, replace
 
 from . import running
+from .clang import CLANG
 from .diagnostics import Printer, amount
 from .edits import Additions
 from .fixes import Fixer, Suggestion
@@ -22,10 +23,12 @@ class Suggestions:
     additions: Additions
 
     def of(self, group: Group) -> Suggestion | None:
+        """The suggestion for a group."""
         return next((suggestion for one, suggestion in self.by_group if one is group), None)
 
     @property
     def without_edit(self) -> int:
+        """The number of suggestions without an edit."""
         return sum(suggestion.additions is None for _, suggestion in self.by_group)
 
 
@@ -39,6 +42,7 @@ def repaired_program(session: Session, results: list[Checked], thin: bool = Fals
 
 
 def read_repair(session: Session, path: str) -> Repair:
+    """What the repair added, from the repaired text."""
     with open(path, encoding='latin-1') as file:
         return Repair(session.program, Program(file.read()))
 
@@ -60,7 +64,7 @@ def suggestions_for(session: Session, results: list[Checked]) -> Suggestions:
 
 
 def keep_compiling(session: Session, found: Suggestions) -> None:
-    """Puts the edits together; those with which clang does not compile a file are left out."""
+    """Joins the edits, without those that clang does not compile."""
     for _, suggestion in found.by_group:
         if suggestion.additions:
             found.additions.merge(suggestion.additions)
@@ -81,8 +85,7 @@ def compiles(session: Session, additions: Additions) -> bool:
     with tempfile.TemporaryDirectory(prefix='hippo-c-') as folder:
         edited = overlay(additions.edited(), folder)
         files = [file for file in session.request.files if file.endswith('.c')]
-        flags = ['-mclwb', '-mclflushopt', '-Werror=implicit-function-declaration', f'-I{session.names.include}']
-        command = ['clang-19', '-w', '-fsyntax-only', '-target', 'x86_64-pc-linux-gnu', *flags, *session.request.clang]
+        command = [*CLANG, '-fsyntax-only', '-Werror=implicit-function-declaration', f'-I{session.names.include}', *session.request.clang]
         ran = subprocess.run([*command, *edited, *files], stderr=subprocess.DEVNULL, stdin=subprocess.DEVNULL)
         return ran.returncode == 0
 
@@ -108,7 +111,7 @@ def verify(session: Session, results: list[Checked], found: Suggestions) -> list
 
 
 def print_verified(printer: Printer, after: list[Checked], found: Suggestions) -> bool:
-    """What the check of the edited C found; whether it is nothing."""
+    """Prints what the check of the edited C found; returns whether it is nothing."""
     reports = sum(checked.reports for checked in after)
     ended = all(checked.ended.startswith('stop') for checked in after)
     left = f', {amount(found.without_edit, "suggestion")} left to be made by hand' if found.without_edit else ''
@@ -118,7 +121,7 @@ def print_verified(printer: Printer, after: list[Checked], found: Suggestions) -
 
 
 def write_diff(found: Suggestions, path: str, printer: Printer) -> None:
-    """The diff into a file, or to standard output for `-`."""
+    """Writes the diff into a file, or to standard output if the path is `-`."""
     text = found.additions.diff()
     if path == '-':
         printer.stream.write(text)

@@ -1,5 +1,6 @@
-"""Statements of C by clang's syntax tree: where a place stands, what is stored there, where a line can be added."""
+"""Statements of C by clang's syntax tree: the statement at a place, what it stores, and where a line can be added."""
 import re
+from collections.abc import Iterator
 from dataclasses import dataclass, field
 from functools import cache
 
@@ -7,7 +8,7 @@ BODIES = {'IfStmt': (1, 2), 'WhileStmt': (1,), 'DoStmt': (0,), 'ForStmt': (4,), 
 LABELS = ('CaseStmt', 'DefaultStmt', 'LabelStmt', 'AttributedStmt')
 CONDITIONS = ('ConditionalOperator', 'BinaryConditionalOperator', 'StmtExpr')
 COMMENT_OR_TEXT = re.compile(rb'\s+|//[^\n]*|/\*.*?\*/|"(?:[^"\\]|\\.)*"|\'(?:[^\'\\]|\\.)*\'|.', re.S)
-# Which arguments of a C library's function are the place and the number of the bytes that it stores.
+# For functions of the C library: the address and the number of the bytes that a call stores, from its arguments.
 RANGES = {'memcpy': ('{0}', '{2}'), 'memmove': ('{0}', '{2}'), 'memset': ('{0}', '{2}'), 'bzero': ('{0}', '{1}'),
           'strncpy': ('{0}', '{2}'), 'strcpy': ('{0}', 'strlen({0}) + 1'), 'strcat': ('{0}', 'strlen({0}) + 1'),
           'sprintf': ('{0}', 'strlen({0}) + 1'), 'snprintf': ('{0}', 'strlen({0}) + 1')}
@@ -15,7 +16,7 @@ RANGES = {'memcpy': ('{0}', '{2}'), 'memmove': ('{0}', '{2}'), 'memset': ('{0}',
 
 @dataclass
 class Node:
-    """A node of the tree, with the bytes of its file that it takes; `macro` says that one end is in an expansion."""
+    """A node of the tree, with its range of bytes in its file; `macro` is true if one end lies in the expansion of a macro."""
     kind: str
     begin: int
     end: int
@@ -24,20 +25,22 @@ class Node:
     name: str = ''
     inner: list['Node'] = field(default_factory=list)
 
-    def walk(self):
+    def walk(self) -> Iterator['Node']:
+        """The node and all nodes in it."""
         yield self
         for child in self.inner:
             yield from child.walk()
 
     @property
     def stores(self) -> bool:
+        """Whether the node itself is an assignment, an increment or a decrement."""
         return (self.kind == 'BinaryOperator' and self.opcode == '=' or self.kind == 'CompoundAssignOperator'
                 or self.kind == 'UnaryOperator' and self.opcode in ('++', '--'))
 
 
 @dataclass
 class Statement:
-    """A statement that a place stands in; `role` is 'list' in braces, 'body' alone under an `if` or a loop, or 'other'."""
+    """A statement around a place; `role` is 'list' in braces, 'body' alone under an `if` or a loop, or 'other'."""
     node: Node
     begin: int
     end: int
@@ -47,10 +50,11 @@ class Statement:
 class Tree:
     """A function as clang parsed it, and the bytes of its file."""
 
-    def __init__(self, file: str, source: bytes, function: Node):
+    def __init__(self, file: str, source: bytes, function: Node) -> None:
         self.file, self.source, self.function = file, source, function
 
     def offset(self, line: int, column: int) -> int:
+        """The offset of a place in the file, or -1 if there is no such line."""
         starts = line_starts(self.source)
         return starts[line - 1] + max(column, 1) - 1 if 0 < line <= len(starts) else -1
 
@@ -67,17 +71,17 @@ class Tree:
         return found
 
     def reach(self, node: Node) -> int:
-        """Where a node ends, and a statement out of a macro after its semicolon."""
+        """Where a node ends; for a statement from a macro, after its semicolon."""
         return self.semicolon(node.begin) if node.macro else node.end
 
     def stop(self, node: Node) -> int:
-        """Where a statement ends: after its semicolon, where it has one."""
+        """Where a statement ends: after its semicolon, if it has one."""
         if node.kind.endswith('Stmt') and node.kind not in ('DeclStmt', 'ReturnStmt', 'DoStmt') and not node.macro:
             return node.end
         return self.semicolon(node.begin if node.macro else node.end - 1)
 
     def semicolon(self, place: int) -> int:
-        """After the first semicolon from a place on that is in no parentheses."""
+        """The offset after the first semicolon from a place on that is outside of brackets."""
         depth = 0
         for token in COMMENT_OR_TEXT.finditer(self.source, place):
             depth += (token[0] in (b'(', b'[', b'{')) - (token[0] in (b')', b']', b'}'))
@@ -86,6 +90,7 @@ class Tree:
         return len(self.source)
 
     def text(self, begin: int, end: int) -> str:
+        """The text of a range."""
         return self.source[begin:end].decode('utf-8', 'surrogateescape')
 
     def indent(self, place: int) -> str:
@@ -94,7 +99,7 @@ class Tree:
         return re.match(rb'[ \t]*', self.source[start:place])[0].decode()
 
     def stored(self, statement: Statement, place: int) -> str | None:
-        """The expression that the statement stores to at a place, where it stands there and can be said again."""
+        """The expression to which the statement stores at a place, if it can be evaluated again without an effect."""
         if any(node.kind in CONDITIONS or node.opcode in ('&&', '||') for node in statement.node.walk()):
             return None
         stores = [node for node in statement.node.walk() if node.stores]
@@ -118,11 +123,10 @@ class Tree:
             return node.begin if node.begin < left.begin else self.after(left.end)
         if not left.macro:
             return self.after(left.end)
-        found = self.source.find(node.opcode.encode(), left.begin, node.inner[1].begin)
-        return found
+        return self.source.find(node.opcode.encode(), left.begin, node.inner[1].begin)
 
     def after(self, place: int) -> int:
-        """The first place from here on that is in no comment and no blank."""
+        """The first offset from a place on that is in no comment and no blank."""
         for token in COMMENT_OR_TEXT.finditer(self.source, place):
             if not token[0].isspace() and not token[0].startswith((b'//', b'/*')):
                 return token.start()
@@ -148,7 +152,7 @@ class Tree:
 
 
 def role_of(parent: Node, number: int) -> str:
-    """What a child of a node is as a statement; nothing where it is none."""
+    """The role of a child of a node as a statement; an empty text if it is none."""
     if parent.kind == 'CompoundStmt':
         return 'list'
     if parent.kind in LABELS:
@@ -161,6 +165,7 @@ def role_of(parent: Node, number: int) -> str:
 
 
 def has_effect(node: Node) -> bool:
+    """Whether an expression stores or calls."""
     return any(part.stores or part.kind == 'CallExpr' for part in node.walk())
 
 
@@ -177,6 +182,7 @@ def address_of(expression: str) -> str:
 
 @cache
 def line_starts(source: bytes) -> list[int]:
+    """The offsets at which lines begin."""
     starts = [0]
     for found in re.finditer(rb'\n', source):
         starts.append(found.end())

@@ -1,4 +1,4 @@
-"""Several inputs together: what one repair for all of them takes, by `hippo many`."""
+"""Several inputs together: what one repair for all of them adds, by `hippo many`."""
 from .diagnostics import Printer
 from .program import parse_site
 from .session import Checked, Session
@@ -20,4 +20,4 @@ def print_together(printer: Printer, session: Session, results: list[Checked]) -
             site = parse_site(words[2])
             place = session.places.first((site,))
             of = '' if place else f" of '{session.program.functions[site[0]].name_in_c}'"
-            printer.diagnostic(place, 'note', f'{words[4]} of {len(results)} inputs ask for {WHAT[words[1]]}{of}')
+            printer.diagnostic(place, 'note', f'{words[4]} of {len(results)} inputs need {WHAT[words[1]]}{of}')

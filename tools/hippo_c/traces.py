@@ -1,4 +1,5 @@
-"""What a trace says: what ran, which objects were stored to, and the entries that are wanted."""
+"""What a trace has: counts of entries, the objects that were stored to, and the wanted stores."""
+from collections.abc import Container, Iterator
 from dataclasses import dataclass, field
 
 from .program import Program
@@ -6,7 +7,7 @@ from .program import Program
 
 @dataclass
 class Trace:
-    """The counts of a trace and the addresses and sizes of the stores that are wanted."""
+    """The counts of a trace, and the addresses and sizes of the wanted stores."""
     entries: int = 0
     stores: int = 0
     asserts: int = 0
@@ -19,14 +20,14 @@ class Trace:
     wanted: dict[int, tuple[int, int]] = field(default_factory=dict)
 
 
-def pieces(path: str):
-    """The entries of a trace that hippo wrote, one a line."""
+def pieces(path: str) -> Iterator[str]:
+    """The entries of a trace that hippo wrote, which has one on each line."""
     with open(path, encoding='ascii') as file:
         for line in file:
             yield line.rstrip('\n')
 
 
-def read_trace(path: str, program: Program, wanted=frozenset()) -> Trace:
+def read_trace(path: str, program: Program, wanted: Container[int] = frozenset()) -> Trace:
     """Reads a trace once; `wanted` has the numbers of stores whose address and size are kept."""
     trace, missing = Trace(), len(program.persistent)
     for number, entry in enumerate(pieces(path), 1):
@@ -53,7 +54,7 @@ def read_trace(path: str, program: Program, wanted=frozenset()) -> Trace:
 
 
 def keep_store(trace: Trace, program: Program, number: int, entry: str, is_wanted: bool) -> None:
-    """Notes the object of a store, and the store itself where it is wanted."""
+    """Notes the object of a store, and the store itself if it is wanted."""
     _, address, _, size = entry.split(';')
     found = program.object_at(int(address, 16))
     if found:

@@ -28,7 +28,7 @@ class Trap:
 
 
 def may_trap(instruction: Instruction, kind: str, program: Program) -> bool:
-    """Whether an instruction is of those that can end with a trap of this kind."""
+    """Whether an instruction can trap in this way."""
     text = instruction.text
     if kind in ('address', 'misaligned'):
         word = text.partition(' = ')[2] or text
@@ -42,7 +42,7 @@ def may_trap(instruction: Instruction, kind: str, program: Program) -> bool:
 
 
 def find_trap(program: Program, numbers: list[int], kind: str) -> Trap | None:
-    """The path to the trap that ends the run on these numbers, or nothing where the copies end in another way."""
+    """The path to the trap that ends the run on these numbers, or nothing if the marked copies end in another way."""
     calls = standing_calls(program, numbers, kind)
     if calls is None:
         return None
@@ -71,7 +71,7 @@ def standing_calls(program: Program, numbers: list[int], kind: str) -> list[Site
 
 
 def last_candidate(program: Program, numbers: list[int], kind: str, function: str) -> Site | None:
-    """The last instruction of a function, of those that can trap so, that the run comes to."""
+    """The last instruction of a function that the run executes, among those that can trap in this way."""
     sites = [site for site, instruction in program.sites() if site[0] == function and may_trap(instruction, kind, program)]
     by_site = {site: ([str(number)], []) for number, site in enumerate(sites)}
     text = marked_text(program, lambda site, _: by_site.get(site, ([], [])))

@@ -2,9 +2,9 @@
 
 
 class Trouble(Exception):
-    """A step failed: its message, what the user can do about it, and the step where a program of ours answered."""
+    """A step failed: the message, what the user can do about it, and the step, if a program of this project gave the message."""
 
-    def __init__(self, message: str, hint: str = '', step: str = ''):
+    def __init__(self, message: str, hint: str = '', step: str = '') -> None:
         super().__init__(message)
         self.hint, self.step = hint, step
 

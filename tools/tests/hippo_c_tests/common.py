@@ -5,61 +5,77 @@ import subprocess
 import sys
 import tempfile
 import unittest
+from typing import Any
 
 sys.dont_write_bytecode = True
 TOOLS = os.path.dirname(os.path.dirname(os.path.dirname(os.path.abspath(__file__))))
 TOP = os.path.dirname(TOOLS)
 EXAMPLES = os.path.join(TOP, 'examples')
 sys.path.insert(0, TOOLS)
+from hippo_c.program import Program  # noqa: E402
+from hippo_c.running import hippo_program  # noqa: E402
+
 RING_INPUT = ['--input', '12', '-5', '3', '-10', '0']
 
 
 class Case(unittest.TestCase):
     """A test with a folder of its own, in which commands run."""
 
-    def setUp(self):
+    def setUp(self) -> None:
+        """Makes the folder."""
         room = tempfile.TemporaryDirectory(prefix='hippo-c-test-')
         self.addCleanup(room.cleanup)
         self.folder = room.name
 
-    def path(self, name):
+    def path(self, name: str) -> str:
+        """The path of a file in the folder."""
         return os.path.join(self.folder, name)
 
-    def write(self, name, text):
+    def write(self, name: str, text: str) -> str:
+        """Writes a file, and returns its name."""
         with open(self.path(name), 'w', encoding='utf-8', newline='') as file:
             file.write(text)
         return name
 
-    def read(self, name):
+    def read(self, name: str) -> str:
+        """The text of a file."""
         with open(self.path(name), encoding='utf-8', newline='') as file:
             return file.read()
 
-    def take(self, *path):
-        """Copies a file of the examples; its name."""
+    def take(self, *path: str) -> str:
+        """Copies a file of the examples, and returns its name."""
         shutil.copy(os.path.join(EXAMPLES, *path), self.folder)
         return path[-1]
 
-    def command(self, *words, **more):
+    def command(self, *words: str, **more: Any) -> subprocess.CompletedProcess:
         """Runs a command in the folder."""
-        return subprocess.run(words, cwd=self.folder, stdin=subprocess.DEVNULL, capture_output=True, text=True, **more)
+        return subprocess.run(words, cwd=self.folder, stdin=subprocess.DEVNULL, text=True,
+                              **{'stdout': subprocess.PIPE, 'stderr': subprocess.PIPE, **more})
 
-    def hippo_c(self, *words, code=None, **more):
-        """Runs hippo-c; its exit code is checked where one is given."""
+    def hippo_c(self, *words: str, code: int | None = None, **more: Any) -> subprocess.CompletedProcess:
+        """Runs hippo-c, which must end with the exit code if one is given."""
         ran = self.command(sys.executable, os.path.join(TOOLS, 'hippo-c'), *words, **more)
         if code is not None:
-            self.assertEqual(ran.returncode, code, ran.stdout + ran.stderr)
+            self.assertEqual(ran.returncode, code, f'{ran.stdout}{ran.stderr}')
         return ran
 
-    def hippo(self, *words):
-        from hippo_c.running import hippo_program
+    def refused(self, reason: str, *words: str, **more: Any) -> None:
+        """hippo-c refuses words: exit code 2, the reason on standard error without a traceback, and nothing on standard output."""
+        ran = self.hippo_c(*words, code=2, **more)
+        self.assertIn(reason, ran.stderr, words)
+        self.assertNotIn('Traceback', ran.stderr, words)
+        self.assertIn(ran.stdout, ('', None), words)
+
+    def hippo(self, *words: str) -> subprocess.CompletedProcess:
+        """Runs hippo."""
         return self.command(hippo_program(), *words)
 
-    def lower(self, *words):
+    def lower(self, *words: str) -> str:
         """The lowered text of files, with places."""
         ran = self.command(sys.executable, os.path.join(TOOLS, 'lower'), '--lines', *words)
         self.assertEqual(ran.returncode, 0, ran.stderr)
         return ran.stdout
 
-    def program(self, *words):
-        from hippo_c.program import Program
+    def program(self, *words: str) -> Program:
+        """The lowered program of files."""
         return Program(self.lower(*words))

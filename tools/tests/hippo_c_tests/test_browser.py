@@ -25,7 +25,7 @@ document.title = JSON.stringify(found);
 class Browser(Case):
     """What the page does when it is used."""
 
-    def test_keys_filter_and_badges(self):
+    def test_keys_filter_and_badges(self) -> None:
         self.take('ring_buffer', 'ring.c')
         self.hippo_c('check', 'ring.c', '--html', 'a.html', *RING_INPUT, code=1)
         self.write('a.html', self.read('a.html').replace('</body>', PROBE))

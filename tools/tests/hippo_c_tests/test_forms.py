@@ -17,11 +17,15 @@ class Page(html.parser.HTMLParser):
 
     EMPTY = {'meta', 'input', 'br', 'link'}
 
-    def __init__(self):
+    def __init__(self) -> None:
         super().__init__()
-        self.open, self.ids, self.outside, self.rows = [], [], [], 0
+        self.open: list[str] = []
+        self.ids: list[str] = []
+        self.outside: list[str] = []
+        self.rows = 0
 
-    def handle_starttag(self, tag, attributes):
+    def handle_starttag(self, tag: str, attributes: list[tuple[str, str | None]]) -> None:
+        """Opens an element."""
         given = dict(attributes)
         self.ids += [given['id']] if 'id' in given else []
         self.outside += [given[name] for name in ('src', 'href') if name in given]
@@ -29,18 +33,21 @@ class Page(html.parser.HTMLParser):
         if tag not in self.EMPTY:
             self.open.append(tag)
 
-    def handle_endtag(self, tag):
-        assert self.open.pop() == tag, tag
+    def handle_endtag(self, tag: str) -> None:
+        """Closes the last open element, which must have this name."""
+        if self.open.pop() != tag:
+            raise AssertionError(f'</{tag}> closes another element')
 
 
 class Forms(Case):
     """The forms of one answer."""
 
-    def setUp(self):
+    def setUp(self) -> None:
+        """Takes the ring buffer."""
         super().setUp()
         self.take('ring_buffer', 'ring.c')
 
-    def test_json_says_what_the_text_says(self):
+    def test_json_says_what_the_text_says(self) -> None:
         ran = self.hippo_c('check', 'ring.c', '--fix', '--json', 'a.json', *RING_INPUT, code=1)
         answer = json.loads(self.read('a.json'))
         groups = answer['inputs'][0]['groups']
@@ -52,7 +59,7 @@ class Forms(Case):
         only = self.hippo_c('check', 'ring.c', '--fix', '--json', '-', *RING_INPUT, code=1)
         self.assertEqual(json.loads(only.stdout), answer)
 
-    def test_sarif_has_what_is_required(self):
+    def test_sarif_has_what_is_required(self) -> None:
         self.hippo_c('check', 'ring.c', '--sarif', 'a.sarif', *RING_INPUT, code=1)
         log = json.loads(self.read('a.sarif'))
         run = log['runs'][0]
@@ -75,21 +82,21 @@ class Forms(Case):
             self.assertIn('text', result['relatedLocations'][0]['message'])
             self.assertRegex(result['partialFingerprints']['hippoStore/v1'], r'^[0-9a-f]{64}$')
 
-    def test_fingerprints_stay_when_lines_move(self):
-        def prints(name):
+    def test_fingerprints_stay_when_lines_move(self) -> None:
+        def fingerprints(name: str) -> list[dict]:
             self.hippo_c('check', name, '--sarif', 'a.sarif', *RING_INPUT, code=1)
             return [result['partialFingerprints'] for result in json.loads(self.read('a.sarif'))['runs'][0]['results']]
         self.write('moved.c', '\n// one\n// two\n' + self.read('ring.c'))
-        self.assertEqual(prints('ring.c'), prints('moved.c'))
+        self.assertEqual(fingerprints('ring.c'), fingerprints('moved.c'))
 
-    def test_names_in_uris_and_columns_of_other_letters(self):
+    def test_names_in_uris_and_columns_of_other_letters(self) -> None:
         self.write('my ring.c', '#include <hippo.h>\nPERSISTENT long a;\nint main(void) { /* ö */ a = 1; return 0; }\n')
         self.hippo_c('check', 'my ring.c', '--sarif', 'a.sarif', code=1)
         place = json.loads(self.read('a.sarif'))['runs'][0]['results'][0]['locations'][0]['physicalLocation']
         self.assertEqual(place['artifactLocation']['uri'], 'my%20ring.c')
         self.assertEqual(place['region'], {'startLine': 3, 'startColumn': 28})
 
-    def test_the_page_is_whole_and_alone(self):
+    def test_the_page_is_whole_and_alone(self) -> None:
         self.hippo_c('check', 'ring.c', '--html', 'a.html', *RING_INPUT, code=1)
         text = self.read('a.html')
         page = Page()
@@ -107,7 +114,7 @@ class Forms(Case):
         self.assertEqual([event[1] for event in events[-2:]], ['store', 'flush'])
         self.assertEqual([event[4] for event in events[-2:]], ['ring.c:62', 'ring.c:63'])
 
-    def test_what_stands_in_c_stays_text(self):
+    def test_what_stands_in_c_stays_text(self) -> None:
         self.write('a.c', '#include <hippo.h>\nPERSISTENT long a;\nint main(void) { a = 1; return 0; } // </script><b>&amp;\n')
         self.hippo_c('check', 'a.c', '--html', 'a.html', code=1)
         page = Page()
@@ -119,7 +126,7 @@ class Forms(Case):
 class Histories(Case):
     """The states of the bytes of a cache line."""
 
-    def test_a_store_a_flush_and_a_fence(self):
+    def test_a_store_a_flush_and_a_fence(self) -> None:
         state = ['.'] * 64
         state = applied(state, (1, 'store', 8, 8))
         self.assertEqual(''.join(state[7:17]), '.' + 's' * 8 + '.')
@@ -129,7 +136,7 @@ class Histories(Case):
         self.assertEqual(''.join(state[7:18]), '.' + 'f' * 7 + 'ss' + '.')
         self.assertEqual(''.join(applied(state, (5, 'fence', 0, 0))[7:18]), '.' * 8 + 'ss' + '.')
 
-    def test_old_events_go_into_the_first_state(self):
+    def test_old_events_go_into_the_first_state(self) -> None:
         history = History(0, 1000)
         for number in range(100):
             history.take((number, 'store', number % 64, 1))

@@ -36,12 +36,13 @@ target_link_libraries(program store)
 class Install(Case):
     """What is put where, and that it runs from there."""
 
-    def setUp(self):
+    def setUp(self) -> None:
+        """Needs a built program."""
         super().setUp()
         if not install.is_program(hippo_program()):
             self.skipTest('hippo is not built')
 
-    def test_an_installation_runs_alone(self):
+    def test_an_installation_runs_alone(self) -> None:
         ran = self.command('python3', '-B', f'{TOOLS}/hippo-c', 'install', 'here', '--program', hippo_program())
         self.assertEqual(ran.returncode, 0, ran.stderr)
         for name in ('bin/hippo', 'bin/hippo-c', 'bin/hippo-lower', 'include/hippo.h', 'share/man/man1/hippo.1',
@@ -54,8 +55,12 @@ class Install(Case):
         self.assertEqual(self.command('hippo-lower', 'ring.c', env=environment).returncode, 0)
         again = self.command('hippo-c', 'install', 'there', env=environment)
         self.assertEqual(again.returncode, 0, again.stderr)
+        onto_itself = self.command('hippo-c', 'install', 'here', env=environment)
+        self.assertEqual((onto_itself.returncode, onto_itself.stdout), (2, ''))
+        self.assertIn('here is the installation that runs this command', onto_itself.stderr)
+        self.assertEqual(self.command('hippo-lower', 'ring.c', env=environment).returncode, 0)
 
-    def test_what_is_no_program_is_refused(self):
+    def test_what_is_no_program_is_refused(self) -> None:
         self.write('script', '#!/bin/sh\n')
         ran = self.hippo_c('install', 'here', '--program', 'script', code=2)
         self.assertIn('script is not a built program', ran.stderr)
@@ -65,7 +70,7 @@ class Install(Case):
 class Words(Case):
     """Completions and manual pages have all options."""
 
-    def test_completions(self):
+    def test_completions(self) -> None:
         for name, text in completions.files(parser()).items():
             path = self.write(os.path.basename(name), text)
             shell = 'zsh' if path.startswith('_') else 'fish' if path.endswith('.fish') else 'bash'
@@ -74,7 +79,7 @@ class Words(Case):
         script = 'source hippo-c; COMP_WORDS=(hippo-c check --ve); COMP_CWORD=2; _hippo_c; echo "${COMPREPLY[*]}"'
         self.assertEqual(self.command('bash', '-c', script).stdout, '--verify-fix\n')
 
-    def test_the_manual_page_has_each_option(self):
+    def test_the_manual_page_has_each_option(self) -> None:
         with open(f'{TOP}/docs/man/hippo-c.1', encoding='utf-8') as file:
             page = file.read().replace('\\-', '-')
         for command, options in completions.commands_of(parser()).items():
@@ -87,21 +92,24 @@ class Words(Case):
 class Builds(Case):
     """The snippets, from a clean folder."""
 
-    def setUp(self):
+    def setUp(self) -> None:
+        """Writes a library, its driver, two inputs and the baseline of the library."""
         super().setUp()
         self.write('store.c', STORE % '  _mm_clwb(&kept);\n')
         self.write('driver.c', DRIVER)
         self.write('inputs', '7\n8\n')
         self.hippo_c('check', 'store.c', 'driver.c', '--inputs', 'inputs', '--write-baseline', 'baseline', code=1)
 
-    def build(self, *words):
+    def build(self, *words: str) -> tuple[int, str]:
+        """The exit code and the output of a build with clang."""
         ran = self.command(*words, env={**os.environ, 'CC': 'clang-19'})
         return ran.returncode, ran.stdout + ran.stderr
 
-    def prints(self, program):
+    def prints(self, program: str) -> None:
+        """The built program prints the number that it reads."""
         self.assertEqual(self.command('bash', '-c', f'echo 9 | {program}').stdout, '9\n')
 
-    def test_make(self):
+    def test_make(self) -> None:
         self.write('Makefile', MAKEFILE.format(hippo_c=f'{TOOLS}/hippo-c', tools=TOOLS))
         code, text = self.build('make', 'program')
         self.assertEqual(code, 0, text)
@@ -112,7 +120,7 @@ class Builds(Case):
         self.assertIn('[missing-flush-and-fence]', text)
 
     @unittest.skipUnless(shutil.which('cmake'), 'cmake is not installed')
-    def test_cmake(self):
+    def test_cmake(self) -> None:
         self.write('CMakeLists.txt', CMAKE.format(tools=TOOLS))
         code, text = self.build('cmake', '-B', 'out', f'-DHIPPO_C={TOOLS}/hippo-c')
         self.assertEqual(code, 0, text)

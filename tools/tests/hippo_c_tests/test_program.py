@@ -1,5 +1,5 @@
 """The reading of texts, reports and repairs."""
-from .common import Case
+from .common import TOOLS, Case
 
 from hippo_c.names import Names
 from hippo_c.plan import Repair
@@ -37,26 +37,27 @@ next:
 class Texts(Case):
     """Texts, with hippo's own answers as the measure."""
 
-    def setUp(self):
+    def setUp(self) -> None:
+        """Records a run of the text."""
         super().setUp()
         self.write('a.ll', TEXT)
         self.write('a.trace', self.hippo('record', 'a.ll').stdout)
         self.found = Program(TEXT)
 
-    def test_addresses_are_those_of_the_trace(self):
+    def test_addresses_are_those_of_the_trace(self) -> None:
         stores = [int(line.split(';')[1], 16) for line in self.read('a.trace').split('\n') if line.startswith('STORE')]
         names = [(self.found.object_at(address)[0].name, self.found.object_at(address)[1]) for address in stores]
         self.assertEqual(names, [('b', 8), ('c', 0), ('a', 0)])
         self.assertEqual(f'{self.found.region_size():#x}', self.read('a.trace').split('\n')[1].split(';')[2])
         self.assertIsNone(self.found.object_at(stores[2] + 1))
 
-    def test_sites(self):
+    def test_sites(self) -> None:
         site = ('main', 'next', 0)
         self.assertEqual(parse_site(show_site(site)), site)
         self.assertEqual(self.found.instruction(site).text, 'store i16 3, ptr @c')
         self.assertIsNone(self.found.instruction(('main', 'next', 9)))
 
-    def test_groups_come_by_their_first_entry(self):
+    def test_groups_come_by_their_first_entry(self) -> None:
         reports = ['report both entry 9 check 20 closed 0 path @put:entry:0 @main:entry:0',
                    'report fence entry 4 check 20 closed 1 flush @main:entry:1 path @main:next:0',
                    'report both entry 7 check 21 closed 1 path @put:entry:0 @main:entry:0',
@@ -66,13 +67,13 @@ class Texts(Case):
                          [('fence', 1, 4, 20), ('both', 2, 7, 21), ('flush', 1, 9, 22)])
         self.assertEqual(groups[0].flush, ('main', 'entry', 1))
 
-    def test_counts_of_a_trace(self):
+    def test_counts_of_a_trace(self) -> None:
         trace = read_trace(self.path('a.trace'), self.found, {4})
         self.assertEqual((trace.stores, trace.asserts, trace.fences, trace.end), (3, 0, 1, 'STOP;0'))
         self.assertEqual(trace.stored, {'a', 'b', 'c'})
         self.assertEqual(trace.entries, len(self.read('a.trace').strip().split('\n')))
 
-    def test_a_repair_is_read_back(self):
+    def test_a_repair_is_read_back(self) -> None:
         repaired = Program(self.hippo('repair', 'a.ll', 'a.trace').stdout)
         repair = Repair(self.found, repaired)
         self.assertEqual(set(repair.clones.values()) | set(self.found.functions), set(self.found.functions))
@@ -82,13 +83,13 @@ class Texts(Case):
             if not added and instruction.callee not in repair.clones:
                 self.assertEqual(instruction.text, original.text)
 
-    def test_a_fence_before_a_fence_belongs_to_its_call(self):
+    def test_a_fence_before_a_fence_belongs_to_its_call(self) -> None:
         repaired = Program(TEXT.replace('  store i8 1, ptr @a\n', '  store i8 1, ptr @a\n  call void @llvm.x86.clwb(ptr @a)\n'
                                         '  call void @llvm.x86.sse.sfence()\n'))
         repair = Repair(self.found, repaired)
         self.assertEqual([item.site for item in repair.insertions], [('main', 'next', 1)] * 2)
 
-    def test_clones_lead_to_their_originals(self):
+    def test_clones_lead_to_their_originals(self) -> None:
         text = TEXT.replace('call void @put(ptr getelementptr (i8, ptr @b', 'call void @put.pm(ptr getelementptr (i8, ptr @b')
         text += 'define void @put.pm(ptr %p) {\nentry:\n  store i64 1, ptr %p\n  call void @llvm.x86.clwb(ptr %p)\n  ret void\n}\n'
         repair = Repair(self.found, Program(text))
@@ -101,11 +102,10 @@ class Texts(Case):
 class Objects(Case):
     """The names of objects by clang's debug information."""
 
-    def test_fields_elements_and_unions(self):
+    def test_fields_elements_and_unions(self) -> None:
         self.write('a.c', '#include <hippo.h>\n#include <stdint.h>\ntypedef struct { char tag; union { long whole; int half[2]; } u;'
                    ' uint16_t grid[2][3]; } cell;\nPERSISTENT static volatile cell cells[4];\nPERSISTENT long plain;\n'
                    'int main(void) { cells[0].tag = 1; plain = 1; return 0; }\n')
-        from .common import TOOLS
         program = self.program('a.c')
         names = Names(program, [self.path('a.c')], [], TOOLS)
         base = next(item.address for item in program.persistent if item.name == 'cells')

@@ -11,15 +11,16 @@ EXTERNAL = os.path.join(TOOLS, 'external_functions.c')
 class Repair(Case):
     """Repaired programs."""
 
-    def build(self, *parts):
+    def build(self, *parts: str) -> None:
         """An executable of object files and C files."""
         built = self.command('clang-19', '-mclwb', '-g', INCLUDE, '-o', 'built', *parts, EXTERNAL)
         self.assertEqual(built.returncode, 0, built.stderr)
 
-    def run_built(self, text):
+    def run_built(self, text: str) -> str:
+        """What the executable prints for an input."""
         return self.command('bash', '-c', f'echo "{text}" | ./built').stdout
 
-    def test_the_text_is_hippos(self):
+    def test_the_text_is_hippos(self) -> None:
         self.take('ring_buffer', 'ring.c')
         ran = self.hippo_c('repair', 'ring.c', '-o', 'ring.ll', '--keep', 'kept', *RING_INPUT, code=0)
         self.assertEqual(self.read('ring.ll'), self.hippo('repair', 'kept/program.ll', 'kept/program.1.trace').stdout)
@@ -29,7 +30,7 @@ class Repair(Case):
         self.assertIn('added: 0 flushes, 1 fence, 1 hoisted call, ', ran.stdout)
         self.hippo_c('check', 'ring.ll', *RING_INPUT, code=0)
 
-    def test_flushes_and_fences_are_those_of_the_traces(self):
+    def test_flushes_and_fences_are_those_of_the_traces(self) -> None:
         self.take('from_c', 'undo.c')
         self.take('from_c', 'undo.in')
         ran = self.hippo_c('repair', 'undo.c', '-o', 'undo.ll', '--keep', 'kept', '--input-file', 'undo.in', code=0)
@@ -38,7 +39,7 @@ class Repair(Case):
                   for word in ('FLUSH', 'FENCE') for name in ('program.1.trace', 'repaired.1.trace')]
         self.assertEqual(list(map(int, found.groups())), counts)
 
-    def test_an_object_file_prints_the_same_and_knows_its_lines(self):
+    def test_an_object_file_prints_the_same_and_knows_its_lines(self) -> None:
         name = self.take('ring_buffer', 'ring.c')
         self.hippo_c('repair', name, '-o', 'ring.o', '--clflush', *RING_INPUT, code=0)
         self.build('ring.o')
@@ -50,7 +51,7 @@ class Repair(Case):
         verified = self.command('llvm-dwarfdump-19', '--verify', 'ring.o')
         self.assertEqual(verified.returncode, 0, verified.stdout)
 
-    def test_inlined_places_are_kept(self):
+    def test_inlined_places_are_kept(self) -> None:
         self.write('set.h', '__attribute__((always_inline)) static inline void set(long *p, long v) {\n  *p = v;\n}\n')
         self.write('a.c', '#include <hippo.h>\n#include "set.h"\nPERSISTENT long a;\nvoid twice(long v) {\n  set(&a, v);\n}\n'
                    'int main(void) {\n  twice(read_i64());\n  return 0;\n}\n')
@@ -62,7 +63,7 @@ class Repair(Case):
         found = self.command('llvm-symbolizer-19', '-e', 'built', *(hex(start + byte) for byte in range(24))).stdout
         self.assertRegex(found, r'set\n\S*set\.h:2:\d+\ntwice\n\S*a\.c:5:\d+\n')
 
-    def test_a_part_goes_into_a_build_without_its_driver(self):
+    def test_a_part_goes_into_a_build_without_its_driver(self) -> None:
         self.write('store.c', '#include <hippo.h>\nPERSISTENT static long kept[9];\nlong used = 4;\nextern long factor;\nlong scaled(long);\n'
                    'static void set(long i, long v) {\n  kept[i] = v;\n}\nvoid put(long i, long v) {\n  set(i, scaled(v) * factor);\n  used++;\n}\n'
                    'long get(long i) { return kept[i]; }\n')
@@ -79,7 +80,7 @@ class Repair(Case):
         self.assertEqual(self.run_built('5'), '18\n5\n')
         self.assertIn('not one of the files', self.hippo_c('repair', 'store.c', 'driver.c', '--for', 'x.c', '-o', 'x.o', code=2).stderr)
 
-    def test_thin_and_several_inputs(self):
+    def test_thin_and_several_inputs(self) -> None:
         self.take('from_c', 'allocator.c')
         ran = self.hippo_c('repair', 'allocator.c', '--thin', '-o', 'a.ll', code=0)
         self.assertRegex(ran.stdout, r'added: .*, \d+ spared\n24 reports before, 0 after')
@@ -88,7 +89,7 @@ class Repair(Case):
         ran = self.hippo_c('repair', 'ring.c', '--inputs', 'inputs', '-o', 'ring.ll', code=0)
         self.assertRegex(ran.stdout, r'input 1: 37 reports before, 0 after.*\ninput 2: \d+ reports? before, 0 after')
 
-    def test_words_that_do_not_fit(self):
+    def test_words_that_do_not_fit(self) -> None:
         self.take('from_c', 'log.c')
         self.assertIn('ends in .ll or .o', self.hippo_c('repair', 'log.c', '-o', 'log', code=2).stderr)
         self.assertEqual(os.listdir(self.folder), ['log.c'])

@@ -138,16 +138,16 @@ tools/lower tools/tests/forms.ll >"$scratch/lowered.ll" 2>"$scratch/notes"
 count "forms.ll prints something else" prints "$scratch/lowered.ll" /dev/null "$scratch/forms.out"
 
 # The tests of tools/lower: C programs feature by feature at each level, refusals, and the runtime.
-if [ -x "$hippo" ]; then export HIPPO=$hippo; fi
+if [ -x "$hippo" ]; then export HIPPO_PROGRAM=$hippo; fi
 for tests in lowering refusals runtime; do
-  count "tools/tests/test_$tests.py fails" python3 "tools/tests/test_$tests.py"
+  count "tools/tests/test_$tests.py fails" python3 -B "tools/tests/test_$tests.py"
 done
 
 # Random programs, if csmith is installed.
 if ! command -v csmith >/dev/null; then
   echo "from C: random programs are skipped, csmith is not installed"
 elif [ -x "$hippo" ]; then
-  count "a random program differs" python3 tools/tests/random_programs.py --hippo "$hippo" --count 6
+  count "a random program differs" python3 -B tools/tests/random_programs.py --hippo "$hippo" --count 6
 fi
 
 echo "from C: $passed passed, $failed failed"

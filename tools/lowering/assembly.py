@@ -1,4 +1,4 @@
-"""Inline assembly: the instructions of persistent memory in their usual spellings, and what has no effect here."""
+"""Inline assembly: flushes and fences in their usual spellings, and instructions without an effect in hippo."""
 from __future__ import annotations
 
 import re
@@ -48,7 +48,7 @@ def lower_assembly(function: Function, tokens: Tokens, target: str) -> None:
 
 
 def tied_values(function: Function, tokens: Tokens, target: str, constraints: list[str]) -> None:
-    """The results of an empty statement, which hide a value from clang: the operands in the same registers."""
+    """The results of an empty statement, by which programs hide a value from clang: the operands in the same registers."""
     tokens.take('(')
     given = []
     while tokens.peek() != ')':

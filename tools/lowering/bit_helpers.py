@@ -17,7 +17,7 @@ shifted:
   ret $type %both
 }''')
 
-# The head of a function whose loop counts from 0 and has, in each turn, what is left of the number.
+# The head of a function whose loop counts from 0; `%left` is the rest of the number in each turn.
 OVER_BITS = '''\
 define $type $name($type %value) {
 entry:
@@ -52,7 +52,6 @@ done:
 none:
   ret $type $bits
 }''')
-
 
 HIGH_PRODUCT = Template('''\
 define i64 $name(i64 %first, i64 %second) {
@@ -90,7 +89,7 @@ far:
 ${far}\
 }''')
 
-# The bits of one half, and those that come in from the other half where the amount is not 0.
+# The bits of one half, with those that come in from the other half if the amount is not 0.
 CARRIED = '''\
   %none = icmp eq i64 %left, 0
   br i1 %none, label %same, label %moved

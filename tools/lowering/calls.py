@@ -35,7 +35,7 @@ class Argument(NamedTuple):
 
 
 class Call(NamedTuple):
-    """A call as clang has it; `fixed` is the number of arguments that are not variable."""
+    """A call of clang's text; `fixed` is the number of arguments that are not variable."""
 
     result: Type
     arguments: list[Argument]
@@ -73,7 +73,7 @@ def lower_call(function: Function, tokens: Tokens, target: str, _word: str) -> N
 
 
 def count_fixed(function: Function, tokens: Tokens) -> int | None:
-    """The number of parameters before `...` in the type of a function, which stands next; nothing where it has none."""
+    """The number of parameters before `...` in the type of a function, which stands next; nothing if it has no `...`."""
     count, variadic = 0, None
     tokens.take('(')
     while tokens.peek() != ')':
@@ -102,7 +102,7 @@ def read_arguments(function: Function, tokens: Tokens) -> list[Argument]:
 
 
 def call_by_name(function: Function, callee: str, call: Call) -> None:
-    """A call of a function that is named."""
+    """A call of a function by its name."""
     module, name = function.module, callee[1:].strip('"')
     if function.written_name == '@main' and name in ENDS and name not in module.own_names:
         module.start.end(function, name, call.arguments[0].values[0] if call.arguments else '1')
@@ -148,7 +148,7 @@ def result_slot(function: Function, types: tuple[str, ...], target: str) -> str:
 def call_text(function: Function, callee: str, signature: Signature, call: Call, slot: str, variable: str) -> str:
     """The text of a call; refused if the type of the function is not that of the call."""
     if not fits(signature, call):
-        raise Refused(f'a call of {callee} by another type than it has', 'mismatch')
+        raise Refused(f'a call of {callee} with another type than its own', 'mismatch')
     given = [f'{piece} {value}' for argument in call.arguments[:call.fixed]
              for piece, value in zip(pieces(argument.type), argument.values)]
     given = given[:len(signature.parameters)]
@@ -161,7 +161,7 @@ def call_text(function: Function, callee: str, signature: Signature, call: Call,
 
 
 def fits(signature: Signature, call: Call) -> bool:
-    """Whether a call has what a function expects. A call without a prototype may give more arguments."""
+    """Whether the types of a call fit a function. A call without a prototype may give more arguments."""
     if call.result not in ('void', signature.result) and pieces(call.result) != pieces(signature.result):
         return False
     if signature.variadic and not call.variadic or signature.by_pointer and call.result == 'void':
@@ -180,7 +180,7 @@ def argument_types(call: Call) -> list[tuple[str, bool]]:
 
 
 def variable_slots(function: Function, call: Call) -> str:
-    """The block with the variable arguments, 8 bytes for each piece; an empty text where there are none."""
+    """The block with the variable arguments, 8 bytes for each piece; an empty text if there are none."""
     variable = call.arguments[call.fixed:]
     if not variable:
         return ''

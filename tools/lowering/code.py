@@ -1,5 +1,5 @@
-"""Addresses of code: each function whose address is taken has a number, by the order of the names, and so has each
-label that is used as a value. The numbers are below every address of data, and a null pointer is none of them."""
+"""Addresses of code. Each function whose address is taken has a number, in the order of the names, and so has each label
+that is used as a value. The numbers are below every address of data, and none of them is 0, the null pointer."""
 from __future__ import annotations
 
 import re
@@ -12,7 +12,7 @@ from .refusals import Refused
 if TYPE_CHECKING:
     from .module import Module
 
-# Numbers are multiples of this one, as addresses of functions are: programs keep marks in the lower bits.
+# Numbers are multiples of this one, as addresses of functions are, since programs keep marks in the lower bits.
 STEP = 16
 END = 65536
 TAKEN = re.compile(GLOBAL_NAME + r'(?![-A-Za-z$._0-9(])')
@@ -23,7 +23,7 @@ BYTES = re.compile(r'\bc"[^"]*"')
 class Code:
     """The numbers of functions and labels."""
 
-    def __init__(self, module: Module):
+    def __init__(self, module: Module) -> None:
         self.module = module
         self.functions: dict[str, int] = {}
         self.labels: dict[tuple[str, str], int] = {}

@@ -9,7 +9,7 @@ NOT_INSTALLED, INTERNAL_ERROR, INTERRUPTED = 69, 70, 130
 class Failure(Exception):
     """The command cannot be carried out; the message says why, and `code` is the exit code."""
 
-    def __init__(self, message: str, code: int):
+    def __init__(self, message: str, code: int) -> None:
         super().__init__(message)
         self.code = code
 

@@ -17,7 +17,7 @@ CASTS = 'zext sext trunc ptrtoint inttoptr'.split()
 FLAGS = set('nuw nsw exact disjoint nneg samesign inbounds nusw inrange'.split())
 ESCAPED = re.compile(rb'\\(\\|[0-9A-Fa-f]{2})')
 
-# Puts an instruction into the function and answers its register.
+# Writes an instruction, and returns its register.
 Emit = Callable[[str], str]
 
 
@@ -30,13 +30,13 @@ def read_pieces(tokens: Tokens, type_: Type, module: Module, emit: Emit) -> list
         if bits(type_) <= 64:
             return [read_scalar(tokens, type_, module, emit)]
         return limbs(read_number(tokens, type_), bits(type_))
-    opening, closing = tokens.take(), tokens
+    opening = tokens.take()
     if opening == '<':
         opening = tokens.take('{')
     if opening not in ('{', '['):
         raise Refused(f'the constant {opening!r} of {show_type(type_)} is not in the subset', 'constant')
     found = []
-    while closing.peek() not in ('}', ']'):
+    while tokens.peek() not in ('}', ']'):
         found += read_pieces(tokens, read_type(tokens, module.named_types), module, emit)
         tokens.take_if(',')
     tokens.take()
@@ -45,7 +45,7 @@ def read_pieces(tokens: Tokens, type_: Type, module: Module, emit: Emit) -> list
 
 
 def note_undefined(word: str, module: Module) -> None:
-    """Says that an undefined value is zero from here on."""
+    """Notes that an undefined value becomes zero."""
     if word != 'zeroinitializer':
         module.notes.add(f'{word} was written as zero')
 
@@ -76,7 +76,7 @@ def signed(number: int) -> int:
 
 
 def read_scalar(tokens: Tokens, type_: str, module: Module, emit: Emit) -> str:
-    """The constant of one piece that stands next; expressions that the subset lacks become instructions."""
+    """The constant of one piece that stands next; an expression that the subset does not have becomes an instruction."""
     if tokens.peek() in ('undef', 'poison', 'zeroinitializer', 'null'):
         note_undefined('zeroinitializer' if tokens.peek() == 'null' else tokens.peek(), module)
         tokens.take()
@@ -151,14 +151,14 @@ def read_expression(tokens: Tokens, word: str, module: Module, emit: Emit) -> st
 
 
 def require_integers(*types: Type) -> None:
-    """Refuses types that are not of the subset in an expression."""
+    """Refuses an expression over types that the subset does not have."""
     for type_ in types:
         if type_ not in INTEGERS and type_ != 'ptr':
             raise Refused(f'a constant expression of {show_type(type_)}', 'constant')
 
 
 def refuse_expression(instruction: str) -> str:
-    """Refuses a constant expression where no instruction can be."""
+    """Refuses a constant expression at a place where no instruction can stand."""
     raise Refused(f'the constant expression {instruction.split()[0]!r} stands where the subset has none', 'constant')
 
 

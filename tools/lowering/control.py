@@ -77,7 +77,7 @@ def computed_goto(function: Function, tokens: Tokens, _target: str, _word: str) 
 
 
 def ret(function: Function, tokens: Tokens, _target: str, _word: str) -> None:
-    """`ret`; a result of several pieces goes through the pointer that the caller gave."""
+    """`ret`; a result of several pieces goes through the pointer that the caller gives."""
     if tokens.peek() == 'void':
         function.put('ret void')
         return
@@ -99,7 +99,7 @@ def unreachable(function: Function, _tokens: Tokens, _target: str, _word: str) -
 
 
 def refuse_exception(_function: Function, _tokens: Tokens, _target: str, word: str) -> None:
-    """Calls that may throw, and what catches."""
+    """Refuses calls that may throw, and handlers."""
     raise Refused(f'{word}: an exception', 'exception')
 
 

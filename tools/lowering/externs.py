@@ -3,7 +3,7 @@ from typing import NamedTuple
 
 
 class Extern(NamedTuple):
-    """What is known of an external function: its result, its parameters, and what it does to cache lines."""
+    """An external function: its result, its parameters, and what it does to cache lines."""
     result: str
     parameters: tuple[str, ...]
     effect: str = ''

@@ -7,6 +7,7 @@ from dataclasses import dataclass
 
 from .commands import NO_FILE, READ_FAULT, Failure, output_of
 from .inline import link_inline
+from .names import unescaped
 from .options import Options
 from .runtime import Runtime, undefined
 
@@ -18,7 +19,7 @@ COMPILE_FLAGS = '''-S -emit-llvm -target x86_64-pc-linux-gnu -mclwb -mclflushopt
 
 NOT_PUBLIC = re.compile(r'\b(?:internal|private|hidden|available_externally|linkonce\w*|weak\w*)\b')
 
-# LLVM's passes that run if a text has what they lower.
+# LLVM's passes that run if the text has an instruction that they lower.
 ON_DEMAND = {
     'lower-constant-intrinsics': r'@llvm\.(?:objectsize|is\.constant)\.',
     'expand-large-div-rem': r' [us](?:div|rem) (?:exact )?i(?:6[5-9]|[7-9][0-9]|1[0-2][0-9]) ',
@@ -29,8 +30,10 @@ ATOMIC = r'^ .*\b(?:atomic|cmpxchg|atomicrmw|fence)\b'
 
 @dataclass
 class Program:
-    """The module of a program: its text, in which each value and each block has a name; the names that its files
-    define, those that other object files may use, those that only an option would link, and those that one links."""
+    """The module of a program.
+
+    In `text` each value and each block has a name. `own_names` are the names that the files define, `public_names` those that other
+    object files may use. `gated_names` and `assumed_names` are names of the runtime with the option that would link them, or does."""
 
     text: str
     own_names: set[str]
@@ -70,7 +73,7 @@ def command_for(file: str, level: str, options: Options) -> list[str]:
 
 
 def global_places(options: Options) -> dict[str, str]:
-    """The places of globals in C, `FILE:LINE: `, which line tables do not have."""
+    """The places of globals in C, as `FILE:LINE: `, since line tables do not have them."""
     found = {}
     for file in options.files:
         if file.endswith('.c'):
@@ -78,12 +81,12 @@ def global_places(options: Options) -> dict[str, str]:
             files = dict(re.findall(r'^(!\d+) = !DIFile\(filename: "([^"]*)"', text, re.M))
             for name, where, line in re.findall(
                     r'!DIGlobalVariable\(name: "([^"]*)",.* file: (!\d+), line: (\d+)', text):
-                found.setdefault(name, f'{files.get(where, file)}:{line}: ')
+                found.setdefault(name, f'{unescaped(files[where]) if where in files else file}:{line}: ')
     return found
 
 
 def module_of(file: str, options: Options, target: str) -> str:
-    """The name of a file with the module of one C file, or of one that is a text already."""
+    """The name of a file with the module of one file, which is C or LLVM's text form."""
     read(file)
     if not file.endswith('.c'):
         return file

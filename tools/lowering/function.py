@@ -41,9 +41,9 @@ class Signature(NamedTuple):
 
 
 class Function(Writer):
-    """The lines of a function in, its text in the subset out."""
+    """Reads the lines of a function, and writes its text in the subset."""
 
-    def __init__(self, module: Module, head: str, body: list[str]):
+    def __init__(self, module: Module, head: str, body: list[str]) -> None:
         super().__init__(ADDED_COMMENT if module.line_tables else '')
         self.module = module
         self.values: dict[str, list[str]] = {}
@@ -107,7 +107,7 @@ class Function(Writer):
         self.parameters += [f'{piece} {name}' for piece, name in zip(pieces(type_), names)]
 
     def text(self) -> str:
-        """The function in the subset; what is refused is noted in the module."""
+        """The function in the subset; refusals go to the module."""
         collect_same_values(self)
         for line, metadata in self.lines:
             try:
@@ -141,7 +141,7 @@ class Function(Writer):
         INSTRUCTIONS[word](self, tokens, target[1] if target else '', word)
 
     def check_same(self, line: str) -> None:
-        """Refuses a value that needs an option which is not given."""
+        """Refuses a value that needs an option that is not given."""
         if '@llvm.threadlocal.address' in line and not self.module.options.single_thread:
             raise Refused('thread-local data', 'thread')
 
@@ -161,7 +161,7 @@ class Function(Writer):
         return [self.piece(written, number) for number in range(count)]
 
     def become(self, target: str, type_: Type, values: list[str]) -> None:
-        """Gives the pieces of a register the values that were computed for it; pieces that were named before are copies."""
+        """Gives the pieces of a register their values. Pieces that an earlier line named already become copies of the values."""
         if target not in self.values:
             self.values[target] = values
             return

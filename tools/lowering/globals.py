@@ -41,12 +41,12 @@ def global_text(module: Module, line: str) -> str:
 
 
 def take_thread_local(module: Module, tokens: Tokens) -> None:
-    """A thread's own data, which is a global of one thread."""
+    """Takes thread-local data as a global, if one thread runs."""
     if tokens.peek() == '(':
         tokens.skip_parentheses()
     if not module.options.single_thread:
         raise Refused('thread_local: data of each thread', 'thread')
-    module.notes.add('thread-local data was taken as that of one thread')
+    module.notes.add('thread-local data: a plain global, as --single-thread allows')
 
 
 def properties(module: Module, tokens: Tokens) -> tuple[str, int]:

@@ -22,7 +22,7 @@ OF_CODE = re.compile(r'getelementptr \(i8, ptr null, i64 (\d+)\)$')
 
 
 class Value(NamedTuple):
-    """A constant: a scalar's text, or the values of an aggregate; zeros where it has neither."""
+    """A constant: a scalar's text, or the values of an aggregate; zeros if it has neither."""
 
     type: Type
     text: str = ''
@@ -35,7 +35,8 @@ def read_initial(tokens: Tokens, type_: Type, module: Module) -> tuple[Type, str
     shown = shaped(value)
     if shown is None:
         types, items = flat(merged(scalars_of(value, 0)), size(type_))
-        shown = types, f'{{ {", ".join(f"{show_type(t)} {text}" for t, text in zip(types[1], items))} }}'
+        fields = ', '.join(f'{show_type(field)} {text}' for field, text in zip(types[1], items))
+        shown = types, f'{{ {fields} }}'
     return shown
 
 
@@ -79,7 +80,7 @@ def read_scalar_value(tokens: Tokens, type_: str, module: Module) -> Value:
 
 
 def read_sum(tokens: Tokens, module: Module) -> tuple[str | None, int]:
-    """A constant expression over one address at most: that address, and the number that is added to it."""
+    """A constant expression over at most one address: that address, and the number that is added to it."""
     if tokens.kind() == 'number':
         return None, int(tokens.take())
     if tokens.peek() not in ('ptrtoint', 'inttoptr', 'add', 'sub', 'zext', 'trunc'):
@@ -109,7 +110,7 @@ def read_sum(tokens: Tokens, module: Module) -> tuple[str | None, int]:
 
 
 def shaped(value: Value) -> tuple[Type, str] | None:
-    """Type and text of a value with the shape of its type, or nothing where the subset has no such type."""
+    """Type and text of a value with the shape of its type, or nothing if the subset has no such type."""
     if value.items is None:
         if value.text.startswith('c"'):
             return value.type, byte_list(value.text)

@@ -12,7 +12,7 @@ INLINE = re.compile(r'^define available_externally [^@\n]*@("[^"\n]*"|[-A-Za-z$.
 def link_inline(program: str, text: str, commands: list[list[str]], level: str, folder: str) -> tuple[str, set[str]]:
     """The name of a file with the program and the inline functions that it needs, and the names of these functions.
 
-    The commands are those that compile the C files; their optimisation comes after the bodies are kept."""
+    The commands compile the C files. They run without LLVM's passes, which would drop the bodies; the passes run afterwards."""
     needed, found = undefined(text), set()
     for number, command in enumerate(commands):
         body = output_of([*command, '-Xclang', '-disable-llvm-passes', '-o', '-'])

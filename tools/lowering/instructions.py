@@ -1,5 +1,5 @@
-"""What lowers each instruction, by its word. Each is called with the function, the tokens after the word, the register
-that is assigned (an empty text where there is none), and the word."""
+"""The functions that lower instructions, by the word of the instruction. Each takes the function, the tokens after the word,
+the register that is assigned (an empty text if there is none), and the word."""
 from .calls import INSTRUCTIONS as CALLS
 from .control import INSTRUCTIONS as CONTROL
 from .integers import INSTRUCTIONS as INTEGERS

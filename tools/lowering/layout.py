@@ -11,7 +11,7 @@ from .types import INTEGERS, Type, alignment, bits, container, field_offsets, ro
 
 @lru_cache(None)
 def natural(type_: Type) -> Type | None:
-    """The type in the subset with the same fields at the same offsets, or nothing where there is none."""
+    """The type in the subset with the same fields at the same offsets, or nothing if there is none."""
     if isinstance(type_, str):
         return ('array', size(type_) // 8, 'i64') if bits(type_) > 64 else container(type_)
     if type_[0] == 'array':
@@ -32,7 +32,7 @@ def words(count: int, step: int) -> Type:
 
 
 def room(type_: Type, least: int = 1) -> Type:
-    """A type in the subset of the size of a type, at its alignment and at least at another one, of at most 8."""
+    """A type in the subset with the size of a type, and with its alignment or a greater one, `least`, up to 8."""
     same, wanted = natural(type_), min(max(alignment(type_), least), 8)
     if same is not None and alignment(same) >= wanted:
         return same
@@ -40,7 +40,7 @@ def room(type_: Type, least: int = 1) -> Type:
 
 
 def parts(type_: str) -> list[tuple[int, str]]:
-    """Offsets and types of the accesses of the subset that cover what memory has of an integer of any width."""
+    """Offsets and types of the accesses of the subset that cover the bytes of an integer of any width."""
     if type_ == 'ptr' or type_ in INTEGERS:
         return [(0, type_)]
     found, offset, end = [], 0, -(-bits(type_) // 8)
@@ -59,7 +59,7 @@ def known_alignment(least: int, offset: int) -> int:
 
 
 def flat(fields: list[tuple[int, Type, str]], total: int) -> tuple[Type, str]:
-    """A struct in the subset, with its constant, that has constants at offsets, which ascend, and zeros elsewhere."""
+    """A struct in the subset, and its fields as constants: the given constants at ascending offsets, and zeros between them."""
     types, items, end = [], [], 0
     for offset, type_, text in [*fields, (total, None, '')]:
         aligned = round_up(end, alignment(type_)) if type_ is not None else end

@@ -11,14 +11,16 @@ import os
 import re
 from typing import NamedTuple
 
+from .names import unescaped
+from .places import Places
+
 ADDED = 'added'
 PLAIN_NAME = re.compile(r'[-\w./+@~=,]+', re.ASCII)
 FRAME = re.compile(r'("(?:[^"\\]|\\.)*"|[-\w./+@~=,]+):(\d+):(\d+)(?: in (\S+))?', re.ASCII)
-ESCAPED = re.compile(rb'\\([0-9A-Fa-f]{2}|\\)')
 
 
 class Frame(NamedTuple):
-    """A place in C; the function is named where it is not the one that the lowered text has the instruction in."""
+    """A place in C; the function is named if it is not the one that has the instruction in the lowered text."""
     file: str
     line: int
     column: int
@@ -26,14 +28,14 @@ class Frame(NamedTuple):
 
 
 class LineTables:
-    """What clang's line tables say of each instruction."""
+    """The places of instructions, by clang's line tables."""
 
-    def __init__(self, places):
+    def __init__(self, places: Places) -> None:
         self.places = places
-        self.comments = {}
+        self.comments: dict[str, str] = {}
 
-    def comment(self, metadata: dict) -> str:
-        """The comment after an instruction that has this metadata, or nothing where it has no place."""
+    def comment(self, metadata: dict[str, str]) -> str:
+        """The comment after an instruction that has this metadata, or an empty text if it has no place."""
         number = metadata.get('dbg')
         if number is None:
             return ''
@@ -41,7 +43,7 @@ class LineTables:
             self.comments[number] = as_comment(show(self.frames(number)))
         return self.comments[number]
 
-    def head_comment(self, metadata: dict) -> str:
+    def head_comment(self, metadata: dict[str, str]) -> str:
         """The comment after the head of a function."""
         number = metadata.get('dbg')
         name = self.text_field(number, 'name')
@@ -61,8 +63,8 @@ class LineTables:
             number = outer
         return found
 
-    def file(self, scope):
-        """The file that the scope, or else the next scope around it, is in."""
+    def file(self, scope: str | None) -> str:
+        """The file of a scope, or of the next scope around it that has one."""
         while scope:
             named = self.places.field(scope, 'file')
             if named:
@@ -71,13 +73,13 @@ class LineTables:
         return ''
 
     def file_name(self, number: str) -> str:
-        """The name of a file as it was given to clang; its whole path where clang took a folder off its front."""
+        """The name of a file as it was given to clang; its whole path if clang removed a folder from its front."""
         name, folder = self.text_field(number, 'filename') or '', self.text_field(number, 'directory')
         if folder and folder != os.getcwd():
             name = os.path.join(folder, name)
         return name
 
-    def function(self, scope):
+    def function(self, scope: str | None) -> str:
         """The name of the function around a scope."""
         while scope:
             name = self.text_field(scope, 'name')
@@ -86,22 +88,19 @@ class LineTables:
             scope = self.places.field(scope, 'scope')
         return '?'
 
-    def text_field(self, number, name):
+    def text_field(self, number: str | None, name: str) -> str | None:
+        """The text in a field."""
         found = re.search(rf'\b{name}: "([^"]*)"', self.places.fields.get(number, ''))
         return found and unescaped(found[1])
 
-    def number_field(self, number, name):
+    def number_field(self, number: str | None, name: str) -> int:
+        """The number in a field, or 0."""
         found = re.search(rf'\b{name}: (\d+)', self.places.fields.get(number, ''))
         return int(found[1]) if found else 0
 
 
-def unescaped(written: str) -> str:
-    """A string of LLVM's text form, whose texts are read as Latin-1, as the bytes of a file name decode."""
-    raw = ESCAPED.sub(lambda found: b'\\' if found[1] == b'\\' else bytes([int(found[1], 16)]), written.encode('latin-1'))
-    return raw.decode('utf-8', 'surrogateescape')
-
-
 def as_comment(shown: str) -> str:
+    """A comment after a line; none for an empty text."""
     return f' ; {shown}' if shown else ''
 
 
@@ -111,12 +110,13 @@ def show(frames: list[Frame]) -> str:
 
 
 def show_frame(frame: Frame) -> str:
+    """The text of one frame."""
     file = frame.file if PLAIN_NAME.fullmatch(frame.file) else json.dumps(frame.file)
     return f'{file}:{frame.line}:{frame.column}' + (f' in {frame.function}' if frame.function else '')
 
 
 def read(comment: str) -> list[Frame]:
-    """The frames that `show` wrote; none where the comment is another one."""
+    """The frames that `show` wrote; none if the comment is another one."""
     frames, place = [], 0
     while found := FRAME.match(comment, place):
         file = json.loads(found[1]) if found[1].startswith('"') else found[1]
@@ -134,5 +134,5 @@ def with_comment(line: str, comment: str) -> str:
 
 
 def marked_added(text: str) -> str:
-    """The text of a function that was added to the program, each line but labels and the last marked so."""
+    """The text of a function that was added to the program, with a mark on each line except labels and the last."""
     return '\n'.join(line + as_comment(ADDED) if line.startswith(('  ', 'define')) else line for line in text.split('\n'))

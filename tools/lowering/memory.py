@@ -18,7 +18,7 @@ CLANGS_ALIGNMENT = 16
 
 
 def alloca(function: Function, tokens: Tokens, target: str, _word: str) -> None:
-    """`alloca`: a block of a type that has the alignment, which hippo does not take from `align`."""
+    """`alloca`: a block of a type that has the alignment, since hippo ignores the `align` of a block."""
     type_, least, count = function.type(tokens), 0, None
     while tokens.take_if(','):
         if tokens.take_if('align'):
@@ -52,8 +52,8 @@ def aligned_block(function: Function, target: str, count: int, least: int) -> No
 def variable_array(function: Function, target: str, type_: Type, count: str, count_type: str) -> None:
     """An array of variable length: a block of the bound; a longer array traps.
 
-    An array in C lives as long as its scope, so one block in each call of the function serves all of them at a place.
-    What `alloca` gives lives as long as the call, and has a block each time."""
+    An array in C lives as long as its scope, so one block in each call of the function serves all arrays of one place. A block of
+    the C function `alloca` lives as long as the call, so each has its own."""
     bound = function.module.options.array_bound
     if bound is None:
         raise Refused('an array whose length is not constant', 'array')
@@ -104,7 +104,7 @@ def load_leaf(function: Function, leaf: str, address: str, least: int) -> list[s
 
 
 def store(function: Function, tokens: Tokens, _target: str, _word: str) -> None:
-    """`store`, part by part; a non-temporal one has a flush after it, as it needs only a fence to be durable."""
+    """`store`, part by part. A flush follows a non-temporal store, which needs only a fence to be durable."""
     note_volatile(function, tokens)
     passes_by = 'nontemporal' in function.metadata
     if passes_by and not function.module.options.non_temporal:
@@ -127,7 +127,7 @@ def store(function: Function, tokens: Tokens, _target: str, _word: str) -> None:
 
 def flush(function: Function, address: str, count: int, least: int) -> None:
     """The flush of what a non-temporal store wrote."""
-    function.module.notes.add('a non-temporal store was taken as a store with a flush after it')
+    function.module.notes.add('a non-temporal store: a store with a flush after it')
     if least >= count:
         function.module.extern('llvm.x86.clwb')
         function.put(f'call void @llvm.x86.clwb(ptr {address})')
@@ -180,12 +180,12 @@ def shown(least: int) -> str:
 
 
 def lesser(least: int, part: str) -> str:
-    """`, align N` where that is below the alignment of the type."""
+    """`, align N` if that is below the alignment of the type."""
     return shown(least) if least < alignment(part) else ''
 
 
 def element_address(function: Function, tokens: Tokens, target: str, _word: str) -> None:
-    """`getelementptr`; by bytes where the subset has no type with the same layout."""
+    """`getelementptr`; by bytes if the subset has no type with the same layout."""
     tokens.take_all(FLAGS)
     type_ = function.type(tokens)
     tokens.take(',')
@@ -223,12 +223,12 @@ def variable_step(function: Function, base: str, index: str, value: str, step: i
 
 
 def refuse_atomic(_function: Function, _tokens: Tokens, _target: str, _word: str) -> None:
-    """`cmpxchg` and `atomicrmw`, which LLVM's pass has made plain where one thread runs."""
+    """Refuses `cmpxchg` and `atomicrmw`; with `--single-thread` a pass of LLVM has lowered them before."""
     raise Refused('an atomic access', 'atomic')
 
 
 def fence(_function: Function, _tokens: Tokens, _target: str, _word: str) -> None:
-    """A fence between threads."""
+    """Refuses a fence between threads."""
     raise Refused('a fence between threads', 'fence')
 
 

@@ -26,9 +26,9 @@ IGNORED = re.compile(r'[;!$]|source_filename|target |attributes |uselistorder|mo
 
 
 class Module:
-    """The text of a module in, its text in the subset out."""
+    """Reads the text of a module, and writes its text in the subset."""
 
-    def __init__(self, program: Program, options: Options):
+    def __init__(self, program: Program, options: Options) -> None:
         self.options, self.own_names, self.gated_names = options, program.own_names, program.gated_names
         self.public_names = set(program.public_names)
         self.named_types: dict[str, str | Type] = {}
@@ -126,9 +126,9 @@ class Module:
         for name, option in sorted(program.assumed_names.items()):
             if f'@{name}' in self.names:
                 by_option.setdefault(option, []).append(name)
-        self.notes |= {f'{", ".join(names)}: as {option} says' for option, names in by_option.items()}
+        self.notes |= {f'{", ".join(names)}: as {option} allows' for option, names in by_option.items()}
         if program.has_atomics:
-            self.notes.add('atomic accesses: as --single-thread says')
+            self.notes.add('atomic accesses: plain ones, as --single-thread allows')
 
     # Queries of functions.
 
@@ -162,7 +162,7 @@ class Module:
         return Refused(f'the {kind} {written} is not in the program', 'missing')
 
     def element_address(self, type_: Type, base: str, indices: list[tuple[str, str]]) -> str:
-        """A constant `getelementptr`; by bytes where the subset has no type with the same layout."""
+        """A constant `getelementptr`; by bytes if the subset has no type with the same layout."""
         same = natural(type_)
         if same is not None:
             inside = ', '.join(f'{index} {value}' for index, value in indices)

@@ -1,7 +1,8 @@
-"""Names in the lowered text."""
+"""Names in the lowered text, and in LLVM's text form."""
 import re
 
 GLOBAL_NAME = r'@("[^"]*"|[-A-Za-z$._0-9]+)'
+ESCAPED = re.compile(rb'\\([0-9A-Fa-f]{2}|\\)')
 
 
 def clean_name(name: str, taken: set[str], first: str) -> str:
@@ -15,3 +16,9 @@ def clean_name(name: str, taken: set[str], first: str) -> str:
         free = f'{base}.{number}'
     taken.add(free)
     return free
+
+
+def unescaped(written: str) -> str:
+    """A string of LLVM's text form, which is read as Latin-1, as Python decodes the name of a file."""
+    raw = ESCAPED.sub(lambda found: b'\\' if found[1] == b'\\' else bytes([int(found[1], 16)]), written.encode('latin-1'))
+    return raw.decode('utf-8', 'surrogateescape')

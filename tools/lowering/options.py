@@ -20,7 +20,7 @@ class Pool:
 
 @dataclass
 class Options:
-    """What the command line gives."""
+    """The options of the command line."""
 
     files: list[str]
     level: str = '-O1'
@@ -58,7 +58,7 @@ def parse(words: list[str], description: str) -> Options:
 
 
 def split(words: list[str], mark: str) -> tuple[list[str], list[str] | None]:
-    """The words before a mark, and those after it where it stands."""
+    """The words before a mark, and those after it; nothing instead of them if there is no mark."""
     if mark not in words:
         return words, None
     place = words.index(mark)
@@ -72,11 +72,11 @@ def build_parser(description: str) -> Parser:
     parser.add_argument('--mem2reg', action='store_true', help='keep locals in registers, after -O0')
     parser.add_argument('--heap', type=size, metavar='SIZE', help='the size of the heap of malloc')
     parser.add_argument('--pool', dest='pools', type=pool, action='append', default=[], metavar='NAME=SIZE[,FILE]',
-                        help='a file of persistent memory for pmem_map_file and others; FILE has its initial bytes')
+                        help='a file of persistent memory for pmem_map_file and similar calls; FILE has its initial bytes')
     parser.add_argument('--ignore-output', dest='output', action='store_const', const='ignore', default='',
-                        help='text output only returns its result, and writes nothing')
+                        help='calls of text output return their result, and write nothing')
     parser.add_argument('--print-numbers', dest='output', action='store_const', const='print', default='',
-                        help='text output prints only its integers, with print_i64')
+                        help='calls of text output print their integers by print_i64, and nothing else')
     parser.add_argument('--time-from-input', action='store_true', help='calls for the time read the next number of the input')
     parser.add_argument('--file-calls', action='store_true',
                         help='open, mmap, msync and similar calls work on the pools')
@@ -95,7 +95,7 @@ def build_parser(description: str) -> Parser:
 def size(text: str) -> int:
     """A number of bytes, with K or M after it for 1,024 or 1,048,576 of them."""
     if not (read := re.fullmatch(r'([0-9]{1,9})([KM]?)', text)):
-        raise argparse.ArgumentTypeError(f'{text!r} is no size, such as 4096, 64K or 2M')
+        raise argparse.ArgumentTypeError(f'{text!r} is not a size, such as 4096, 64K or 2M')
     return int(read[1]) * UNITS[read[2]]
 
 
@@ -104,5 +104,5 @@ def pool(text: str) -> Pool:
     name, mark, rest = text.partition('=')
     bytes_, _, content = rest.partition(',')
     if not (name and mark):
-        raise argparse.ArgumentTypeError(f'{text!r} is no pool, such as data.pool=1M')
+        raise argparse.ArgumentTypeError(f'{text!r} is not a pool, such as data.pool=1M')
     return Pool(name, size(bytes_), content)

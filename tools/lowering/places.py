@@ -1,19 +1,21 @@
 """Places in the C source, by the line tables that clang writes."""
 import re
 
+from .names import unescaped
+
 METADATA = re.compile(r',? !([-\w.]+) !(\d+)(?=$| \{$|,? !)')
 
 
 class Places:
     """The places of a module's instructions and functions."""
 
-    def __init__(self, text: str):
+    def __init__(self, text: str) -> None:
         self.fields: dict[str, str] = {}
         self.names: dict[str, str] = {}
         for number, kind, fields in re.findall(r'^!(\d+) = (?:distinct )?!(DI\w+)\((.*)\)$', text, re.M):
             self.fields[number] = fields
             if kind == 'DIFile':
-                self.names[number] = re.search(r'filename: "([^"]*)"', fields)[1]
+                self.names[number] = unescaped(re.search(r'filename: "([^"]*)"', fields)[1])
 
     @staticmethod
     def without_metadata(line: str) -> tuple[str, dict[str, str]]:
@@ -22,7 +24,7 @@ class Places:
         return METADATA.sub('', line), metadata
 
     def of(self, metadata: dict[str, str]) -> str:
-        """`FILE:LINE: ` of an instruction or a function, or nothing where that is not known."""
+        """`FILE:LINE: ` of an instruction or a function, or an empty text if that is not known."""
         place = metadata.get('dbg')
         while called := self.field(place, 'inlinedAt'):
             place = called

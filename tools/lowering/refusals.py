@@ -1,22 +1,22 @@
-"""What cannot be lowered: the refusals of a program, with what the user can do about each kind."""
+"""Refusals: the parts of a program that cannot be lowered, with advice for each kind."""
 from dataclasses import dataclass, field
 
 ADVICE = {
     'form': '',
     'float': 'use integers: fixed-point numbers, or a count of a small unit',
     'vector': 'write the loop over scalars, and do not include the vector types of <immintrin.h>',
-    'width': 'use integers up to 128 bits, or a lower level where clang made the width',
-    'atomic': 'use plain accesses; or give --single-thread where one thread runs',
-    'thread': 'use a plain global; or give --single-thread where one thread runs',
-    'fence': 'use _mm_sfence or _mm_mfence for persistent memory; or give --single-thread where one thread runs',
+    'width': 'use integers up to 128 bits; or a lower level of optimisation if clang made the width',
+    'atomic': 'use plain accesses; or give --single-thread if one thread runs',
+    'thread': 'use a plain global; or give --single-thread if one thread runs',
+    'fence': 'use _mm_sfence or _mm_mfence for persistent memory; or give --single-thread if one thread runs',
     'missing': 'add the C file that defines it to the command line',
-    'option': 'give the option that is named, where what it assumes holds',
+    'option': 'give the named option if its assumption holds for the program',
     'longjmp': 'return an error code',
     'mismatch': 'call the function by its own type',
     'known': 'leave the definition to hippo, and declare the function',
     'assembly': 'use <immintrin.h>: _mm_clwb, _mm_clflushopt, _mm_clflush, _mm_sfence, _mm_mfence',
-    'nontemporal': 'use plain stores and flushes; or give --non-temporal to take them so',
-    'array': 'give the array its largest length; or a bound for each such array by --array-bound SIZE',
+    'nontemporal': 'use plain stores and flushes; or give --non-temporal, which lowers to these',
+    'array': 'give the array its largest length; or give a bound for all such arrays by --array-bound SIZE',
     'main': 'read numbers by read_i64; or give the words by --args WORD...',
     'constant': 'assign the value at the start of main',
     'exception': 'report errors by return values',
@@ -25,16 +25,16 @@ ADVICE = {
 
 
 class Refused(Exception):
-    """A part of the program cannot be lowered; the message says why, and the kind what to do."""
+    """A part of the program cannot be lowered; the message gives the reason, and the kind selects the advice."""
 
-    def __init__(self, reason: str, kind: str = 'form'):
+    def __init__(self, reason: str, kind: str = 'form') -> None:
         super().__init__(reason)
         self.kind = kind
 
 
 @dataclass
 class Refusals:
-    """The refusals of a program: by kind, and in each kind by reason, each with its places, in the order of the first."""
+    """The refusals of a program by kind, in each kind by reason, and for each reason its places, all in the order of discovery."""
 
     kinds: dict[str, dict[str, list[str]]] = field(default_factory=dict)
     MOST_PLACES = 10

@@ -1,4 +1,4 @@
-"""Links the C library of the runtime, `tools/runtime/*.c`, with a program that calls functions of it."""
+"""Links a program with the functions that it calls of the runtime, the C library in `tools/runtime/*.c`."""
 import glob
 import os
 import re
@@ -11,7 +11,7 @@ from .refusals import Refused
 
 RUNTIME = os.path.join(os.path.dirname(os.path.dirname(os.path.abspath(__file__))), 'runtime')
 RUNTIME_FLAGS = ['-O1', '-D_GNU_SOURCE', '-ffreestanding', '-fno-builtin', '-w']
-# What the runtime calls and tools/lower writes out: a check of each persistent global.
+# The runtime calls this function, and tools/lower replaces the call by a check of each persistent global.
 CHECK_REGION = 'hippo_check_region'
 # Files that only an option links: each depends on an assumption that the user must make.
 BEHIND_OPTION = {
@@ -29,9 +29,9 @@ declare void @hippo_run_atexit()
 
 
 class Runtime:
-    """The runtime for one program: `gated` has the names that only an option would link, `assumed` the others."""
+    """The runtime for one program. `gated` has the names that are not linked without an option, `assumed` those that an option linked."""
 
-    def __init__(self, options: Options, folder: str, flags: list[str]):
+    def __init__(self, options: Options, folder: str, flags: list[str]) -> None:
         self.options, self.folder, self.flags = options, folder, flags
         self.gated: dict[str, str] = {}
         self.assumed: dict[str, str] = {}
@@ -52,7 +52,7 @@ class Runtime:
         return target
 
     def with_end(self, program: str) -> str:
-        """The name of a file with the program and a use of what runs the functions of `atexit`, for `main`."""
+        """The name of a file with the program and a use of hippo_run_atexit, which `main` calls at its end."""
         end, target = f'{self.folder}/end.ll', f'{self.folder}/with_end.ll'
         with open(end, 'w', encoding='latin-1') as text:
             text.write('\n'.join(re.findall('^target .*$', read(program), re.M)) + '\n' + AT_EXIT)
@@ -120,7 +120,7 @@ def reason_for(name: str, gated: dict[str, str]) -> Refused | None:
 
 
 def undefined(text: str) -> set[str]:
-    """The names that a module uses and does not define, but those that hippo or LLVM knows."""
+    """The names that a module uses and does not define, except those that hippo or LLVM knows."""
     names = (name.strip('"') for name in DECLARED.findall(text))
     return {name for name in names if name not in EXTERNS and name != CHECK_REGION and not name.startswith('llvm.')}
 
@@ -132,7 +132,7 @@ def is_linked(file: str, options: Options) -> bool:
 
 
 def macros(options: Options) -> list[str]:
-    """What the options say to the C files of the runtime."""
+    """The macros by which options change the C files of the runtime."""
     said = []
     if options.heap is not None:
         said.append(f'-DHIPPO_HEAP_SIZE={options.heap}')

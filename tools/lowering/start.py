@@ -15,15 +15,15 @@ if TYPE_CHECKING:
     from .function import Function
     from .module import Module
 
-# Functions of C that end the run; called in `main` they are a return of it. The first runs what `atexit` was given.
+# Functions of C that end the run; in `main` they become its return. Only the first runs the functions of `atexit`.
 ENDS = ('exit', '_exit', '_Exit', 'quick_exit')
 AT_EXIT = '@hippo_run_atexit'
 
 
 class Start:
-    """What is put into `main`."""
+    """What the lowering adds to `main`."""
 
-    def __init__(self, module: Module):
+    def __init__(self, module: Module) -> None:
         self.module = module
         self.parameter_count = 0
         self.globals: list[str] = []

@@ -30,13 +30,13 @@ LINKAGE = set('''private internal dso_local dso_preemptable hidden protected def
 class Tokens:
     """The tokens of a text, one after another."""
 
-    def __init__(self, text: str):
+    def __init__(self, text: str) -> None:
         found = ((match.lastgroup, match.group()) for match in TOKEN.finditer(text))
         self.tokens = [token for token in found if token[0] != 'space']
         self.place = 0
 
     def peek(self, ahead: int = 0) -> str:
-        """The token that stands next, or one further ahead; an empty text where there is none."""
+        """The token that stands next, or one further ahead; an empty text if there is none."""
         place = self.place + ahead
         return self.tokens[place][1] if place < len(self.tokens) else ''
 
@@ -75,8 +75,8 @@ class Tokens:
                 return
 
     def skip_attributes(self) -> tuple[int, Tokens | None]:
-        """Attributes of a parameter, a result or a call: the alignment that they give, or 1, and the tokens of the type
-        of an aggregate that is passed by value, where one is."""
+        """Skips the attributes of a parameter, a result or a call. Returns the alignment that they give, or 1, and the tokens of the
+        type of an aggregate that is passed by value, if there is one."""
         alignment, by_value = 1, None
         while True:
             text = self.peek()
@@ -97,7 +97,7 @@ class Tokens:
                 return alignment, by_value
 
     def skip_argument(self) -> int:
-        """An attribute with its argument; the number that it is, or 0."""
+        """Skips an attribute with its argument, and returns the number that it is, or 0."""
         self.take()
         if self.kind() == 'number':
             return int(self.take())

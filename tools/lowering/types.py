@@ -91,7 +91,7 @@ def pieces(type_: Type) -> tuple[str, ...]:
         return ('i64',) * -(-bits(type_) // 64) if bits(type_) > 64 else (container(type_),)
     alignment(type_)
     if type_[0] == 'array' and type_[1] > MOST_PIECES:
-        raise Refused(f'{show_type(type_)} is held in a register')
+        raise Refused(f'a value of type {show_type(type_)}: a register holds at most {MOST_PIECES} elements')
     fields = (type_[2],) * type_[1] if type_[0] == 'array' else type_[1]
     return tuple(piece for field in fields for piece in pieces(field))
 
@@ -114,7 +114,7 @@ def alignment(type_: Type) -> int:
 
 @lru_cache(None)
 def size(type_: Type) -> int:
-    """The distance of two values of a type in an array."""
+    """The distance between two neighbours in an array of a type."""
     if isinstance(type_, str):
         return 8 if type_ == 'ptr' else round_up(-(-bits(type_) // 8), alignment(type_))
     if type_[0] == 'array':

@@ -1,4 +1,4 @@
-"""Values of registers: each is held in pieces, and some are those of other registers."""
+"""Values of registers: each consists of pieces, and some registers have the pieces of others."""
 from __future__ import annotations
 
 import re
@@ -11,7 +11,7 @@ from .types import Type, element, pieces
 if TYPE_CHECKING:
     from .function import Function
 
-# Instructions whose value is made of other values, and calls that answer their first operand.
+# Instructions whose value consists of pieces of other values, and calls that return their first operand.
 SAME = re.compile(r'''(%(?:"[^"]*"|[-A-Za-z$._0-9]+))\ =\ (freeze|insertvalue|extractvalue|
     (?:(?:tail|notail)\ )?call\ [^@]*@llvm\.(?:expect|ssa\.copy|threadlocal\.address|launder\.invariant|
     strip\.invariant|stacksave)\b[^(]*)''', re.X)
@@ -39,7 +39,7 @@ def value_of(function: Function, written: str, type_: Type) -> list[str]:
     if same is None:
         value = function.results(written, type_)
     else:
-        # In code that no path reaches, values may be made of one another.
+        # In code that no path reaches, values may be defined by one another.
         function.values[written] = [zero_of(piece) for piece in pieces(type_)]
         value = value_made(function, Tokens(same))
     function.values[written] = value
@@ -47,7 +47,7 @@ def value_of(function: Function, written: str, type_: Type) -> list[str]:
 
 
 def value_made(function: Function, tokens: Tokens) -> list[str]:
-    """The pieces of the value that an instruction makes of others; it stands after its `=`."""
+    """The pieces of the value that an instruction takes from others, from the tokens after its `=`."""
     word = tokens.take()
     if word == 'freeze':
         type_ = function.type(tokens)
@@ -88,7 +88,7 @@ def value_of_call(function: Function, tokens: Tokens) -> list[str]:
 
 
 def collect_same_values(function: Function) -> None:
-    """Notes which registers are made of others, before any line is lowered."""
+    """Notes which registers have pieces of others, before any line is lowered."""
     for line, _ in function.lines:
         if found := SAME.match(line):
             function.same_values[found[1]] = line[found.start(2):]

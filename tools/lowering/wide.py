@@ -29,14 +29,14 @@ def binary(function: Function, word: str, width: int, first: list[str], second: 
 
 
 def bitwise(function: Function, word: str, one: str, other: str) -> str:
-    """`and`, `or` or `xor` of two pieces; none is needed with 0."""
+    """`and`, `or` or `xor` of two pieces; with 0 there is no instruction."""
     if word == 'and' and '0' in (one, other):
         return '0'
     return joined(function, one, other, word)
 
 
 def joined(function: Function, one: str, other: str, word: str = 'or') -> str:
-    """Two pieces, by `or` or `xor` where neither is 0."""
+    """Two pieces joined by an instruction, or the other piece if one is 0."""
     if word != 'and' and '0' in (one, other):
         return other if one == '0' else one
     return function.emit(f'{word} i64 {one}, {other}')
@@ -117,7 +117,7 @@ def shifted_by(function: Function, word: str, value: list[str], amount: int) -> 
     above = function.emit(f'ashr i64 {value[-1]}, 63') if word == 'ashr' and amount else '0'
 
     def piece(number: int) -> str:
-        """A piece of the value, or what stands below or above it."""
+        """A piece of the value, or of the bits below or above it."""
         return '0' if number < 0 else value[number] if number < count else above
 
     if word == 'shl':

@@ -19,7 +19,7 @@ def lower_wide(function: Function, name: str, call: Call) -> None:
     width = bits(call.arguments[0].type)
     values = [argument.values for argument in call.arguments]
     if width > 128:
-        raise Refused(f'the intrinsic @{name}', 'width')
+        raise Refused(f'the intrinsic @{name} has no form in the subset', 'width')
     if kind := re.match(r'llvm\.(ctlz|cttz|ctpop)\.', name):
         found = counted(function, kind[1], width, values[0])
     elif kind := re.match(r'llvm\.(bswap|bitreverse)\.', name):
@@ -35,7 +35,7 @@ def lower_wide(function: Function, name: str, call: Call) -> None:
     elif (kind := re.match(r'llvm\.([us])(add|sub)\.with\.overflow\.', name)) and width == 128:
         found = with_overflow(function, kind[1], kind[2], values[0], values[1])
     else:
-        raise Refused(f'the intrinsic @{name}', 'width')
+        raise Refused(f'the intrinsic @{name} has no form in the subset', 'width')
     function.become(call.target, call.result, found)
 
 
@@ -58,7 +58,7 @@ def counted(function: Function, kind: str, width: int, value: list[str]) -> list
 
 
 def turned(function: Function, kind: str, width: int, value: list[str]) -> list[str]:
-    """The bytes, or the bits, in the other order."""
+    """The bytes, or the bits, in reverse order."""
     helper = function.module.helper(f'{kind}.64', lambda name: bits_helper(name, kind, 64))
     high, low = (function.emit(f'call i64 {helper}(i64 {half})') for half in value)
     return shifted(function, 'lshr', [low, high], str(128 - width))

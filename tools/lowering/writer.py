@@ -8,7 +8,7 @@ from .names import clean_name
 
 
 class Phi(NamedTuple):
-    """A phi, whose edges are known by name when all blocks are written."""
+    """A phi; the names of the blocks of its edges are known when all blocks are written."""
 
     text: str
     edges: list[tuple[str, str]]
@@ -16,9 +16,9 @@ class Phi(NamedTuple):
 
 
 class Writer:
-    """Writes a function line by line. `comment` stands after each line; a block of clang's text may become several."""
+    """Writes a function line by line, with `comment` after each line. A block of clang's text may become several blocks."""
 
-    def __init__(self, added_comment: str):
+    def __init__(self, added_comment: str) -> None:
         self.names: dict[str | tuple[str, int], str] = {}
         self.taken: set[str] = set()
         self.added = 0
@@ -123,7 +123,7 @@ class Writer:
         self.go_on(inside[1:])
 
     def trap(self) -> None:
-        """Ends the block with a trap; what stands after it in clang's text is left out, with its edges."""
+        """Ends the block with a trap; leaves out the rest of the block in clang's text, and its edges."""
         self.put('unreachable')
         self.has_ended = True
         self.cut.add(self.origin)

@@ -1,6 +1,5 @@
-// Ends of the run. A call that ends the program inside a function traps, since main does not return. Before the trap, `exit` and
-// `_exit` check the region, as a return of main does. A call of `exit` in main itself becomes a return of main, after
-// hippo_run_atexit.
+// Ends of the run. A call that ends the program below main traps, since main does not return. Before the trap, `exit` and `_exit`
+// check the region, as a return of main does. A call of `exit` in main itself becomes a call of hippo_run_atexit and a return.
 #include <stddef.h>
 
 enum { HANDLERS = 32 };

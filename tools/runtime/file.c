@@ -165,7 +165,7 @@ int truncate(const char *path, off_t length) {
   return length < 0 ? failed(EINVAL) : hippo_pool_set_length(pool, length);
 }
 
-// Room is there up to the pool's size; the file becomes at least as long as its end.
+// A pool always has room up to its size; the file becomes at least as long as the end of the range.
 int posix_fallocate(int number, off_t offset, off_t length) {
   struct hippo_pool *pool = hippo_pool_of_descriptor(number);
   if (!pool) return EBADF;
@@ -201,7 +201,7 @@ int stat64(const char *restrict path, struct stat64 *restrict to) { return stat(
 
 int lstat(const char *restrict path, struct stat *restrict to) { return stat(path, to); }
 
-// A file system of pools: its type is no known one, and its room is that of the pool.
+// Each pool is a file system of its size, of no known type.
 int fstatfs(int number, struct statfs *to) {
   struct hippo_pool *pool = hippo_pool_of_descriptor(number);
   if (!pool) return -1;

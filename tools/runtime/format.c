@@ -1,11 +1,11 @@
-// Formatted text: all conversions of C but those of floating-point numbers, which end the text where they stand.
+// Formatted text: all conversions of C except those of floating-point numbers, which end the text.
 #include "format.h"
 #include "hippo.h"
 #include <stdint.h>
 #include <stdio.h>
 #include <string.h>
 
-// The text as far as it is made. Bytes past the size are counted and not written.
+// The text so far. Bytes past the size are counted and not written.
 struct text {
   char *to;
   size_t size, length;
@@ -13,7 +13,7 @@ struct text {
   va_list arguments;
 };
 
-// What stands between the percent sign and the conversion.
+// The flags, the width, the precision and the size between the percent sign and the conversion.
 struct directive {
   int left, plus, space, alternate, zero;
   int width, precision; // a precision that is not given is -1
@@ -45,7 +45,7 @@ static void put_string(struct text *text, const struct directive *how, const cha
   put_padded(text, how, bytes, how->precision < 0 ? strlen(bytes) : strnlen(bytes, how->precision));
 }
 
-// The digits of a number before `end`, at least as many as the precision says; where they begin.
+// Writes the digits of a number before `end`, none for 0, and returns the first of them.
 static char *digits(char *end, uint64_t number, unsigned base, const char *names) {
   for (; number; number /= base) *--end = names[number % base];
   return end;
@@ -146,7 +146,7 @@ static const char *read_directive(struct text *text, struct directive *how, cons
   return read_length(how, format);
 }
 
-// Writes one conversion; whether it is known.
+// Writes one conversion; returns whether it is a known one.
 static int put_conversion(struct text *text, const struct directive *how, char conversion) {
   char character;
   switch (conversion) {

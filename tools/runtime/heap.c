@@ -15,7 +15,7 @@
 struct block {
   size_t before; // the size of the block that ends where this one begins; 0 at the first
   size_t size;   // of this block with its header; the lowest bit is set while it is in use
-  struct block *next, **link; // of a free block: the next one in its list, and the pointer to it
+  struct block *next, **link; // of a free block: the next one in its list, and the pointer that points to this one
 };
 
 enum { HEADER = offsetof(struct block, next), SMALLEST = HIPPO_HEAP_SMALLEST, UNIT = HIPPO_HEAP_UNIT, USED = 1, LISTS = 32 };
@@ -66,7 +66,7 @@ static void take_from_list(struct block *block) {
   if (block->next) block->next->link = block->link;
 }
 
-// Gives a block a size, and notes it in the block after it.
+// Sets the size of a block, also in the block after it.
 static void set_size(struct block *block, size_t size, size_t used) {
   block->size = size | used;
   if (is_last(block))
@@ -75,7 +75,7 @@ static void set_size(struct block *block, size_t size, size_t used) {
     following(block)->before = size;
 }
 
-// Makes a block free, with its free neighbours; the last block goes back to the part of the arena without blocks.
+// Frees a block and joins it with its free neighbours. The last block becomes part of the unused end of the arena.
 static void release(struct block *block) {
   if (!is_last(block) && is_free(following(block))) {
     struct block *next = following(block);
@@ -97,7 +97,7 @@ static void release(struct block *block) {
   }
 }
 
-// Takes a block into use with this size; the rest becomes free if it is large enough for a block.
+// Marks a block as used, with this size; the rest becomes a free block if it is large enough.
 static void use(struct block *block, size_t size) {
   size_t left = size_of(block) - size;
   if (left < SMALLEST) {

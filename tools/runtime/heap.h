@@ -1,10 +1,10 @@
-// What the two files of the heap share.
+// For the two files of the heap.
 #ifndef HIPPO_HEAP_H
 #define HIPPO_HEAP_H
 
 #include <stddef.h>
 
-// Each block begins at a multiple of the first, and has at least as many bytes as the second says.
+// Each block begins at a multiple of HIPPO_HEAP_UNIT bytes, and has at least HIPPO_HEAP_SMALLEST bytes.
 enum { HIPPO_HEAP_UNIT = 16, HIPPO_HEAP_SMALLEST = 32 };
 
 // Cuts a block in use in two, so that the memory of the second one begins at this place. The first one becomes free; the place is

@@ -69,7 +69,7 @@ const char *pmem_check_version(unsigned major, unsigned minor) {
 
 const char *pmem_errormsg(void) { return strerror(errno); }
 
-// What a copy or a fill with flags does after its stores.
+// Flushes and drains after the stores of a copy or a fill, as its flags say.
 static void *finish(void *to, size_t length, unsigned flags) {
   if (flags & NO_FLUSH) return to;
   pmem_flush(to, length);

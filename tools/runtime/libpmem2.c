@@ -123,7 +123,7 @@ int pmem2_deep_flush(const struct pmem2_map *map, void *address, size_t length) 
   return 0;
 }
 
-// The functions that a map gives out. What lies in no pool is volatile: a flush of it does nothing, at any address.
+// The functions that a map returns. Memory outside of pools is volatile, and a flush of it does nothing.
 static void flush(const void *address, size_t length) {
   if (hippo_pool_with(address)) pmem_flush(address, length);
 }

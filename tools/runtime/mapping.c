@@ -54,7 +54,7 @@ void *mmap64(void *address, size_t length, int protection, int flags, int descri
   return mmap(address, length, protection, flags, descriptor, offset);
 }
 
-// A whole block goes back to the heap. A part of one stays, as does what lies in a pool.
+// Frees a whole block of the heap. A part of a block stays, and so does a pool.
 int munmap(void *address, size_t length) {
   for (int i = 0; i < BLOCKS; i++)
     if (blocks[i].address == address && blocks[i].length == length && address) {

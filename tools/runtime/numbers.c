@@ -6,7 +6,7 @@
 
 int isspace(int character);
 
-// What a text reads as: the number without its sign, the first character after it, and whether it fits 64 bits.
+// The number that a text has: without its sign, with the first character after it, and whether it overflows 64 bits.
 struct reading {
   unsigned long long number;
   const char *end;
@@ -20,7 +20,7 @@ static int digit_of(char c) {
   return INT_MAX;
 }
 
-// Where the digits begin: after a prefix that the base allows and that a digit follows. A base of 0 becomes that of the prefix.
+// The first digit, after a prefix that the base allows and that a digit follows. A base of 0 becomes that of the prefix.
 static const char *after_prefix(const char *text, int *base) {
   int prefixed = text[0] == '0' && (text[1] == 'x' || text[1] == 'X') && digit_of(text[2]) < 16;
   if (prefixed && (*base == 0 || *base == 16)) {
@@ -82,7 +82,7 @@ unsigned long strtoul(const char *restrict text, char **restrict end, int base) 
 intmax_t strtoimax(const char *restrict text, char **restrict end, int base) { return strtoll(text, end, base); }
 uintmax_t strtoumax(const char *restrict text, char **restrict end, int base) { return strtoull(text, end, base); }
 
-// The names that newer headers give them.
+// The names by which newer headers call them.
 long __isoc23_strtol(const char *text, char **end, int base) { return strtoll(text, end, base); }
 long long __isoc23_strtoll(const char *text, char **end, int base) { return strtoll(text, end, base); }
 unsigned long __isoc23_strtoul(const char *text, char **end, int base) { return strtoull(text, end, base); }

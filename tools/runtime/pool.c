@@ -47,7 +47,7 @@ int hippo_pool_set_length(struct hippo_pool *pool, unsigned long length) {
   return 0;
 }
 
-// A pool without a file at the start is a new file for a call that may make one, and a file of zeros for any other call.
+// A pool without a file is a new file for a call that may create one, and a file of zeros for any other call.
 int hippo_pool_open(struct hippo_pool *pool, int flags) {
   if (pool->file->exists && flags & O_CREAT && flags & O_EXCL) {
     errno = EEXIST;

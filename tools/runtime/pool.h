@@ -4,7 +4,7 @@
 
 #include <stddef.h>
 
-// What the file system keeps of a file. It lies in the persistent region, and is durable when a call that changes it returns.
+// The metadata of a file. It lies in the persistent region, and is durable when a call that changes it returns.
 struct hippo_file {
   unsigned long length, exists;
 };
@@ -25,10 +25,10 @@ struct hippo_pool *hippo_pool_of_path(const char *path);
 // The pool in whose bytes the address lies, or a null pointer.
 const struct hippo_pool *hippo_pool_with(const void *address);
 
-// Gives the file a length and makes that durable; what lies past it becomes zeros. 0, or -1 with ENOSPC.
+// Sets the length of the file and makes it durable; the bytes past it become zeros. Returns 0, or -1 with ENOSPC.
 int hippo_pool_set_length(struct hippo_pool *pool, unsigned long length);
 
-// Opens the file: whether it is there, is made or emptied, follows the flags of open. 0, or -1 with errno.
+// Opens the file. The flags of open decide whether it must exist, is created or is emptied. Returns 0, or -1 with errno.
 int hippo_pool_open(struct hippo_pool *pool, int flags);
 
 // The pool of a file descriptor, or a null pointer with EBADF.

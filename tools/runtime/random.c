@@ -1,6 +1,6 @@
-// Pseudo-random numbers. rand and random are the additive feedback generator that C libraries on Linux have: a word is the sum
-// modulo 2^32 of the words 3 and 31 places before it, the first 310 after the seeding are dropped, and the answer is a word
-// without its lowest bit. So a program draws here what it draws natively.
+// Pseudo-random numbers. rand and random are the additive feedback generator of the C libraries on Linux: a word is the sum
+// modulo 2^32 of the words 3 and 31 places before it, the first 310 words after the seeding are dropped, and the result is a
+// word without its lowest bit. So a program gets the same numbers here as natively.
 #include <stdint.h>
 #include <stdlib.h>
 

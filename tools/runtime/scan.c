@@ -1,4 +1,4 @@
-// Formatted reading of strings: all conversions of C but those of floating-point numbers, which end the reading.
+// Formatted reading of strings: all conversions of C except those of floating-point numbers, which end the reading.
 #include <limits.h>
 #include <stdarg.h>
 #include <stddef.h>
@@ -15,7 +15,7 @@ struct scan {
   va_list arguments;
 };
 
-// What stands between the percent sign and the conversion.
+// The flag, the width and the size between the percent sign and the conversion.
 struct directive {
   int skipped; // an asterisk: what is read is not stored
   int width;   // the greatest number of characters
@@ -51,7 +51,7 @@ static unsigned digit_of(char c) {
   return UINT_MAX;
 }
 
-// Reads an integer; base 0 is that of its prefix. Whether there was one.
+// Reads an integer, with the base of its prefix if the base is 0; returns whether there was one.
 static int read_integer(struct scan *scan, const struct directive *how, unsigned base) {
   skip_space(scan);
   const char *at = scan->at, *end = at + strnlen(at, how->width ? how->width : INT_MAX);
@@ -69,7 +69,7 @@ static int read_integer(struct scan *scan, const struct directive *how, unsigned
   return 1;
 }
 
-// Stores this number of characters, and a zero byte after a string.
+// Stores this number of characters, and a zero byte after a string; returns whether there were any.
 static int take(struct scan *scan, const struct directive *how, size_t count, int is_string) {
   if (count == 0) return 0;
   if (!how->skipped) {
@@ -105,7 +105,7 @@ static int is_in(const char *from, const char *to, char c) {
   return 0;
 }
 
-// Reads characters of a set, which begins after its bracket; the format after the set, or a null pointer where none is read.
+// Reads characters of a set, whose text begins after its bracket. Returns the format after the set, or a null pointer if it read none.
 static const char *read_set(struct scan *scan, const struct directive *how, const char *format) {
   int excluded = *format == '^';
   const char *set = format + excluded, *end = strchr(*set ? set + 1 : set, ']');
@@ -115,7 +115,7 @@ static const char *read_set(struct scan *scan, const struct directive *how, cons
   return take(scan, how, count, 1) ? end + 1 : NULL;
 }
 
-// Reads one conversion; the format after it, or a null pointer where the text does not fit.
+// Reads one conversion. Returns the format after it, or a null pointer if the text does not fit.
 static const char *read_conversion(struct scan *scan, const struct directive *how, const char *format) {
   int fits = 0;
   switch (*format) {
@@ -169,7 +169,7 @@ int sscanf(const char *restrict text, const char *restrict format, ...) {
   return count;
 }
 
-// The names that headers give them.
+// The names by which headers call them.
 int __isoc99_vsscanf(const char *text, const char *format, va_list arguments) { return vsscanf(text, format, arguments); }
 int __isoc23_vsscanf(const char *text, const char *format, va_list arguments) { return vsscanf(text, format, arguments); }
 

@@ -1,5 +1,5 @@
-// Sorting and binary search. The sort is a merge sort, so elements that compare equal keep their order; if the heap has
-// no room for a second array it is an insertion sort, which keeps it too.
+// Sorting and binary search. The sort is a merge sort, so elements that compare equal keep their order. If the heap has
+// no room for a second array it is an insertion sort, which keeps the order too.
 #include <stdlib.h>
 #include <string.h>
 

@@ -1,4 +1,4 @@
-// Goes before a program of csmith: print_i64 prints its checksum, natively and in hippo, and nothing else is printed.
+// Included before a program of csmith: it prints its checksum by print_i64, natively and in hippo, and nothing else.
 #include <hippo.h>
 #include <stdio.h>
 #define printf(...) ((void)0)

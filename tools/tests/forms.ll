@@ -1,4 +1,4 @@
-; Forms that clang seldom writes; the lowered text has to print what this text prints.
+; Forms that clang rarely writes; the lowered text must print what this text prints.
 %pair = type { i32, %deep }
 %deep = type { [2 x i16], ptr }
 

@@ -3,8 +3,8 @@
 
 csmith makes a program from a seed with the options below: integers only, and no packed structs, since csmith takes
 pointers to their fields, through which an access is misaligned and has no defined meaning. A program whose native build does not
-end in time, or whose run is cut by hippo's limit of turns, is skipped and counted. The exit code is 1 where one differs or is
-refused; its seed and level are said.
+end in time, or whose run is cut by hippo's limit of turns, is skipped and counted. The exit code is 1 if a program differs or is
+refused; a line gives its seed and its level.
 """
 import argparse
 import glob
@@ -15,8 +15,9 @@ import tempfile
 from collections import Counter
 from concurrent.futures import ThreadPoolExecutor
 
-TESTS = os.path.dirname(os.path.abspath(__file__))
-TOP = os.path.dirname(os.path.dirname(TESTS))
+sys.dont_write_bytecode = True
+from clang_case import HIPPO, TESTS, TOP  # noqa: E402
+
 SHAPE = ['--no-float', '--no-packed-struct', '--max-funcs', '5', '--max-block-depth', '3']
 SECONDS = 1    # of the native run, on the processor
 TURNS = 300000000
@@ -24,7 +25,7 @@ PROCESSOR = ['-mclwb', '-mclflushopt']
 
 
 def run(words: list[str], seconds: int = 0, folder: str | None = None) -> subprocess.CompletedProcess:
-    """What a command answers; with a number of seconds of the processor it is killed after these."""
+    """Runs a command, for at most a number of seconds of processor time if one is given."""
     limit = ['prlimit', f'--cpu={seconds}'] if seconds else []
     return subprocess.run([*limit, *words], capture_output=True, encoding='latin-1', cwd=folder)
 
@@ -41,7 +42,7 @@ def csmith_headers() -> str:
 
 
 def native_output(program: str, folder: str) -> str | None:
-    """What the program prints natively, or nothing where it does not end in time."""
+    """What the program prints natively, or nothing if it does not end in time."""
     built = f'{program}.native'
     check(run(['clang-19', '-O1', *PROCESSOR, *flags(folder), '-o', built, program, f'{folder}/externs.o']))
     done = run([built], SECONDS)
@@ -86,9 +87,9 @@ def attempt(seed: int, levels: list[str], folder: str, hippo: str) -> list[tuple
 
 
 def main() -> int:
-    """Tries the programs of a range of seeds; 0 where each prints the same."""
+    """Tries the programs of a range of seeds; returns 0 if none differs."""
     parser = argparse.ArgumentParser(description=__doc__, formatter_class=argparse.RawDescriptionHelpFormatter)
-    parser.add_argument('--hippo', default=f'{TOP}/crates/hippo/out/hippo')
+    parser.add_argument('--hippo', default=HIPPO, help='the program hippo (out/hippo)')
     parser.add_argument('--first', type=int, default=1, help='the first seed')
     parser.add_argument('--count', type=int, default=1000, help='the number of seeds')
     parser.add_argument('--levels', nargs='+', default=['O0', 'O1', 'O2'])

@@ -1,24 +1,20 @@
 #!/usr/bin/env python3
 """Each C program in `lowering/` prints, lowered at each level, what clang's own build of it prints.
 
-The lowered text is built by clang, with the linkage that C gave its names, and run by hippo where there is one: HIPPO
-names it, or crates/hippo/out/hippo is taken.
-In a program's comments stand what is needed beyond the usual: `// input: NUMBERS`, `// options: WORDS` of tools/lower,
-`// arguments: WORDS` of main, `// files: FILES` beside it, `// native: LEVEL` of clang's own build, and `// levels:
-LEVELS`. Run by `python3 -m unittest discover tools/tests`."""
+Clang builds the lowered text, with the linkage that C gave its names, and hippo runs it, if it is built: out/hippo, or the
+program that HIPPO_PROGRAM names. Comments of a program give what differs from the defaults: `// input: NUMBERS`,
+`// options: WORDS` of tools/lower, `// arguments: WORDS` of main, `// files: FILES` beside it, `// native: LEVEL` of clang's
+own build, and `// levels: LEVELS`."""
 import glob
 import os
 import re
-import shutil
 import subprocess
 import sys
-import tempfile
 import unittest
 from concurrent.futures import ThreadPoolExecutor
 
-TESTS = os.path.dirname(os.path.abspath(__file__))
-TOOLS = os.path.dirname(TESTS)
-HIPPO = os.environ.get('HIPPO', os.path.join(os.path.dirname(TOOLS), 'crates/hippo/out/hippo'))
+from clang_case import HIPPO, TESTS, TOOLS, ClangCase
+
 LEVELS = '-O0 -O1 -O2 -O3'
 NATIVE = ['clang-19', '-w', '-fwrapv', '-fno-strict-aliasing', '-mclwb', '-mclflushopt', f'-I{TOOLS}']
 EXTERNALS = os.path.join(TOOLS, 'external_functions.c')
@@ -45,20 +41,8 @@ def given(source: str, word: str, default: str = '') -> list[str]:
     return (found[1] if found else default).split()
 
 
-class Lowered(unittest.TestCase):
+class Lowered(ClangCase):
     """One test for each program and level."""
-
-    @classmethod
-    def setUpClass(cls) -> None:
-        """Makes a folder."""
-        if shutil.which('clang-19') is None:
-            raise unittest.SkipTest('clang-19 is not installed')
-        cls.folder = tempfile.mkdtemp()
-
-    @classmethod
-    def tearDownClass(cls) -> None:
-        """Removes it."""
-        shutil.rmtree(cls.folder)
 
     def built(self, files: list[str], name: str, level: str = '-O1') -> str:
         """A program that clang builds, with hippo's external functions."""

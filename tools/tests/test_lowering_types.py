@@ -131,7 +131,7 @@ class Pieces(unittest.TestCase):
         self.assertEqual(types.pieces(read('{ i8, [2 x i128], ptr }')), ('i8', 'i64', 'i64', 'i64', 'i64', 'ptr'))
 
     def test_a_large_array_is_held_in_no_register(self) -> None:
-        with self.assertRaisesRegex(Refused, 'held in a register'):
+        with self.assertRaisesRegex(Refused, 'a register holds at most 64 elements'):
             types.pieces(('array', types.MOST_PIECES + 1, 'i8'))
 
     def test_leaves_have_their_offsets(self) -> None:

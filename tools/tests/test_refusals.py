@@ -1,15 +1,13 @@
 #!/usr/bin/env python3
 """What tools/lower refuses: the place in C, the reason, what to do, the exit code, and nothing on standard output."""
 import os
-import shutil
 import subprocess
 import sys
-import tempfile
 import unittest
 
-TOOLS = os.path.dirname(os.path.dirname(os.path.abspath(__file__)))
+from clang_case import TOOLS, ClangCase
 
-# The reason with its place, what is said to do, and the C after `#include <hippo.h>`.
+# The reason with its place, the advice, and the C after `#include <hippo.h>`.
 REFUSED = {
     'float': ('bad.c:3: the type double', 'integers',
               'double half(double x);\nint main(void) { return (int)half(3.0); }'),
@@ -33,13 +31,13 @@ REFUSED = {
                          'int open_pool(void);\nint main(void) { return open_pool(); }'),
     'missing_variable': ('the variable @state is not in the program', 'add the C file',
                          'extern int state;\nint main(void) { return state; }'),
-    'output': ('bad.c:3: the function @puts: give --ignore-output or --print-numbers', 'where what it assumes holds',
+    'output': ('bad.c:3: the function @puts: give --ignore-output or --print-numbers', 'if its assumption holds for the program',
                'int puts(const char *);\nint main(void) { return puts("a"); }'),
-    'threads': ('bad.c:3: the function @pthread_mutex_lock: give --single-thread', 'where what it assumes holds',
+    'threads': ('bad.c:3: the function @pthread_mutex_lock: give --single-thread', 'if its assumption holds for the program',
                 'int pthread_mutex_lock(void *);\nint main(void) { return pthread_mutex_lock(0); }'),
     'longjmp': ('bad.c:3: the function @longjmp: a jump out of a call', 'error code',
                 'void longjmp(void *, int);\nint main(void) { longjmp(0, 1); return 0; }'),
-    'mismatch': ('a call of @f by another type than it has', 'its own type',
+    'mismatch': ('a call of @f with another type than its own', 'its own type',
                  'static int f(int *a, int b) { return *a + b; }\nint main(void) { return ((int (*)(int))f)(1); }'),
     'known': ('@print_i64 is an external function of hippo', 'declare the function',
               'long long last;\nvoid print_i64(long long n) { last = n; }\nint main(void) { print_i64(3); return 0; }'),
@@ -68,20 +66,8 @@ def lower(*words: str) -> tuple[int, str, str]:
     return done.returncode, done.stdout, done.stderr
 
 
-class Refusals(unittest.TestCase):
+class Refusals(ClangCase):
     """One test for each refusal."""
-
-    @classmethod
-    def setUpClass(cls) -> None:
-        """Makes a folder."""
-        if shutil.which('clang-19') is None:
-            raise unittest.SkipTest('clang-19 is not installed')
-        cls.folder = tempfile.mkdtemp()
-
-    @classmethod
-    def tearDownClass(cls) -> None:
-        """Removes it."""
-        shutil.rmtree(cls.folder)
 
     def file(self, text: str, name: str = 'bad.c') -> str:
         """A file with a text."""
@@ -98,7 +84,7 @@ class Refusals(unittest.TestCase):
         self.assertIn('what to do: ', errors)
         self.assertIn(advice, errors)
 
-    def test_all_at_once(self):
+    def test_all_at_once(self) -> None:
         """All places are named, grouped by reason, with one line for what to do."""
         code, out, errors = lower(self.file('''#include <hippo.h>
 long long n, m;
@@ -118,7 +104,7 @@ int main(void) {
         self.assertEqual(sum('--single-thread' in line for line in lines), 1)
         self.assertTrue(any('bad.c:3: the type float' in line for line in lines))
 
-    def test_many_places(self):
+    def test_many_places(self) -> None:
         """A reason with many places is shown with some of them and the number of the others; no reason is left out."""
         calls = '\n'.join(f'  n += open_pool({number}) + close_{number}();' for number in range(14))
         declared = '\n'.join(f'int close_{number}(void);' for number in range(14))
@@ -129,7 +115,7 @@ int main(void) {
         for number in range(14):
             self.assertIn(f'@close_{number} is not', errors)
 
-    def test_notes(self):
+    def test_notes(self) -> None:
         """Notes name what an assumption allowed, and a call by pointer that can only trap, with its place."""
         code, _, errors = lower('--single-thread', self.file('''#include <hippo.h>
 void (*volatile f)(long long);
@@ -142,11 +128,11 @@ int main(void) {
 }
 '''))
         self.assertEqual(code, 0, errors)
-        self.assertIn('note: atomic accesses: as --single-thread says', errors)
-        self.assertIn('note: thread-local data was taken as that of one thread', errors)
+        self.assertIn('note: atomic accesses: plain ones, as --single-thread allows', errors)
+        self.assertIn('note: thread-local data: a plain global, as --single-thread allows', errors)
         self.assertIn('bad.c:6: no function whose address is taken has the type of this call', errors)
 
-    def test_unreached(self):
+    def test_unreached(self) -> None:
         """What main does not reach is not refused."""
         code, out, errors = lower(self.file('''#include <hippo.h>
 double half(double x) { return x / 2; }
@@ -157,7 +143,22 @@ int main(void) { return 3; }
         self.assertEqual(code, 0, errors)
         self.assertNotIn('half', out)
 
-    def test_codes(self):
+    def test_names_of_files(self) -> None:
+        """The place names the file as the command line does, also with letters that LLVM's text form escapes."""
+        for text, place in (('float half(float x) { return x / 2; }\nint main(void) { return (int)half((float)read_i64()); }', 2),
+                            ('_Alignas(8192) char a[8];\nint main(void) { return a[1]++; }', 2)):
+            code, out, errors = lower(self.file(f'#include <hippo.h>\n{text}\n', 'schön "1".c'))
+            self.assertEqual((code, out), (5, ''), errors)
+            self.assertIn(f'schön "1".c:{place}: ', errors.encode('latin-1').decode('utf-8'))
+
+    def test_an_old_python_is_refused(self) -> None:
+        """Python before 3.10 cannot read the modules of the tools."""
+        for tool, code in (('lower', 69), ('hippo-c', 2)):
+            script = f'import runpy, sys; sys.version_info = (3, 9, 2); runpy.run_path({os.path.join(TOOLS, tool)!r}, run_name="__main__")'
+            done = subprocess.run([sys.executable, '-B', '-c', script], capture_output=True, encoding='utf-8', check=False)
+            self.assertEqual((done.returncode, done.stdout, done.stderr), (code, '', f'{tool}: it needs Python 3.10 or later\n'))
+
+    def test_codes(self) -> None:
         """Exit codes of words, files and tools."""
         good = self.file('int main(void) { return 0; }\n', 'good.c')
         self.assertEqual(lower('--no-such-option', good)[0], 1)
@@ -173,7 +174,7 @@ int main(void) { return 3; }
             self.assertEqual(lower(*words)[2].count('\n'), 1)
 
     @unittest.skipUnless(os.path.exists('/dev/full'), 'there is no /dev/full')
-    def test_write_fault(self):
+    def test_write_fault(self) -> None:
         """A text that cannot be written ends with one line, and no traceback."""
         good = self.file('int main(void) { return 0; }\n', 'good.c')
         with open('/dev/full', 'w', encoding='latin-1') as full:
@@ -181,7 +182,7 @@ int main(void) { return 3; }
                                   encoding='latin-1', check=False)
         self.assertEqual((done.returncode, done.stderr.count('\n')), (4, 1), done.stderr)
 
-    def test_public(self):
+    def test_public(self) -> None:
         """The names that other object files may use, and not static, hidden or added ones."""
         names = os.path.join(self.folder, 'names')
         code, _, errors = lower('--public', names, self.file('''#include <hippo.h>

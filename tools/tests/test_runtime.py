@@ -1,8 +1,8 @@
 """The runtime of lowered programs, against the system's C library.
 
-Each program of `runtime/` prints sums of what functions answer. Its native build, which calls the system's library, and
+Each program of `runtime/` prints sums of the results of functions. Its native build, which calls the system's library, and
 `hippo run` of its lowered text, into which the runtime is linked, must print the same, and so must the lowered text that is
-built for the processor. HIPPO names hippo, or crates/hippo/out/hippo is taken; without it what it would do is skipped.
+built for the processor. Hippo is out/hippo, or the program that HIPPO_PROGRAM names; without it the tests skip its runs.
 """
 import os
 import re
@@ -10,9 +10,8 @@ import subprocess
 import tempfile
 import unittest
 
-TESTS = os.path.dirname(os.path.abspath(__file__))
-TOP = os.path.dirname(os.path.dirname(TESTS))
-HIPPO = os.environ.get('HIPPO', f'{TOP}/crates/hippo/out/hippo')
+from clang_case import HIPPO, TESTS, TOP
+
 FLAGS = ['-w', '-D_GNU_SOURCE', '-fno-builtin', '-mclwb', '-mclflushopt', f'-I{TOP}/tools']
 OUTPUT = ['--ignore-output']
 FILES = ['--file-calls', '--pool', 'data.file=64K']
@@ -20,7 +19,7 @@ POOL = ['--pool', 'data.pool=16K']
 
 
 def run(words: list[str], folder: str) -> subprocess.CompletedProcess:
-    """What a command answers; its exit code must be 0."""
+    """Runs a command, whose exit code must be 0."""
     done = subprocess.run(words, cwd=folder, capture_output=True, encoding='latin-1')
     if done.returncode:
         raise AssertionError(f'{words[0]} ended with {done.returncode}: {done.stderr[:2000]}')
@@ -31,6 +30,7 @@ class Setting(unittest.TestCase):
     """Programs lowered, run and built."""
 
     def setUp(self) -> None:
+        """Makes a folder."""
         self.scratch = tempfile.TemporaryDirectory()
         self.folder = self.scratch.name
         self.addCleanup(self.scratch.cleanup)

@@ -1,4 +1,4 @@
-// What the drivers share: numbers that look random.
+// For the drivers: pseudo-random numbers.
 #ifndef DRAW_H
 #define DRAW_H
 

@@ -1,7 +1,7 @@
 """Fetches Debian's packages by apt-get, without any change to the system: lists and archives lie in one folder.
 
-A source package is unpacked from its original archive; apt-get checks its signature and its checksum. A package that the mirror
-does not have is left out, and the caller says so.
+A source package is unpacked from its original archive; apt-get checks its signature and its checksum. For a package that the
+mirror does not have, the answer is None.
 """
 import glob
 import os
@@ -16,12 +16,12 @@ SUITES = ('bookworm', 'trixie')
 class Packages:
     """Packages under one folder; what is already there is not fetched again."""
 
-    def __init__(self, folder: str):
+    def __init__(self, folder: str) -> None:
         self.folder = os.path.abspath(folder)
         self.is_ready = False
 
     def source(self, package: str) -> str | None:
-        """The folder of a package's original source, or None where it cannot be had."""
+        """The folder of a package's original source, or None if it is not available."""
         place = os.path.join(self.folder, 'source', package)
         if not os.path.isdir(place):
             archive = self.archive(package)
@@ -31,14 +31,14 @@ class Packages:
         return os.path.join(place, os.listdir(place)[0])
 
     def archive(self, package: str) -> str | None:
-        """The file of the original archive, fetched where it is not there yet."""
+        """The file of the original archive, which is fetched first."""
         self.apt_get('archives', 'source', '--download-only', package)
         found = sorted(file for file in glob.glob(f'{self.folder}/archives/{package}_*.orig.tar.*')
                        if not file.endswith('.asc'))
         return found[-1] if found else None
 
     def binaries(self, packages: list[str]) -> str | None:
-        """The folder under which built packages are unpacked, or None where one of them cannot be had."""
+        """The folder under which built packages are unpacked, or None if one of them is not available."""
         place = os.path.join(self.folder, 'binary')
         for package in packages:
             if not glob.glob(f'{self.folder}/debs/{package}_*.deb'):
@@ -50,7 +50,7 @@ class Packages:
         return place
 
     def apt_get(self, subfolder: str, *words: str) -> None:
-        """Runs apt-get in a subfolder; whether it brought the files is seen by what lies there."""
+        """Runs apt-get in a subfolder. The caller looks for the files, since apt-get may fail."""
         where = os.path.join(self.folder, subfolder)
         os.makedirs(where, exist_ok=True)
         options = self.options()
@@ -74,7 +74,7 @@ class Packages:
 
 
 def unpack(archive: str, place: str) -> None:
-    """Unpacks an archive into a folder, which is there only when all of it is."""
+    """Unpacks an archive into a folder, which appears only when it is complete."""
     partial = place + '.partial'
     with tarfile.open(archive) as tar:
         tar.extractall(partial, filter='data')

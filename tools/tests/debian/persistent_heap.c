@@ -1,5 +1,5 @@
-// malloc and kin over persistent memory that flush nothing, as a program has them whose structures were written for volatile
-// memory: blocks of powers of two, with a list of free blocks for each power.
+// malloc and similar functions over persistent memory. They flush nothing, as in a program that was written for volatile memory.
+// The size of a block is a power of two, and each power has a list of free blocks.
 #include <hippo.h>
 #include <stdint.h>
 #include <string.h>

@@ -4,7 +4,7 @@
 Sources are fetched from Debian's packages into a folder; nothing of them is part of this repository. Each piece is compiled
 with a driver of this folder. At each level the native build must print what `hippo run` prints; the run is recorded and
 repaired, `rerun` must say `after 0`, and the repaired text must print the same in hippo and built for the processor.
-Prints a line for each piece and level, and what was skipped; the exit code is 1 where something differs.
+It prints a line for each piece and level, and for each package that it skips; the exit code is 1 if something differs.
 """
 import argparse
 import os
@@ -27,13 +27,13 @@ def parse() -> argparse.Namespace:
     top = os.path.abspath(os.path.join(os.path.dirname(__file__), '../../..'))
     parser = argparse.ArgumentParser(description=__doc__, formatter_class=argparse.RawDescriptionHelpFormatter)
     parser.add_argument('--top', default=top, help='the repository whose tools/lower is tried')
-    parser.add_argument('--hippo', default=f'{top}/crates/hippo/out/hippo', help='the program hippo')
+    parser.add_argument('--hippo', default=os.environ.get('HIPPO_PROGRAM', f'{top}/out/hippo'), help='the program hippo (out/hippo)')
     parser.add_argument('--folder', default=os.path.expanduser('~/.cache/hippo-debian'),
                         help='where packages are kept from one run to the next')
     parser.add_argument('--levels', nargs='+', default=LEVELS)
     parser.add_argument('--jobs', type=int, default=2)
-    parser.add_argument('--keep', help='a folder in which what is made is left')
-    parser.add_argument('names', nargs='*', help='pieces; all of them where none is named')
+    parser.add_argument('--keep', help='keep the files that are made in this folder')
+    parser.add_argument('names', nargs='*', help='the pieces; without names, all of them')
     return parser.parse_args()
 
 
@@ -59,7 +59,7 @@ def attempt(piece: Piece, source: str, level: str, setting: Setting) -> tuple[bo
 
 
 def main() -> int:
-    """Tries each piece at each level; 0 where all of them go through."""
+    """Tries each piece at each level; returns 0 if all of them pass."""
     options = parse()
     pieces = [piece for piece in PIECES if not options.names or piece.name in options.names]
     packages = Packages(options.folder)

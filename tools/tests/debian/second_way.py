@@ -1,10 +1,10 @@
 #!/usr/bin/env python3
 """The line that hippo-c gives for a report, and the line of the instruction that makes the store in clang's native build.
 
-Each piece of C from Debian's packages is built by clang for the processor, with store_tracer.c, and run: each change of a byte of
-persistent memory is noted with its instruction. For a reported store the trace of hippo says which change of a byte it is, the
-first, the second and so on; llvm-symbolizer gives the line of the instruction that made this change natively. The innermost frame
-in the piece's files must be at the line that hippo-c gives. Prints a line for each piece; the exit code is 1 where a line differs.
+Clang builds each piece of C from Debian's packages for the processor, with store_tracer.c, which notes each change of a byte of
+persistent memory with its instruction. For a reported store the trace of hippo gives the number of the change of a byte: the first,
+the second and so on. llvm-symbolizer gives the line of the instruction that makes this change natively. The innermost frame in the
+piece's files must be at the line that hippo-c gives. A line shows the result of each piece; the exit code is 1 if a line differs.
 """
 import argparse
 import os
@@ -18,6 +18,7 @@ sys.dont_write_bytecode = True
 HERE = os.path.dirname(os.path.abspath(__file__))
 TOOLS = os.path.dirname(os.path.dirname(HERE))
 sys.path[:0] = [TOOLS, HERE]
+from hippo_c.program import parse_site  # noqa: E402
 from hippo_c.progress import Progress  # noqa: E402
 from hippo_c.reports import Group  # noqa: E402
 from hippo_c.running import lines_of  # noqa: E402
@@ -40,7 +41,7 @@ class Byte:
 
 
 def changed_bytes(path: str, wanted: set[int]) -> dict[int, Byte]:
-    """For each wanted store that changes a byte the one with the fewest changes before."""
+    """For each wanted store, the byte with the fewest earlier changes, among those that it changes."""
     values: dict[int, int] = {}
     changes: dict[int, int] = {}
     found: dict[int, Byte] = {}
@@ -70,8 +71,7 @@ def reported_bytes(session: Session, path: str, groups: list[Group]) -> list[tup
     counts: dict[int, int] = {}
     for line in lines_of(['check', session.text_path, path]):
         words = line.split(' ')
-        sites = tuple((site[1:].rsplit(':', 2)[0], site.rsplit(':', 2)[1], int(site.rsplit(':', 2)[2]))
-                      for site in line.partition('path ')[2].split(' '))
+        sites = tuple(map(parse_site, line.partition('path ')[2].split(' ')))
         group = group_of.get((words[1], sites))
         if group and counts.setdefault(id(group), 0) < 200:
             counts[id(group)] += 1
@@ -87,7 +87,7 @@ def reported_bytes(session: Session, path: str, groups: list[Group]) -> list[tup
 class Native:
     """The native build of a piece, and the changes of bytes that its run makes."""
 
-    def __init__(self, program: str, folder: str, arguments: list[str]):
+    def __init__(self, program: str, folder: str, arguments: list[str]) -> None:
         self.program = program
         sections = output(['llvm-readelf-19', '-S', '--wide', program])
         found = re.search(r'\s\.pm\s+PROGBITS\s+(\w+)\s+\w+\s+(\w+)', sections)
@@ -116,11 +116,12 @@ class Native:
 
 
 def output(words: list[str]) -> str:
+    """What a command writes to standard output."""
     return subprocess.run(words, stdout=subprocess.PIPE, stdin=subprocess.DEVNULL, text=True, check=True).stdout
 
 
 def compare(piece: Piece, source: str, level: str, most: int, folder: str) -> tuple[int, int, int, list[str]]:
-    """How many groups there are, how many have the same line, how many the native build has line 0 for, and what differs."""
+    """The numbers of groups, of those with the same line, and of those with line 0 in the native build, and the differences."""
     os.chdir(folder)
     configure(piece, source, folder)
     make_files(piece, folder)
@@ -152,7 +153,7 @@ def compare(piece: Piece, source: str, level: str, most: int, folder: str) -> tu
 
 
 def main() -> int:
-    """Compares for each piece; 0 where no line differs."""
+    """Compares the lines of each piece; returns 0 if none differs."""
     parser = argparse.ArgumentParser(description=__doc__, formatter_class=argparse.RawDescriptionHelpFormatter)
     parser.add_argument('--folder', default=os.path.expanduser('~/.cache/hippo-debian'), help='where packages are kept')
     parser.add_argument('--level', default='O1')

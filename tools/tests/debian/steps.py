@@ -128,7 +128,7 @@ def is_same(what: str, printed: str, code: int, expected: tuple[str, int]) -> No
 
 
 def hippo_run(what: str, text: str, setting: Setting, folder: str, expected: tuple[str, int]) -> None:
-    """`hippo run` of a text must be as expected; it writes `stop N`, or how else the run ended."""
+    """`hippo run` of a text must stop, with the expected output and exit code."""
     done = run([setting.hippo, 'run', text], folder, codes=tuple(range(128)))
     last = (done.stderr.strip().splitlines() or [''])[-1]
     if not last.startswith('stop '):
@@ -152,7 +152,7 @@ def repaired(text: str, setting: Setting, folder: str, code: int) -> tuple[str, 
 
 
 def pass_through(piece: Piece, source: str, level: str, setting: Setting) -> tuple:
-    """The whole way of a piece at a level; lines of C, the level, lowered lines, seconds, and the counts."""
+    """Takes a piece at a level through all steps; returns the lines of C, the level, the lowered lines, the seconds, and the counts."""
     folder = f'{setting.scratch}/{piece.name}.{level}'
     shutil.rmtree(folder, ignore_errors=True)
     os.makedirs(folder)

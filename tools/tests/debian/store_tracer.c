@@ -1,8 +1,8 @@
-// Writes each change of a byte in a range of memory of the program that it is linked into, with the instruction that made it.
-// The range's pages are write-protected; a store into them traps, runs alone by the processor's single step, and what it
-// changed is a line `ADDRESS VALUE INSTRUCTION CALLER...` of the file that STORE_TRACE names, the numbers hexadecimal.
-// STORE_RANGE has the first address and the size. An instruction of a library has its callers, by frame pointers, which libc's
-// copies leave alone. Nothing here calls malloc, which may be the program's own.
+// Notes each change of a byte in a range of memory of the program that it is linked into, with the instruction that made it.
+// The range's pages are write-protected. A store into them faults, and then runs alone by the processor's single step. For each
+// byte that it changed, the file that STORE_TRACE names gets a line `ADDRESS VALUE INSTRUCTION CALLER...` in hexadecimal.
+// STORE_RANGE has the first address and the size. The callers of an instruction of a library come from frame pointers, which
+// libc's copies do not change. Nothing here calls malloc, which may be the program's own.
 #define _GNU_SOURCE
 #include <fcntl.h>
 #include <signal.h>

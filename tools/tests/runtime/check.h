@@ -1,4 +1,4 @@
-// What the test programs of the runtime share: numbers that look random, and a sum of all results of one function.
+// For the test programs of the runtime: pseudo-random numbers, and a sum of all results of one function.
 #ifndef CHECK_H
 #define CHECK_H
 

@@ -1,2 +1,2 @@
-// What musl's sort takes of its "atomic.h".
+// The part of musl's "atomic.h" that its sort needs.
 #define a_ctz_l(number) __builtin_ctzl(number)

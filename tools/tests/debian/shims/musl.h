@@ -1,4 +1,4 @@
-// What musl's own <features.h> and <stdlib.h> say to its sources.
+// The parts of musl's own <features.h> and <stdlib.h> that its sources need.
 #include <stddef.h>
 #define hidden
 #define weak_alias(old, new) extern __typeof(old) new __attribute__((weak, alias(#old)))

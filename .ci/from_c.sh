@@ -18,18 +18,9 @@ trap 'rm -rf "$scratch"' EXIT
 folder=examples/from_c
 passed=0
 failed=0
-
-# count LINE COMMAND..: counts a check, which passes if the command does
-count() {
-  local line=$1
-  shift
-  if "$@"; then
-    passed=$((passed + 1))
-  else
-    failed=$((failed + 1))
-    echo "from C: $line"
-  fi
-}
+export LABEL="from C"
+# shellcheck source=/dev/null
+source .ci/counting.sh
 
 # A processor without clwb gets clflush in its place, which has the same type.
 if grep -qw clwb /proc/cpuinfo; then flush=llvm.x86.clwb; else flush=llvm.x86.sse2.clflush; fi

@@ -15,24 +15,16 @@ top=$(cd "$(dirname "${BASH_SOURCE[0]}")/.." && pwd) || exit 2
 cd "$top" || exit 2
 scratch=$(mktemp -d) || exit 2
 trap 'rm -rf "$scratch"' EXIT
-passed=0
-failed=0
 PATH=$top/tools:$PATH
 hippo() { "$top/hippo" "$@"; }
 export top
 export -f hippo
 
-# count LINE COMMAND..: counts a case, which passes if the command does
-count() {
-  local line=$1
-  shift
-  if "$@"; then
-    passed=$((passed + 1))
-  else
-    failed=$((failed + 1))
-    echo "case: $line"
-  fi
-}
+passed=0
+failed=0
+export LABEL=case
+# shellcheck source=/dev/null
+source .ci/counting.sh
 
 # commands BLOCK: writes a script that prints each command of a block, and runs it
 commands() {

@@ -11,7 +11,7 @@ from .progress import Progress
 from .session import Request
 from .trouble import Trouble
 
-FOUND, FAILED, INTERRUPTED = 1, 2, 130
+FAILED, INTERRUPTED = 2, 130
 LOWER_FLAGS = ('mem2reg', 'ignore-output', 'print-numbers', 'time-from-input', 'file-calls', 'single-thread', 'unaligned', 'non-temporal')
 LOWER_VALUES = {'heap': 'SIZE', 'pool': 'NAME=SIZE[,FILE]', 'array-bound': 'SIZE'}
 DESCRIPTION = '''Durability of C programs, by lines of C.

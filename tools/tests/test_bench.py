@@ -32,6 +32,7 @@ class Programs(unittest.TestCase):
     """Each text is one that LLVM takes."""
 
     def setUp(self) -> None:
+        """Needs the assembler."""
         if shutil.which("llvm-as-19") is None:
             self.skipTest("llvm-as-19 is not installed")
 

@@ -73,6 +73,7 @@ class Tables(unittest.TestCase):
 
     @classmethod
     def setUpClass(cls) -> None:
+        """Reads the proved table."""
         cls.table = proved_table(TABLE.read_text(encoding='utf-8'))
 
     def test_every_row_of_the_proved_table_is_found(self) -> None:

@@ -196,17 +196,22 @@ class Traps(Case):
 class Files(Case):
     """No half file is left."""
 
+    def has_part_of_a_trace(self) -> bool:
+        """Whether a trace is being written."""
+        names = os.listdir(self.path('kept')) if os.path.isdir(self.path('kept')) else []
+        return any('trace' in name and name.endswith('.part') and os.path.getsize(self.path(f'kept/{name}')) for name in names)
+
     def test_an_interrupted_record_leaves_no_trace(self) -> None:
-        self.write('a.c', HEAD + 'PERSISTENT long a;\nint main(void) { for (;;) a++; }\n')
+        self.write('a.c', HEAD + 'PERSISTENT volatile long a;\nint main(void) { for (;;) a++; }\n')
         command = [sys.executable, os.path.join(TOOLS, 'hippo-c'), 'check', 'a.c', '--keep', 'kept', '--limit', '90000000000']
         process = subprocess.Popen(command, cwd=self.folder, stderr=subprocess.PIPE, start_new_session=True)
-        until = time.monotonic() + 60
-        while time.monotonic() < until and not any(
-                name.endswith('.part') and 'trace' in name and os.path.getsize(self.path(f'kept/{name}'))
-                for name in (os.listdir(self.path('kept')) if os.path.isdir(self.path('kept')) else [])):
+        until = time.monotonic() + 240
+        while time.monotonic() < until and not self.has_part_of_a_trace():
             time.sleep(0.05)
+        written = self.has_part_of_a_trace()
         os.killpg(process.pid, signal.SIGINT)
         _, notes = process.communicate(timeout=30)
         self.assertEqual(process.returncode, 130, notes)
         self.assertIn(b'interrupted', notes)
+        self.assertTrue(written, 'the record wrote nothing')
         self.assertEqual(os.listdir(self.path('kept')), ['program.ll'])

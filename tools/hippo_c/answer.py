@@ -8,7 +8,7 @@ from .program import show_site
 from .reports import Group
 from .session import Checked, Session
 from .suggesting import Suggestions
-from .traps import MEANING
+from .traps import meaning_of
 
 FORMAT = 1
 ABOUT = 'The answer of hippo in another form, which hippo-c made; hippo-c is not proved.'
@@ -66,7 +66,7 @@ def trap_of(session: Session, checked: Checked) -> dict | None:
         return None
     kind = checked.ended.split(' ')[1]
     places = session.places.along(checked.trap.path) if checked.trap else []
-    return {'kind': kind, 'meaning': MEANING.get(kind, kind), 'place': place_of(places[0] if places else None),
+    return {'kind': kind, 'meaning': meaning_of(kind, checked.trap), 'place': place_of(places[0] if places else None),
             'calls': [place_of(place) for place in places[1:]]}
 
 

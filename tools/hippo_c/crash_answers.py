@@ -7,7 +7,7 @@ from dataclasses import dataclass
 from typing import TYPE_CHECKING
 
 from . import images, running
-from .diagnostics import Printer, amount, print_calls
+from .diagnostics import Printer, amount, print_calls, print_merged
 from .entries import paths_of_entries
 from .places import Place
 from .program import GLOBAL, REGION_BASE, Program, Site
@@ -98,6 +98,7 @@ def print_recovery_trap(printer: Printer, session: Session, path: str, outcome: 
     places = session.places.along(trap.path) if trap else []
     for place in places[:1]:
         printer.diagnostic(place, 'note', 'the run from that image ends here')
+        print_merged(printer, place)
     print_calls(printer, places, MOST_CALLS)
 
 

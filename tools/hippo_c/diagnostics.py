@@ -8,7 +8,7 @@ from .program import show_site
 from .reports import Group
 from .session import Checked, Session
 from .sources import line_of
-from .traps import MEANING
+from .traps import meaning_of
 
 COLOURS = {'warning': '\x1b[0;1;35m', 'error': '\x1b[0;1;31m', 'note': '\x1b[0;1;36m', 'bold': '\x1b[1m',
            'caret': '\x1b[0;1;32m', 'off': '\x1b[0m'}
@@ -93,8 +93,7 @@ def print_group(printer: Printer, session: Session, checked: Checked, group: Gro
     places = session.places.along(group.path)
     place = places[0] if places else None
     printer.diagnostic(place, 'warning', message_of(session, checked, group), True, show_site(group.path[0]))
-    if place and not place.exact:
-        printer.diagnostic(place, 'note', f"clang merged lines of '{place.function}' here; -O0 keeps them apart")
+    print_merged(printer, place)
     if group.flush:
         flushed = session.places.along((group.flush,))
         printer.diagnostic(flushed[0] if flushed else None, 'note', 'no fence follows this flush', site=show_site(group.flush))
@@ -107,14 +106,19 @@ def print_calls(printer: Printer, places: list[Place], most: int | None = None) 
         printer.diagnostic(outer, 'note', f"'{inner.function}' is called here, by '{outer.function}'")
 
 
+def print_merged(printer: Printer, place: Place | None) -> None:
+    """A note where a place is that of a function's head."""
+    if place and not place.exact:
+        printer.diagnostic(place, 'note', f"clang merged lines of '{place.function}' here; -O0 keeps them apart")
+
+
 def print_trap(printer: Printer, session: Session, checked: Checked) -> None:
     """Where the run trapped, and by which calls."""
     kind = checked.ended.split(' ')[-1]
-    if checked.trap is None:
-        printer.diagnostic(None, 'error', f'the run trapped: {MEANING.get(kind, kind)} [{kind}]')
-        return
-    places = session.places.along(checked.trap.path)
-    printer.diagnostic(places[0] if places else None, 'error', f'the run trapped: {MEANING.get(kind, kind)} [{kind}]', True)
+    places = session.places.along(checked.trap.path) if checked.trap else []
+    place = places[0] if places else None
+    printer.diagnostic(place, 'error', f'the run trapped: {meaning_of(kind, checked.trap)} [{kind}]', True)
+    print_merged(printer, place)
     print_calls(printer, places, MOST_CALLS)
     if len(places) - 1 > MOST_CALLS:
         printer.line(f'  ({len(places) - 1 - MOST_CALLS:,} more calls outwards)')

@@ -104,16 +104,18 @@ class Session:
         groups = joined(groups, lambda site: bool(self.places.of(site)))
         trace = read_trace(path, self.program, {group.entry for group in groups})
         checked = Checked(numbers, path, groups, trace, ended.how, {})
-        checked.check_places = self.check_places(checked)
         if kind := ended.word('trap'):
             self.progress.say('looking for the trap')
             checked.trap = find_trap(self.program, numbers, kind)
+        checked.check_places = self.check_places(checked)
         if coverage and ended.code != running.CUT:
             checked.lines_ran = self.lines_that_ran(numbers)
         return checked
 
     def check_places(self, checked: Checked) -> dict[int, Place | None]:
-        """The place of each check that a group names, by the number of its entry; the return of main is one of the checks."""
+        """The place of each check that a group names, by the number of its entry; the return of main is one of the checks.
+
+        The check of `exit` is not in a function of the user's. The run traps after it, by the same calls."""
         wanted = {group.check for group in checked.groups}
         trace = checked.trace
         if not wanted:
@@ -123,7 +125,8 @@ class Session:
             self.progress.say('looking for the checks')
             sites = marking.sites_of_checks(self.program, checked.numbers, trace.asserts, checked.ended != 'cut')
         numbered = dict(zip([*trace.assert_numbers, trace.entries], sites))
-        return {number: self.places.first((numbered[number],)) for number in wanted if number in numbered}
+        calls = checked.trap.path if checked.trap else ()
+        return {number: self.places.first((numbered[number], *calls)) for number in wanted if number in numbered}
 
     def only_sites(self, trace: Trace) -> list[Site] | None:
         """The sites of all checks of a run, if the program has at most one assert and one return of main; otherwise nothing."""

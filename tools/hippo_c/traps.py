@@ -1,4 +1,5 @@
 """Where a run traps: the instruction and the calls above it, as a marked copy of the program shows them."""
+import re
 from dataclasses import dataclass
 
 from lowering.externs import TAKE_ADDRESSES
@@ -18,6 +19,14 @@ MEANING = {
     'depth': 'calls are nested more than 16,384 deep', 'input': 'no number of the input is left',
     'unreachable': '__builtin_trap, abort or a failed assert was reached',
 }
+# What `unreachable` means in blocks that tools/lower adds, and in the function that ends the program.
+ADDED = re.compile(r'.*\.no\.(?P<what>function|label)(?:\.\d+)?')
+MEANING_OF_ADDED = {
+    'function': "a call by pointer to no function of the call's type",
+    'label': 'a goto to an address that is no label of the function',
+}
+EXIT = 'hippo._exit'
+MEANING_OF_EXIT = 'exit was called outside main, and the region was checked'
 
 
 @dataclass
@@ -25,6 +34,17 @@ class Trap:
     """The kind of a trap and the path of sites to it: the instruction, then the calls outwards."""
     kind: str
     path: tuple[Site, ...]
+
+
+def meaning_of(kind: str, trap: Trap | None) -> str:
+    """What a trap of a kind means at its instruction, if this is known."""
+    if kind == 'unreachable' and trap:
+        function, block, _ = trap.path[0]
+        if function == EXIT:
+            return MEANING_OF_EXIT
+        if added := ADDED.fullmatch(block):
+            return MEANING_OF_ADDED[added['what']]
+    return MEANING.get(kind, kind)
 
 
 def may_trap(instruction: Instruction, kind: str, program: Program) -> bool:

@@ -7,13 +7,13 @@ from .assembly import lower_assembly
 from .constants import zero_of
 from .externs import EXTERNS
 from .intrinsics import is_without_effect, lower_intrinsic
-from .layout import words
 from .refusals import Refused
 from .runtime import CHECK_REGION
 from .start import ENDS
 from .tokens import LINKAGE, Tokens
-from .types import Type, alignment, pieces, show_type, size
+from .types import Type, pieces
 from .values import read_operand
+from .variable_arguments import variable_block
 from .writer import struct_of
 
 if TYPE_CHECKING:
@@ -125,7 +125,7 @@ def put_call(function: Function, callee: str, signature: Signature, call: Call) 
     """The call of a function whose signature is known, with its result."""
     types = pieces(signature.result)
     slot = result_slot(function, types, call.target)
-    text = call_text(function, callee, signature, call, slot, variable_slots(function, call))
+    text = call_text(function, callee, signature, call, slot, variable_block(function, call))
     if slot:
         function.put(text)
         if call.target:
@@ -179,41 +179,15 @@ def argument_types(call: Call) -> list[tuple[str, bool]]:
             for piece in pieces(argument.type)]
 
 
-def variable_slots(function: Function, call: Call) -> str:
-    """The block with the variable arguments, 8 bytes for each piece; an empty text if there are none."""
-    variable = call.arguments[call.fixed:]
-    if not variable:
-        return ''
-    slots, offset = function.fresh('variable.arguments'), 0
-    for argument in variable:
-        if argument.copied is not None:
-            count = size(argument.copied)
-            helper = function.module.copy_helper(min(8, alignment(argument.copied)), count)
-            at = slot_at(function, slots, offset)
-            function.put(f'call void {helper}(ptr {at}, ptr {argument.values[0]}, i64 {count})')
-            offset += -(-count // 8) * 8
-        else:
-            for piece, value in zip(pieces(argument.type), argument.values):
-                function.put(f'store {piece} {value}, ptr {slot_at(function, slots, offset)}')
-                offset += 8
-    function.entry.append(f'{slots} = alloca {show_type(words(offset, 8))}')
-    return slots
-
-
-def slot_at(function: Function, slots: str, offset: int) -> str:
-    """The address of a slot."""
-    return function.emit(f'getelementptr i8, ptr {slots}, i64 {offset}') if offset else slots
-
-
 def call_by_pointer(function: Function, pointer: str, call: Call) -> None:
     """A switch over the functions that the pointer may name: those with the type of the call whose address is taken.
 
     A pointer to no such function traps."""
     module = function.module
     number = function.emit(f'ptrtoint ptr {pointer} to i64')
-    slot, variable = result_slot(function, pieces(call.result), call.target), variable_slots(function, call)
+    slot, variable = result_slot(function, pieces(call.result), call.target), variable_block(function, call)
     chosen = [(callee, code) for callee, code in module.code.numbers() if fits(module.signature_of(callee), call)]
-    if not chosen and pointer != 'null':
+    if not chosen and pointer != 'null' and module.is_own(function.written_name):
         module.notes.add(f'{function.place()}no function whose address is taken has the type of this call: it traps')
     labels = [function.fresh(f'{function.origin}.{module.name_of(callee)}') for callee, _ in chosen]
     done, trap = (function.fresh(f'{function.origin}.{word}') for word in ('called', 'no.function'))

@@ -10,6 +10,7 @@ from .refusals import Refused
 from .tokens import LINKAGE, Tokens
 from .types import Type, alignment, bits, pieces, read_type, show_type, size
 from .values import collect_same_values, read_operand
+from .variable_arguments import registers_of
 from .writer import Writer
 
 if TYPE_CHECKING:
@@ -51,8 +52,10 @@ class Function(Writer):
         self.blocks: set[str] = set()
         self.metadata: dict[str, str] = {}
         self.parameters: list[str] = []
-        self.result_slot = self.variable_slots = ''
+        self.result_slot = self.variable_block = ''
+        self.registers_taken = 0
         head, metadata = module.places.without_metadata(head)
+        self.head_place = module.places.of(metadata)
         self.head_comment = module.line_tables.head_comment(metadata) if module.line_tables else ''
         self.lines = [module.places.without_metadata(line) for line in join_switches(body)]
         self.definitions = {found[1]: line for line, _ in self.lines if (found := TARGET.match(line))}
@@ -61,7 +64,7 @@ class Function(Writer):
         try:
             self.read_head(Tokens(head))
         except Refused as refusal:
-            module.refusals.add(refusal, module.places.of(metadata), head[:110])
+            module.refusals.add(refusal, self.head_place, head[:110])
 
     def read_head(self, tokens: Tokens) -> None:
         """The function's parameters and its result."""
@@ -81,13 +84,15 @@ class Function(Writer):
                 break
             type_ = self.type(tokens)
             _, copied = tokens.skip_attributes()
-            self.parameter(type_, tokens.take(), copied and self.type(copied))
+            copied = copied and self.type(copied)
+            self.parameter(type_, tokens.take(), copied)
+            self.registers_taken += registers_of(type_, copied, self.registers_taken)
             types += pieces(type_)
             by_value += [copied is not None] * len(pieces(type_))
             tokens.take_if(',')
         if variadic:
-            self.variable_slots = self.fresh('variable')
-            self.parameters.append(f'ptr {self.variable_slots}')
+            self.variable_block = self.fresh('variable')
+            self.parameters.append(f'ptr {self.variable_block}')
         self.signature = Signature(result, tuple(types), tuple(by_value), variadic)
 
     def parameter(self, type_: Type, written: str, copied: Type | None) -> None:
@@ -114,7 +119,7 @@ class Function(Writer):
                 self.lower_line(line, metadata)
             except Refused as refusal:
                 at = f'{line[:110]} (in {self.written_name})'
-                self.module.refusals.add(refusal, self.module.places.of(metadata), at)
+                self.module.refusals.add(refusal, self.module.places.of(metadata) or self.head_place, at)
         name = self.module.names[self.written_name]
         head = f'define {self.signature.returned} @{name}({", ".join(self.parameters)}) {{{self.head_comment}'
         return '\n'.join([head, *self.body(), '}'])
@@ -146,8 +151,8 @@ class Function(Writer):
             raise Refused('thread-local data', 'thread')
 
     def place(self) -> str:
-        """The place in C of the instruction that is lowered."""
-        return self.module.places.of(self.metadata)
+        """The place in C of the instruction that is lowered, or of the function if clang gives it no line."""
+        return self.module.places.of(self.metadata) or self.head_place
 
     # Types and operands.
 

@@ -10,6 +10,7 @@ from .blocks import lower_block
 from .integers import cut, extended
 from .refusals import Refused
 from .types import INTEGERS, bits, container
+from .variable_arguments import variable_copy, variable_start
 from .wide_intrinsics import lower_wide
 
 if TYPE_CHECKING:
@@ -128,19 +129,14 @@ def pointer_mask(function: Function, call: Call) -> None:
     function.assign(call.target, f'inttoptr i64 {masked} to ptr')
 
 
-def variable_start(function: Function, call: Call) -> None:
-    """`va_start`: x86-64's list of variable arguments, all of them in memory."""
-    at = first_values(call)[0]
-    slots = function.variable_slots or 'null'
-    for offset, text in ((0, 'i32 48'), (4, 'i32 304'), (8, f'ptr {slots}'), (16, 'ptr null')):
-        place = function.emit(f'getelementptr i8, ptr {at}, i64 {offset}') if offset else at
-        function.put(f'store {text}, ptr {place}')
+def start_list(function: Function, call: Call) -> None:
+    """`va_start`."""
+    variable_start(function, first_values(call)[0])
 
 
-def variable_copy(function: Function, call: Call) -> None:
+def copy_list(function: Function, call: Call) -> None:
     """`va_copy`."""
-    to, start = first_values(call)
-    function.put(f'call void {function.module.copy_helper(8, 24)}(ptr {to}, ptr {start}, i64 24)')
+    variable_copy(function, *first_values(call))
 
 
 def nothing_known(function: Function, call: Call) -> None:
@@ -150,6 +146,6 @@ def nothing_known(function: Function, call: Call) -> None:
 
 
 BY_NAME = {
-    'abs.': absolute, 'ptrmask.': pointer_mask, 'va_start': variable_start, 'va_copy': variable_copy,
+    'abs.': absolute, 'ptrmask.': pointer_mask, 'va_start': start_list, 'va_copy': copy_list,
     'readcyclecounter': nothing_known, 'x86.rdtsc': nothing_known,
 }

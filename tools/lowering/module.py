@@ -115,10 +115,14 @@ class Module:
                 f'{written} is an external function of hippo: declare it, and define it elsewhere', 'known'))
             self.names[written] = name
             return written
-        if name not in self.own_names:
+        if not self.is_own(written):
             name = f'hippo.{name}'
         self.names[written] = clean_name(name, self.taken, 'g')
         return written
+
+    def is_own(self, written: str) -> bool:
+        """Whether a name is that of a file of the command line, and not of the runtime."""
+        return written[1:].strip('"') in self.own_names
 
     def note_assumed(self, program: Program) -> None:
         """Notes which calls and which accesses needed an option."""

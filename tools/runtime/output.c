@@ -39,6 +39,35 @@ int fprintf(FILE *restrict stream, const char *restrict format, ...) {
   return length;
 }
 
+// The names of these calls where _FORTIFY_SOURCE is defined.
+int __vfprintf_chk(FILE *restrict stream, int flag, const char *restrict format, va_list arguments) {
+  (void)flag;
+  return vfprintf(stream, format, arguments);
+}
+
+int __vprintf_chk(int flag, const char *restrict format, va_list arguments) {
+  (void)flag;
+  return vprintf(format, arguments);
+}
+
+int __printf_chk(int flag, const char *restrict format, ...) {
+  (void)flag;
+  va_list arguments;
+  va_start(arguments, format);
+  int length = vfprintf(stdout, format, arguments);
+  va_end(arguments);
+  return length;
+}
+
+int __fprintf_chk(FILE *restrict stream, int flag, const char *restrict format, ...) {
+  (void)flag;
+  va_list arguments;
+  va_start(arguments, format);
+  int length = vfprintf(stream, format, arguments);
+  va_end(arguments);
+  return length;
+}
+
 int vdprintf(int descriptor, const char *restrict format, va_list arguments) {
   return vfprintf(descriptor == 1 ? stdout : stderr, format, arguments);
 }

@@ -132,6 +132,21 @@ int main(void) {
         self.assertIn('note: thread-local data: a plain global, as --single-thread allows', errors)
         self.assertIn('bad.c:6: no function whose address is taken has the type of this call', errors)
 
+    def test_an_instruction_without_a_line_has_the_place_of_its_function(self) -> None:
+        """clang gives the room of a local variable no line."""
+        code, out, errors = lower('-O0', self.file('int main(void) {\n  float part;\n  (void)&part;\n  return 0;\n}\n'))
+        self.assertEqual((code, out), (5, ''))
+        self.assertRegex(errors, r'^lower: \S*bad\.c:1: the type float is not in the subset: %part = alloca float')
+
+    def test_notes_are_of_the_own_files(self) -> None:
+        """The runtime's calls by pointer get no note."""
+        code, _, errors = lower(self.file('''#include <stdlib.h>
+static void leave(int code) { exit(code); }
+int main(void) { leave(3); return 0; }
+''', 'leaves.c'))
+        self.assertEqual(code, 0, errors)
+        self.assertNotIn('no function whose address is taken', errors)
+
     def test_unreached(self) -> None:
         """What main does not reach is not refused."""
         code, out, errors = lower(self.file('''#include <hippo.h>

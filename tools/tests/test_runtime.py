@@ -101,6 +101,9 @@ class Runtime(Setting):
     def test_formats(self) -> None:
         self.is_same('formats')
 
+    def test_fortified(self) -> None:
+        self.is_same('fortified', *OUTPUT)
+
     def test_scans(self) -> None:
         self.is_same('scans')
 
@@ -153,6 +156,21 @@ class SmallPrograms(Setting):
         self.assertEqual(self.end_of('#include <stdlib.h>\nint main(void) { abort(); }'), 'trap unreachable')
         self.assertEqual(self.end_of('#include <assert.h>\nint main(void) { assert(read_i64 == 0); return 0; }'),
                          'trap unreachable')
+
+    def test_a_write_past_a_fortified_object_traps(self) -> None:
+        program = ('#include <string.h>\nstatic char a[8];\nstatic const char *volatile text = "%s";\n'
+                   'int main(void) { __builtin___%s, 8); return a[0]; }')
+        calls = {name: f'{name}_chk({words}' for name, words in (
+            ('strcpy', 'a, text'), ('strcat', 'a, text'), ('strncat', 'a, text, 9'), ('stpcpy', 'a, text'),
+            ('memset', 'a, 115, strlen(text) + 1'), ('memcpy', 'a, text, strlen(text) + 1'),
+            ('strncpy', 'a, text, strlen(text) + 1'))}
+        for name, call in calls.items():
+            self.assertEqual(self.end_of(program % ('sevenxy', call)), 'stop 115', name)
+            self.assertEqual(self.end_of(program % ('seventyx', call)), 'trap unreachable', name)
+        program = program.replace(', 8)', ')')
+        for call in ('sprintf_chk(a, 0, 8, "%s", text', 'snprintf_chk(a, strlen(text) + 1, 0, 8, "%s", text'):
+            self.assertEqual(self.end_of(program % ('sevenxy', call)), 'stop 115', call)
+            self.assertEqual(self.end_of(program % ('seventyx', call)), 'trap unreachable', call)
 
     def test_exit_in_main_is_a_return(self) -> None:
         program = ('#include <stdlib.h>\nstatic void last(void) { print_i64(9); }\n'

@@ -158,6 +158,7 @@ class Traps(Case):
         """A run of a program traps at a line, with its calls at these lines."""
         self.write('a.c', HEAD + text)
         ran = self.hippo_c('run', 'a.c', '-O0', '--no-source', '--input', *numbers, code=2)
+        self.ran = ran
         self.assertRegex(ran.stderr, rf'^a\.c:{line}:\d+: error: the run trapped: .* \[{kind}\]')
         for call in calls:
             self.assertIn(f'a.c:{call}:', ran.stderr)
@@ -180,6 +181,33 @@ class Traps(Case):
                      'depth', 3, '1')
         self.trapped('long deep(long n) {\n  char a[8192];\n  a[n & 63] = 1;\n  return n ? deep(n + 1) + a[3] : 0;\n}\n'
                      'int main(void) {\n  return (int)deep(read_i64());\n}\n', 'stack', 2, '1')
+
+    def test_what_unreachable_means(self) -> None:
+        self.trapped('PERSISTENT long (*f)(long);\nint main(void) {\n  return (int)f(read_i64());\n}\n', 'unreachable', 4, '1')
+        self.assertIn("a call by pointer to no function of the call's type [", self.ran.stderr)
+        self.trapped('int main(void) {\n  static void *to[2] = {&&end};\n  goto *to[read_i64()];\nend:\n  return 0;\n}\n',
+                     'unreachable', 2, '1')
+        self.assertIn('a goto to an address that is no label of the function [', self.ran.stderr)
+        self.trapped('void exit(int);\nstatic void fail(void) {\n  exit(3);\n}\nint main(void) {\n  fail();\n  return 0;\n}\n',
+                     'unreachable', 4, calls=(7,))
+        self.assertIn('exit was called outside main, and the region was checked [', self.ran.stderr)
+
+    def test_the_check_of_exit_has_the_place_of_its_call(self) -> None:
+        self.write('a.c', HEAD + 'void exit(int);\nPERSISTENT long a;\nstatic void fail(void) {\n  a = 1;\n  exit(3);\n}\n'
+                   'int main(void) {\n  fail();\n  return 0;\n}\n')
+        ran = self.hippo_c('check', 'a.c', '--no-source', code=1)
+        self.assertIn("a.c:5:5: warning: store of 8 bytes to 'a' is not durable at the check in a.c:6 [", ran.stdout)
+
+    def test_a_trap_in_merged_lines_has_the_head_and_a_note(self) -> None:
+        self.write('a.c', HEAD + 'static long a[4];\nstatic long run(const char *pc) {\n'
+                   '  static const void *const labels[] = {&&halt, &&up, &&down};\n  goto *labels[(unsigned char)*pc];\n'
+                   'halt:\n  return a[1];\nup:\n  a[1]++;\n  pc++;\n  goto *labels[(unsigned char)*pc];\n'
+                   'down:\n  a[1]--;\n  pc++;\n  goto *labels[(unsigned char)*pc];\n}\n'
+                   'int main(void) {\n  static char code[] = {1, 2, 0};\n  code[1] = (char)read_i64();\n  return (int)run(code);\n}\n')
+        ran = self.hippo_c('run', 'a.c', '-O1', '--no-source', '--input', '200', code=2)
+        lines = ran.stderr.splitlines()
+        self.assertRegex(lines[0], r'^a\.c:3:1: error: the run trapped: .* \[address\]$')
+        self.assertEqual(lines[1], "a.c:3:1: note: clang merged lines of 'run' here; -O0 keeps them apart")
 
     def test_check_says_where_and_keeps_what_it_found(self) -> None:
         self.write('a.c', HEAD + 'PERSISTENT long a;\nint main(void) {\n  a = 1;\n  pm_assert(&a, 8);\n  __builtin_trap();\n}\n')

@@ -31,12 +31,33 @@ static long long mixed(const char *form, ...) {
     case 'l': found = found * 3 + va_arg(list, long long); break;
     case 'c': found = found * 3 + (char)va_arg(list, int); break;
     case 's': found = found * 3 + va_arg(list, const char *)[0]; break;
+    case 'q': { __int128 q = va_arg(list, __int128); found = found * 3 + (long long)(q >> 64) * 5 + (long long)q; break; }
     case 'p': { struct pair p = va_arg(list, struct pair); found = found * 3 + p.a + p.b; break; }
     case 'm': { struct large m = va_arg(list, struct large); found = found * 3 + m.words[0] + m.words[3]; break; }
     }
   }
   va_end(list);
   return found;
+}
+
+static long long many(int a, int b, int c, int d, int e, int f, const char *form, ...) {
+  va_list list;
+  va_start(list, form);
+  __int128 q = va_arg(list, __int128);
+  long long l = va_arg(list, long long);
+  struct pair p = va_arg(list, struct pair);
+  va_end(list);
+  return a + b + c + d + e + f + form[0] + (long long)(q >> 64) * 5 + (long long)q + l * 7 + p.a * 11 + p.b;
+}
+
+static struct large returned(int count, ...) {
+  va_list list;
+  va_start(list, count);
+  long long l = va_arg(list, long long);
+  __int128 q = va_arg(list, __int128);
+  int i = va_arg(list, int);
+  va_end(list);
+  return (struct large){{count, l, (long long)(q >> 64) * 5 + (long long)q * 3 + i, 0}};
 }
 
 static long long (*volatile by_pointer)(int, ...) = sum;
@@ -48,6 +69,11 @@ int main(void) {
   print_i64(mixed("ilcs", 5, 1ll << 40, 'x', "abc"));
   print_i64(mixed("ipmi", 1, (struct pair){2, 3}, (struct large){{4, 5, 6, 7}}, -8));
   print_i64(mixed("iiiiiip", 1, 2, 3, 4, 5, 6, (struct pair){7, 8}));
+  print_i64(mixed("iiiiiqiqqi", 1, 2, 3, 4, 5, (__int128)7 << 64 | 8, 6, (__int128)2 << 64 | 3, -(__int128)9, 4));
+  print_i64(mixed("q", (__int128)7 << 64 | 8));
+  print_i64(mixed("iqlqpqm", 1, (__int128)2 << 64 | 3, 4ll, (__int128)5, (struct pair){6, 7}, -(__int128)8, (struct large){{9, 10, 11, 12}}));
+  print_i64(many(1, 2, 3, 4, 5, 6, "qlp", (__int128)7 << 64 | 8, 9ll, (struct pair){10, 11}));
+  print_i64(returned(1, 2ll, (__int128)3 << 64 | 4, 5).words[2]);
   print_i64(by_pointer(2, 30, 12));
   return 0;
 }

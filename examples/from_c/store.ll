@@ -141,7 +141,7 @@ entry:
 }
 define i64 @put(ptr %store) {
 entry:
-  %variable.arguments = alloca [1 x i64]
+  %variable.arguments = alloca [6 x i64]
   %call = call i64 @read_i64()
   %call1 = call i64 @read_i64()
   %add = add i64 %call1, 32
@@ -149,7 +149,8 @@ entry:
   %tobool.not = icmp eq ptr %call2, null
   br i1 %tobool.not, label %cleanup21, label %if.end
 if.end:
-  store i64 %call, ptr %variable.arguments
+  %added.1 = getelementptr i8, ptr %variable.arguments, i64 24
+  store i64 %call, ptr %added.1
   %call3 = call i32 @hippo.snprintf(ptr %call2, i64 32, ptr @.str.10, ptr %variable.arguments)
   %idx.ext = sext i32 %call3 to i64
   %add.ptr = getelementptr i8, ptr %call2, i64 %idx.ext
@@ -283,7 +284,7 @@ cond.end:
 }
 define i64 @many(ptr %store) {
 entry:
-  %variable.arguments = alloca [1 x i64]
+  %variable.arguments = alloca [6 x i64]
   %bytes = alloca [3 x i64], align 16
   %call = call i64 @read_i64()
   %call1 = call i64 @read_i64()
@@ -311,7 +312,8 @@ if.then:
 if.else:
   %mul3 = mul i64 %rem, 7919
   %rem4 = urem i64 %mul3, 1000
-  store i64 %rem4, ptr %variable.arguments
+  %added.1 = getelementptr i8, ptr %variable.arguments, i64 24
+  store i64 %rem4, ptr %added.1
   %call5 = call i32 @hippo.snprintf(ptr %bytes, i64 24, ptr @.str.11, ptr %variable.arguments)
   %call7 = call i64 @write_text(ptr %store, ptr %bytes)
   %tobool8.not = icmp eq i64 %call7, 0
@@ -2211,13 +2213,14 @@ cond.end:
 define i32 @hippo.snprintf(ptr %to, i64 %size, ptr %format, ptr %variable) {
 entry:
   %arguments = alloca [1 x { i32, i32, ptr, ptr }], align 16
-  store i32 48, ptr %arguments
-  %added.1 = getelementptr i8, ptr %arguments, i64 4
-  store i32 304, ptr %added.1
-  %added.2 = getelementptr i8, ptr %arguments, i64 8
-  store ptr %variable, ptr %added.2
-  %added.3 = getelementptr i8, ptr %arguments, i64 16
-  store ptr null, ptr %added.3
+  %added.1 = getelementptr i8, ptr %variable, i64 48
+  store i32 24, ptr %arguments
+  %added.2 = getelementptr i8, ptr %arguments, i64 4
+  store i32 304, ptr %added.2
+  %added.3 = getelementptr i8, ptr %arguments, i64 8
+  store ptr %added.1, ptr %added.3
+  %added.4 = getelementptr i8, ptr %arguments, i64 16
+  store ptr %variable, ptr %added.4
   %call = call i32 @hippo.hippo_format(ptr %to, i64 %size, i32 0, ptr %format, ptr %arguments)
   ret i32 %call
 }

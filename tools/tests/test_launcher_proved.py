@@ -274,6 +274,12 @@ class Words(Repository):
         self.assertEqual(self.hippo("a", more={"HIPPO_PROGRAM": "echo"}).stdout, "a\n")
         self.fails(self.hippo("x", more={"HIPPO_PROGRAM": str(self.work)}), re.escape(f"names no program: {self.work}"))
 
+    def test_runs_a_launcher_that_is_named(self) -> None:
+        self.hippo("--build")
+        plain, ran = self.hippo("a b"), self.hippo("a b", more={"HIPPO_PROGRAM": str(self.top / "hippo")})
+        self.assertEqual((ran.returncode, ran.stdout, ran.stderr), (plain.returncode, plain.stdout, plain.stderr))
+        self.assertEqual(ran.stdout, "proved a b\n")
+
     def test_runs_through_a_link_and_by_a_relative_path(self) -> None:
         self.hippo("--build")
         (self.room / "link").symlink_to(self.top / "hippo")

@@ -99,7 +99,7 @@ class Crash(Case):
     def test_a_failure_while_an_image_is_made_smaller_is_not_ignored(self) -> None:
         self.take('ring_buffer', 'ring.c')
         self.write('hippo', '#!/bin/sh\nif [ "$1" = crash ] && [ "$#" -lt 6 ]; then exit 7; fi\nif [ "$1" = crash ]; then echo "trap unreachable" >&2; '
-                   f'exit 9; fi\nexec {hippo_program()} "$@"\n')
+                   f'exit 9; fi\nunset HIPPO_PROGRAM\nexec {hippo_program()} "$@"\n')
         os.chmod(self.path('hippo'), 0o755)
         environment = {**os.environ, 'HIPPO_PROGRAM': self.path('hippo')}
         words = ('crash', 'ring.c', '--input', '3', '0', '--entries', '47', '--pick', '0:1', '1:1')

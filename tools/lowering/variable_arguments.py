@@ -42,9 +42,8 @@ class Block:
         """The address of a word."""
         return self.function.emit(f'getelementptr i8, ptr {self.name}, i64 {offset}') if offset else self.name
 
-    def on_stack(self, type_: Type, length: int) -> str:
-        """The address of an argument on the stack."""
-        least = max(WORD, alignment(type_))
+    def on_stack(self, length: int, least: int = WORD) -> str:
+        """The address of an argument on the stack, at a multiple of `least` bytes."""
         self.alignment = max(self.alignment, least)
         start = -(-self.end // least) * least
         self.end = start + -(-length // WORD) * WORD
@@ -55,7 +54,7 @@ class Block:
         if self.register < REGISTERS:
             self.register += 1
             return self.at(WORD * (self.register - 1))
-        return self.on_stack('i64', WORD)
+        return self.on_stack(WORD)
 
     def allocate(self) -> None:
         """Allocates the block when the function begins: a multiple of 16 has to be found in a larger block, since hippo aligns a
@@ -74,7 +73,8 @@ class Block:
     def put(self, argument: Argument) -> None:
         """Stores an argument."""
         if argument.copied is not None:
-            length, at = size(argument.copied), self.on_stack(argument.copied, size(argument.copied))
+            length = size(argument.copied)
+            at = self.on_stack(length, max(WORD, alignment(argument.copied), argument.alignment))
             helper = self.function.module.copy_helper(min(WORD, alignment(argument.copied)), length)
             self.function.put(f'call void {helper}(ptr {at}, ptr {argument.values[0]}, i64 {length})')
             return
@@ -82,8 +82,8 @@ class Block:
         if registers_of(argument.type, None, self.register) or alignment(argument.type) <= WORD:
             places = [self.next_word() for _ in types]
         else:
-            first = self.on_stack(argument.type, WORD * len(types))
-            places = [first, self.function.emit(f'getelementptr i8, ptr {first}, i64 {WORD}')]
+            self.on_stack(WORD * len(types), alignment(argument.type))
+            places = [self.at(self.end - WORD * left) for left in range(len(types), 0, -1)]
         for type_, value, place in zip(types, argument.values, places):
             self.function.put(f'store {type_} {value}, ptr {place}')
 

@@ -4,6 +4,7 @@
 
 struct pair { long long a; int b; };
 struct large { long long words[4]; };
+struct aligned { _Alignas(16) long long a; long long b, c; };
 
 static long long sum_list(int count, va_list list) {
   long long sum = 0;
@@ -33,6 +34,7 @@ static long long mixed(const char *form, ...) {
     case 's': found = found * 3 + va_arg(list, const char *)[0]; break;
     case 'q': { __int128 q = va_arg(list, __int128); found = found * 3 + (long long)(q >> 64) * 5 + (long long)q; break; }
     case 'p': { struct pair p = va_arg(list, struct pair); found = found * 3 + p.a + p.b; break; }
+    case 'a': { struct aligned a = va_arg(list, struct aligned); found = found * 3 + a.a * 5 + a.b * 7 + a.c; break; }
     case 'm': { struct large m = va_arg(list, struct large); found = found * 3 + m.words[0] + m.words[3]; break; }
     }
   }
@@ -71,6 +73,7 @@ int main(void) {
   print_i64(mixed("iiiiiip", 1, 2, 3, 4, 5, 6, (struct pair){7, 8}));
   print_i64(mixed("iiiiiqiqqi", 1, 2, 3, 4, 5, (__int128)7 << 64 | 8, 6, (__int128)2 << 64 | 3, -(__int128)9, 4));
   print_i64(mixed("q", (__int128)7 << 64 | 8));
+  print_i64(mixed("iiiiiiaia", 1, 2, 3, 4, 5, 6, (struct aligned){.a = 1, .b = 2, .c = 3}, 7, (struct aligned){.a = 4, .b = 5, .c = 6}));
   print_i64(mixed("iqlqpqm", 1, (__int128)2 << 64 | 3, 4ll, (__int128)5, (struct pair){6, 7}, -(__int128)8, (struct large){{9, 10, 11, 12}}));
   print_i64(many(1, 2, 3, 4, 5, 6, "qlp", (__int128)7 << 64 | 8, 9ll, (struct pair){10, 11}));
   print_i64(returned(1, 2ll, (__int128)3 << 64 | 4, 5).words[2]);

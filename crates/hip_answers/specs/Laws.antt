@@ -10,7 +10,7 @@ use Rattle.hip_io.specs.Cabinets.{CabinetState}
 use Rattle.hip_io.specs.Sinks.{AppendsAll, AppendsPrefix, HasPut, SinkState}
 use Rattle.hip_io.specs.declared.sink.Put.{Put}
 use Rattle.hip_io.specs.declared.sink.Put.TheVariants as puts
-use Rattle.hip_program_files.specs.Loading.{HasFailedLoading, Loads}
+use Rattle.hip_program_files.specs.LoadedPrograms.{HasFailedLoading, Loads}
 use Rattle.hip_program_files.specs.Outside.{HasMet}
 use Rattle.hip_program_files.specs.declared.failure.Failure.{Failure}
 use Rattle.hip_program_files.specs.declared.failure.Failure.TheVariants as failures
@@ -106,7 +106,7 @@ pub unloaded : {table : Answer → Type 0} {begins : Bool} {old new : CabinetSta
     → HasAnswered table begins old new s (status_of_failure failure)
 unloaded s name failure rows h kept line =
     unloaded_by s name failure (λ a u. rows a (inl u))
-    (λ u. rows (refusal statuses.ReadFault) (inr (record { met = u.met; current = u.current; is = refl }))) h kept line
+    (λ u. rows (refusal statuses.ReadFault) (inr (record { failed = u; is = refl }))) h kept line
 
 -- ---- a larger table
 

@@ -1,6 +1,8 @@
 pub mod Answers
 pub mod EndingLaws
 pub mod Endings
+pub mod FetchLaws
+pub mod Fetches
 pub mod Laws
 pub mod Lines
 pub mod Programs

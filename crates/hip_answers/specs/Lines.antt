@@ -5,8 +5,8 @@ use Rattle.hip_run_traces.specs.declared.misfit.MisfitKind.{MisfitKind}
 use Rattle.hip_run_traces.specs.declared.misfit.MisfitKind.TheVariants as kinds
 use Rattle.hip_grammar.specs.declared.refusal.ParseRefusal.{ParseRefusal}
 use Rattle.hip_grammar.specs.declared.refusal.ParseRefusal.TheVariants as parse
-use Rattle.hip_picks.specs.declared.pick.PickRefusal.{PickRefusal}
-use Rattle.hip_picks.specs.declared.pick.PickRefusal.TheVariants as picks
+use Rattle.hip_types.specs.declared.pick.PickRefusal.{PickRefusal}
+use Rattle.hip_types.specs.declared.pick.PickRefusal.TheVariants as picks
 use Rattle.hip_sound.specs.declared.fault.TypeFault.{TypeFault}
 use Rattle.hip_sound.specs.declared.fault.TypeFault.TheVariants as fault
 use Rattle.hip_sound.specs.declared.fault.Place.{Place}

@@ -1,10 +1,10 @@
 -- What a command answers where its file has no program.
-use Rattle.std.specs.Prelude.{ℕ, ◌≡◌, true, false, List, IfSome, ◌⊎◌}
+use Rattle.std.specs.Prelude.{ℕ, ◌≡◌, false, List, ◌⊎◌}
 use Rattle.hip_answers.specs.Answers.{Answer, refusal}
 use Rattle.hip_answers.specs.Statuses.{status_of_refusal}
 use Rattle.hip_answers.specs.declared.status.Status.TheVariants as statuses
 use Rattle.hip_io.specs.Cabinets.{CabinetState}
-use Rattle.hip_program_files.specs.Loading.{HasNoProgram, is_missing}
+use Rattle.hip_program_files.specs.LoadedPrograms.{HasFailedLoading, HasNoProgram, is_missing}
 use Rattle.hip_program_files.specs.Outside.{HasMet}
 use Rattle.hip_program_files.specs.declared.refusal.LoadRefusal.{LoadRefusal}
 
@@ -15,10 +15,9 @@ pub record IsUnloaded (old new : CabinetState) (name : List ℕ) (answer : Answe
   pub cause : HasNoProgram old.files name why
   pub is : answer ≡ refusal (status_of_refusal why)
 
--- The program's file could not be fetched, and no file is current, or it is current and was read in part.
+-- The program's file could not be read.
 pub record IsUnread (old new : CabinetState) (name : List ℕ) (answer : Answer) : Type 0 where
-  pub met : HasMet false true old new
-  pub current : (new.is_current ≡ false) ⊎ IfSome new.name (λ n. n ≡ name)
+  pub failed : HasFailedLoading old new name
   pub is : answer ≡ refusal statuses.ReadFault
 
 -- What a command answers without a program: why there is none in the file, or a read fault.

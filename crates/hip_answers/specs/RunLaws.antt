@@ -8,7 +8,7 @@ use Rattle.hip_answers.specs.declared.status.Status.TheVariants as statuses
 use Rattle.hip_io.specs.Cabinets.{CabinetState}
 use Rattle.hip_io.specs.declared.cabinet.NamedFile.{NamedFile}
 use Rattle.hip_tree.specs.declared.program.Program.{Program}
-use Rattle.hip_program_files.specs.Loading.{IsProgramOf}
+use Rattle.hip_program_files.specs.LoadedPrograms.{IsProgramOf}
 use Rattle.hip_program_files.specs.Outside.{HasMet}
 use Rattle.hip_answers.specs.RunAnswers.{TraceAnswers}
 use Rattle.hip_runs.specs.declared.input.Input.{Input}

@@ -7,7 +7,7 @@ use Rattle.hip_answers.specs.declared.status.Status.TheVariants as statuses
 use Rattle.hip_io.specs.Cabinets.{CabinetState, file_of}
 use Rattle.hip_io.specs.declared.cabinet.NamedFile.{NamedFile}
 use Rattle.hip_tree.specs.declared.program.Program.{Program}
-use Rattle.hip_program_files.specs.Loading.{IsProgramOf}
+use Rattle.hip_program_files.specs.LoadedPrograms.{IsCurrent, IsProgramOf}
 use Rattle.hip_program_files.specs.Outside.{CountsFetches, HasMet}
 use Rattle.hip_program_files.specs.declared.failure.Failure.{Failure}
 use Rattle.hip_program_files.specs.declared.failure.Failure.TheVariants as failures
@@ -45,8 +45,7 @@ pub record ShowsNoMisfit (files : List NamedFile) (name : List ℕ) (P : Program
 -- soon as they show it.
 pub record IsReadInPart (files : Option (List NamedFile)) (name : List ℕ) (P : Program) (new : CabinetState) : Type 0
   where
-    pub current : new.is_current ≡ true
-    pub named : IfSome new.name (λ n. n ≡ name)
+    pub is : IsCurrent name new
     pub taken : IfSome files (λ fs. ShowsNoMisfit fs name P new.rest)
 
 -- The trace could not be fetched, and no file is current; or a read of it failed.

@@ -1,14 +1,14 @@
 //! What a command answers: its status, the line of each refusal, and what it writes in which case.
 #![tactic(auto)]
 
-mod closing;
+mod delivery;
 mod endings;
 mod lines;
 mod refusal;
 mod status;
 mod texts;
 
-pub use closing::{finish, refuse};
+pub use delivery::{finish, refuse};
 pub use endings::{put_ending, status_of_ending};
 pub use refusal::{TraceFileRefusal, status_of_trace};
 pub use status::{FileRole, Status, status_of_failure};

@@ -9,10 +9,10 @@ use crate::status::{FileRole, Status};
 use crate::texts::put_number;
 use hip_grammar::ParseRefusal;
 use hip_io::{Put, Sink, put_after};
-use hip_picks::PickRefusal;
 use hip_program_files::ProgramRefusal;
 use hip_run_traces::MisfitKind;
 use hip_sound::{Place, TypeFault};
+use hip_types::PickRefusal;
 
 fn kind_word(kind: MisfitKind) -> &'static [u8]
     ensures { result.now ≡ kind_word kind }

@@ -1,10 +1,10 @@
 ghost use Rattle.std.specs.Prelude.{◌≡◌};
 ghost use Rattle.hip_answers.specs.Statuses.{code_of, status_of_failure};
 
-use hip_picks::PickRefusal;
 use hip_program_files::{Failure, LoadRefusal, ProgramRefusal};
 use hip_run_traces::MisfitKind;
 use hip_runs::TrapKind;
+use hip_types::PickRefusal;
 
 /// The file that a status is about.
 #[derive(Clone, Copy, PartialEq, Eq)]

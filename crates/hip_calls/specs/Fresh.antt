@@ -2,7 +2,7 @@
 use Rattle.std.specs.Prelude.{ℕ, zero, suc, ◌+◌, ◌/◌, ◌%◌, nat_lt, cond, if◌then◌else◌, List, [], ◌∷◌, ◌++◌, map, length, codes, slice_get}
 use Rattle.hip_tree.specs.declared.program.Program.{Program}
 use Rattle.hip_names.specs.Names.{is_among}
-use Rattle.hip_sound.specs.Numbering.{name_in}
+use Rattle.hip_sound.specs.NumberedNames.{name_in}
 use Rattle.hip_sound.specs.Sound.{top_names}
 
 -- The last digits of a number, at most the given count of them.

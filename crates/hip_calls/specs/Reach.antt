@@ -8,7 +8,7 @@ use Rattle.hip_tree.specs.declared.instr.Instr.TheVariants.{Call}
 use Rattle.hip_tree.specs.declared.program.Function.{Function}
 use Rattle.hip_tree.specs.declared.program.Program.{Program}
 use Rattle.hip_tree.specs.declared.site.Site.{Site}
-use Rattle.hip_sound.specs.Numbering.{function_number}
+use Rattle.hip_sound.specs.NumberedNames.{function_number}
 
 -- The number of the defined function that an instruction calls, if it does.
 abbrev pub called_by : Program → Instr → List ℕ

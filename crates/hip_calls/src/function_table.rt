@@ -1,6 +1,6 @@
 ghost use Rattle.std.specs.Prelude.{◌≡◌, IfOk};
-ghost use Rattle.hip_names.specs.Numbered.{Numbers};
-ghost use Rattle.hip_sound.specs.Numbering.{function_names, function_number};
+ghost use Rattle.hip_names.specs.Numbered.{NumbersNames};
+ghost use Rattle.hip_sound.specs.NumberedNames.{function_names, function_number};
 
 use hip_names::NameTable;
 use hip_tree::{Function, Program};
@@ -18,8 +18,8 @@ pub struct FunctionTable<'a> {
 impl<'a> Model for FunctionTable<'a> {
     ghost use Rattle.hip_tree.specs.declared.program.Program.{Program};
     ghost use Rattle.hip_tree.specs.contracts.program.Program as stated;
-    ghost use Rattle.hip_names.specs.Numbered.{Numbers};
-    ghost use Rattle.hip_sound.specs.Numbering.{function_names};
+    ghost use Rattle.hip_names.specs.Numbered.{NumbersNames};
+    ghost use Rattle.hip_sound.specs.NumberedNames.{function_names};
 
     ghost Value = { Program };
 
@@ -27,12 +27,12 @@ impl<'a> Model for FunctionTable<'a> {
 
     ghost view = { λ t. t.program.now };
 
-    ghost invariant = { λ t. Numbers t.numbers.names t.numbers.values (function_names t.program.now.functions) };
+    ghost invariant = { λ t. NumbersNames t.numbers.names t.numbers.values (function_names t.program.now.functions) };
 }
 
 /// The numbers of the functions by their names.
 fn numbers_of(alloc: Global, functions: &[Function]) -> Result<NameTable<'_, usize>, NoMemory>
-    ensures { IfOk result (λ table. Numbers table.names table.values (function_names functions.now)) }
+    ensures { IfOk result (λ table. NumbersNames table.names table.values (function_names functions.now)) }
 {
     let mut numbers = NameTable::new(alloc);
     'each: for number in 0..functions.len() {

@@ -12,19 +12,19 @@ use Rattle.hip_tree.specs.declared.program.GlobalVar.{GlobalVar}
 use Rattle.hip_tree.specs.declared.program.Param.{Param}
 use Rattle.hip_tree.specs.declared.program.Program.{Program}
 use Rattle.hip_names.specs.Names.{number_of}
-use Rattle.hip_sound.specs.Numbering.{function_number}
+use Rattle.hip_sound.specs.NumberedNames.{function_number}
 use Rattle.hip_runs.specs.declared.input.Input.{Input}
 use Rattle.hip_runs.specs.Actions.{case_label}
 use Rattle.hip_runs.specs.Places.{blocks_of, block_at, block_number, phis_of, label_of}
-use Rattle.hip_code.specs.Entries.{StandsAt}
+use Rattle.hip_code.specs.Entries.{PlaceStandsAt}
 use Rattle.hip_code.specs.Frames.{names_at}
 use Rattle.hip_code.specs.Named.{has_pointer}
 use Rattle.hip_code.specs.Numbers.{Tables, entries_of, HasSpan}
 use Rattle.hip_code.specs.Ops.{case_edge}
 use Rattle.hip_code.specs.Resolved.{IsOperand, is_result}
 use Rattle.hip_code.specs.declared.op.Call.{Call}
-use Rattle.hip_code.specs.declared.op.Case.{Case}
-use Rattle.hip_code.specs.declared.op.Edge.{Edge}
+use Rattle.hip_code.specs.declared.op.EdgeCase.{EdgeCase}
+use Rattle.hip_code.specs.declared.op.OpEdge.{OpEdge}
 use Rattle.hip_code.specs.declared.op.Move.{Move}
 
 -- The operand that a phi has for control from a label.
@@ -66,32 +66,32 @@ are_arguments globals region names called constants (m ∷ ms) (p ∷ ps) (x ∷
 -- The edge of that number leads from a block to the one with a label.
 pub record IsEdge (P : Program) (I : Input) (f b : ℕ) (tables : Tables) (number : ℕ)
     (label : List ℕ) : Type 0 where
-  pub edge : Edge
+  pub edge : OpEdge
   pub here : slice_get tables.edges number ≡ Some edge
   pub numbered : block_number (blocks_of P f) label ≡ Some edge.block
-  pub begins : StandsAt P edge.target f edge.block 0
+  pub begins : PlaceStandsAt P edge.target f edge.block 0
   pub span : HasSpan edge.moves tables.moves
   pub moves : are_moves P.globals I.base (names_at P f) tables.constants (label_of (block_at P f b))
       (entries_of edge.moves tables.moves) (phis_of (block_at P f edge.block))
 
 -- The cases are those of a switch, in ascending order of value, and each has an edge of the block. For each value, they
 -- give an edge to the label to which the switch goes; this holds for every default label.
-pub record AreCases (P : Program) (I : Input) (f b : ℕ) (tables : Tables) (cs : List Case)
+pub record AreCases (P : Program) (I : Input) (f b : ℕ) (tables : Tables) (cs : List EdgeCase)
     (ds : List named_case.Case) : Type 0 where
   pub ascend : IsNonDecreasingBy (λ c. c.value) cs
-  pub each : (k : ℕ) (c : Case) → slice_get cs k ≡ Some c
+  pub each : (k : ℕ) (c : EdgeCase) → slice_get cs k ≡ Some c
       → (label : List ℕ) × IsEdge P I f b tables c.edge label
   pub taken : (v other : ℕ) (label : List ℕ) → IsEdge P I f b tables other label
       → IsEdge P I f b tables (case_edge v cs other) (case_label v ds label)
 
 -- The call is a call of this defined function, with these arguments and this result.
-pub record IsCall (P : Program) (I : Input) (f : ℕ) (tables : Tables) (call : Call) (callee : List ℕ)
+pub record IsOpCall (P : Program) (I : Input) (f : ℕ) (tables : Tables) (call : Call) (callee : List ℕ)
     (args : List Arg)
     (dest : Option (List ℕ)) : Type 0 where
   pub function : Function
   pub numbered : function_number P callee ≡ Some call.function
   pub here : slice_get P.functions call.function ≡ Some function
-  pub begins : StandsAt P call.target call.function 0 0
+  pub begins : PlaceStandsAt P call.target call.function 0 0
   pub frame : call.frame ≡ length (names_at P f)
   pub size : call.size ≡ length (names_at P call.function)
   pub span : HasSpan call.arguments tables.moves

@@ -1,6 +1,6 @@
 -- What the indices of a `getelementptr` add to its base: an offset, and terms for the indices in registers.
 use Rattle.std.specs.Prelude.{ℕ, ◌⊎◌, ◌+◌, ◌*◌, ◌≡◌, List, [], ◌∷◌, Some}
-use Rattle.hip_types.specs.Layout.{Part, enter, size_of}
+use Rattle.hip_types.specs.Layout.{TypePart, enter, size_of}
 use Rattle.hip_types.specs.declared.ty.Ty.{Ty, out-Ty}
 use Rattle.hip_types.specs.declared.ty.Ty.TheOpen.{Ty-F}
 use Rattle.hip_tree.specs.declared.constant.Const.{Const}
@@ -32,7 +32,7 @@ abbrev pub is_path : List GlobalVar → ℕ → List (List ℕ) → List ℕ →
     → Type 0
 is_path globals region names constants t [] offset terms = (offset ≡ 0) × (terms ≡ [])
 is_path globals region names constants t (a ∷ rest_args) offset terms =
-    ((index : ℕ) × (p : Part) × (rest : ℕ) × IsFixed globals region a index × (enter t index ≡ Some p)
+    ((index : ℕ) × (p : TypePart) × (rest : ℕ) × IsFixed globals region a index × (enter t index ≡ Some p)
     × (offset ≡ p.offset + rest)
     × is_path globals region names constants p.ty rest_args rest terms)
     ⊎ ((n : ℕ) × (e : Ty) × (term : Term) × (rest : List Term)

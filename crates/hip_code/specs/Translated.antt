@@ -12,7 +12,7 @@ use Rattle.hip_code.specs.declared.op.Comparison.{Comparison}
 use Rattle.hip_code.specs.declared.op.Comparison.TheVariants.{Equal, Less, SignedLess}
 use Rattle.hip_code.specs.declared.op.IntegerOp.{IntegerOp}
 use Rattle.hip_code.specs.declared.op.IntegerOp.TheVariants as integers
-use Rattle.hip_code.specs.declared.op.Operand.{Operand}
+use Rattle.hip_code.specs.declared.op.OpOperand.{OpOperand}
 use Rattle.hip_code.specs.declared.op.Other.TheVariants as others
 use Rattle.hip_code.specs.declared.op.Rest.{Rest}
 use Rattle.hip_code.specs.declared.op.Rest.TheVariants.{Compare, Cast, Other}
@@ -22,12 +22,12 @@ use Rattle.hip_code.specs.declared.op.Value.{Value}
 use Rattle.hip_code.specs.declared.op.Value.TheVariants as values
 
 -- The op that gives 1 where a test of two integers of a width holds or, if it is negated, where it does not.
-abbrev pub compares : Comparison → Bool → Width → Operand → Operand → Rest
+abbrev pub compares : Comparison → Bool → Width → OpOperand → OpOperand → Rest
 compares test negated w a b = Compare test negated w a b
 
 -- The op of a comparison. "Greater" is "less" with the operands exchanged, "at least" is "less" negated, and "at most"
 -- is "less" with the operands exchanged and negated.
-abbrev pub compare_op : Pred → Width → Operand → Operand → Rest
+abbrev pub compare_op : Pred → Width → OpOperand → OpOperand → Rest
 compare_op preds.Eq w a b = Compare Equal false w a b
 compare_op preds.Ne w a b = Compare Equal true w a b
 compare_op preds.Ugt w a b = Compare Less false w b a
@@ -40,7 +40,7 @@ compare_op preds.Slt w a b = Compare SignedLess false w a b
 compare_op preds.Sle w a b = Compare SignedLess true w b a
 
 -- The op of a change of type; only `sext` uses the sign.
-abbrev pub cast_op : CastOp → Width → Width → Operand → Rest
+abbrev pub cast_op : CastOp → Width → Width → OpOperand → Rest
 cast_op casts.Sext from to a = Cast true from to a
 cast_op casts.Zext from to a = Cast false from to a
 cast_op casts.Trunc from to a = Cast false from to a
@@ -48,15 +48,15 @@ cast_op casts.Ptrtoint from to a = Cast false from to a
 cast_op casts.Inttoptr from to a = Cast false from to a
 
 -- The op of an operation that is no division, on two integers of a width.
-abbrev pub integer_value : IntegerOp → Width → Operand → Operand → Value
+abbrev pub integer_value : IntegerOp → Width → OpOperand → OpOperand → Value
 integer_value op w a b = values.Integer op w a b
 
 -- The op of a division, with a sign or without one, for the rest or for the quotient.
-abbrev pub division_value : Bool → Bool → Width → Operand → Operand → Value
+abbrev pub division_value : Bool → Bool → Width → OpOperand → OpOperand → Value
 division_value signed rest w a b = values.Rest (Other (others.Divide (record { signed = signed; rest = rest }) w a b))
 
 -- The op of an operation on two integers; divisions have an op of their own.
-abbrev pub binary_value : BinaryOp → Width → Operand → Operand → Value
+abbrev pub binary_value : BinaryOp → Width → OpOperand → OpOperand → Value
 binary_value binaries.Add w a b = integer_value (integers.Sum sums.Add) w a b
 binary_value binaries.Sub w a b = integer_value (integers.Sum sums.Sub) w a b
 binary_value binaries.Mul w a b = integer_value (integers.Sum sums.Mul) w a b

@@ -4,19 +4,19 @@ ghost use Rattle.hip_code.specs.Values.{value_result, gep_value, rest_result, ot
 
 use crate::code::Code;
 use crate::integers::{compared, divide, extend, operated};
-use crate::op::{Gep, Operand, Other, Rest, Span, Value};
+use crate::op::{Gep, OpOperand, Other, Rest, Span, Value};
 use hip_num::NumTrap;
 use hip_types::{Bits, Width};
 
 /// The value of an operand in the frame whose slots begin at a base.
 #[inline(always)]
-pub fn read(code: &Code, slots: &[u64], base: usize, operand: Operand) -> u64
+pub fn read(code: &Code, slots: &[u64], base: usize, operand: OpOperand) -> u64
     requires { is_within (numbers code.now slots.now base) operand }
     ensures { result ≡ operand_value (numbers code.now slots.now base) operand }
 {
     match operand {
-        Operand::Register(slot) => slots[base + slot as usize],
-        Operand::Constant(place) => code.constants[place as usize],
+        OpOperand::Register(slot) => slots[base + slot as usize],
+        OpOperand::Constant(place) => code.constants[place as usize],
     }
 }
 

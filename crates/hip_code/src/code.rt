@@ -1,4 +1,4 @@
-use crate::op::{Case, Edge, Move, Op, Term};
+use crate::op::{EdgeCase, Move, Op, OpEdge, Term};
 
 /// A resolved program: the ops of all functions, each block's end after its body, the tables whose entries ops name,
 /// and for each function the place of its first op and the number of its registers.
@@ -8,8 +8,8 @@ pub struct Code {
     pub constants: Vec<u64>,
     pub terms: Vec<Term>,
     pub moves: Vec<Move>,
-    pub edges: Vec<Edge>,
-    pub cases: Vec<Case>,
+    pub edges: Vec<OpEdge>,
+    pub cases: Vec<EdgeCase>,
     pub starts: Vec<u32>,
     pub sizes: Vec<u32>,
 }

@@ -10,7 +10,7 @@ pub use calculate::{read, result_of};
 pub use code::Code;
 pub use integers::extend;
 pub use op::{
-    BitOp, Call, Case, Comparison, Control, DivisionOp, Edge, Effect, Exit, Gep, Go, IntegerOp,
-    Memory, Move, Op, Operand, Other, Outside, Persistence, Rest, ShiftOp, Span, SumOp, Term,
-    Value,
+    BitOp, Call, Comparison, Control, DivisionOp, EdgeCase, Effect, Exit, Gep, Go, IntegerOp,
+    Memory, Move, Op, OpEdge, OpOperand, Other, Outside, Persistence, Rest, ShiftOp, Span, SumOp,
+    Term, Value,
 };

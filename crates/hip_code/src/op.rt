@@ -2,7 +2,7 @@ use hip_types::Width;
 
 /// The place from which an op takes a value: a register's slot in its frame, or a place in the table of constants.
 #[derive(Clone, Copy)]
-pub enum Operand {
+pub enum OpOperand {
     Register(u32),
     Constant(u32),
 }
@@ -66,20 +66,20 @@ pub enum Comparison {
 pub enum Gep {
     /// The base and an offset.
     Fixed {
-        base: Operand,
+        base: OpOperand,
         offset: u64,
     },
     /// The base, an offset, and an index times a scale.
     Scaled {
-        base: Operand,
-        index: Operand,
+        base: OpOperand,
+        index: OpOperand,
         width: Width,
         scale: u32,
         offset: u32,
     },
     /// The base, an offset, and entries of the table of terms.
     Terms {
-        base: Operand,
+        base: OpOperand,
         offset: u64,
         terms: Span,
     },
@@ -88,7 +88,7 @@ pub enum Gep {
 /// An index times a scale.
 #[derive(Clone, Copy)]
 pub struct Term {
-    pub index: Operand,
+    pub index: OpOperand,
     pub width: Width,
     pub scale: u32,
 }
@@ -99,8 +99,8 @@ pub enum Value {
     Integer {
         op: IntegerOp,
         width: Width,
-        a: Operand,
-        b: Operand,
+        a: OpOperand,
+        b: OpOperand,
     },
     Gep(Gep),
     Rest(Rest),
@@ -113,15 +113,15 @@ pub enum Rest {
         test: Comparison,
         negated: bool,
         width: Width,
-        a: Operand,
-        b: Operand,
+        a: OpOperand,
+        b: OpOperand,
     },
     /// The value cut to the width `to`; if the cast is signed, the value is first sign-extended from the width `from`.
     Cast {
         signed: bool,
         from: Width,
         to: Width,
-        a: Operand,
+        a: OpOperand,
     },
     Other(Other),
 }
@@ -129,15 +129,15 @@ pub enum Rest {
 #[derive(Clone, Copy)]
 pub enum Other {
     Select {
-        test: Operand,
-        a: Operand,
-        b: Operand,
+        test: OpOperand,
+        a: OpOperand,
+        b: OpOperand,
     },
     Divide {
         op: DivisionOp,
         width: Width,
-        a: Operand,
-        b: Operand,
+        a: OpOperand,
+        b: OpOperand,
     },
 }
 
@@ -149,13 +149,13 @@ pub enum Memory {
         dest: u32,
         width: Width,
         align: u32,
-        addr: Operand,
+        addr: OpOperand,
     },
     Store {
         size: u32,
         align: u32,
-        value: Operand,
-        addr: Operand,
+        value: OpOperand,
+        addr: OpOperand,
     },
     Effect(Effect),
 }
@@ -171,12 +171,12 @@ pub enum Effect {
 #[derive(Clone, Copy)]
 pub enum Persistence {
     /// The flush of the line of an address.
-    Flush(Operand),
+    Flush(OpOperand),
     Fence,
     /// The flush of the lines of a range, which a fence may follow.
     Range {
-        addr: Operand,
-        size: Operand,
+        addr: OpOperand,
+        size: OpOperand,
         fence: bool,
     },
 }
@@ -184,8 +184,8 @@ pub enum Persistence {
 #[derive(Clone, Copy)]
 pub enum Outside {
     /// The check of a range of the region.
-    Assert { addr: Operand, size: Operand },
-    Print(Operand),
+    Assert { addr: OpOperand, size: OpOperand },
+    Print(OpOperand),
     /// The next input number.
     Read(Option<u32>),
 }
@@ -195,12 +195,12 @@ pub enum Outside {
 #[derive(Clone, Copy)]
 pub struct Move {
     pub dest: u32,
-    pub value: Operand,
+    pub value: OpOperand,
 }
 
 /// An edge to a block of the same function: the place of its first op, its number, and the moves.
 #[derive(Clone, Copy)]
-pub struct Edge {
+pub struct OpEdge {
     pub target: u32,
     pub block: u32,
     pub moves: Span,
@@ -208,7 +208,7 @@ pub struct Edge {
 
 /// A value of a switch, and the number of the edge that it takes.
 #[derive(Clone, Copy)]
-pub struct Case {
+pub struct EdgeCase {
     pub value: u64,
     pub edge: u32,
 }
@@ -225,13 +225,13 @@ pub enum Control {
 #[derive(Clone, Copy)]
 pub enum Go {
     Cond {
-        test: Operand,
+        test: OpOperand,
         yes: u32,
         no: u32,
     },
     Br(u32),
     Switch {
-        value: Operand,
+        value: OpOperand,
         cases: Span,
         other: u32,
     },
@@ -254,7 +254,7 @@ pub struct Call {
 /// A return with a value or without one, or a place that control never reaches.
 #[derive(Clone, Copy)]
 pub enum Exit {
-    Value(Operand),
+    Value(OpOperand),
     Nothing,
     Unreachable,
 }

@@ -9,7 +9,7 @@ use Rattle.hip_tree.specs.declared.program.Program.{Program}
 use Rattle.hip_lines.specs.Line.{Line, has_bytes, change_range, stored, with_part, fresh_lines}
 use Rattle.hip_lines.specs.Laws.LineLaws.{slice_get-change_range}
 use Rattle.hip_runs.specs.Actions.{Action, Traps, Assigns, Allocates, Stores, Flushes, Persists, Fences, Asserts, Prints, Reads, Calls, Jumps, Returns, Deed, is_turn, in_region, deed_of}
-use Rattle.hip_runs.specs.Laws.Fits.{Fits, deed_fits}
+use Rattle.hip_runs.specs.Laws.Fits.{ActionFits, deed_fits}
 use Rattle.hip_runs.specs.Laws.HistoryLaws.{instr_at_place, line_of_fresh}
 use Rattle.hip_runs.specs.Laws.Members.{get_drop}
 use Rattle.hip_runs.specs.Places.{body_at, code_at, end_at}
@@ -131,7 +131,7 @@ few_carried I w f fs ls before after d turn h k = go (is_cut I w d) refl d.turn 
 store_turns : (P : Program) (I : Input) (w : World) (f : Frame) (fs : List Frame) → stores (deed_at P I w f fs).action ≡ true → (deed_at P I w f fs).turn ≡ true
 store_turns P I w f fs = by_code (code_at P f) refl
   where
-    is_one : (x : Action) (o : Option Instr) → Fits P x o → stores x ≡ true → is_store o ≡ true
+    is_one : (x : Action) (o : Option Instr) → ActionFits P x o → stores x ≡ true → is_store o ≡ true
     is_one (Stores a bytes) o h s = h.is.0
     is_one (Traps kind) o h s = absurd (let z : ⊥ = cc in z)
     is_one (Assigns dest v) o h s = absurd (let z : ⊥ = cc in z)
@@ -155,8 +155,8 @@ store_turns P I w f fs = by_code (code_at P f) refl
     by_code [] q s = refl
     by_code (i ∷ rest) q s =
         let at : instr_of P (site_of f) ≡ Some i = instr_at_place P f.function f.block f.place ∙ get_drop (body_at P f.function f.block) f.place i rest q in
-        let fit : Fits P (deed_of P I w (length fs) f (end_at P f) (i ∷ rest)).action (instr_of P (site_of f)) = subst (λ code. Fits P (deed_of P I w (length fs) f (end_at P f) code).action (instr_of P (site_of f))) q (deed_fits P I w f fs) in
-        turns i (is_one _ (Some i) (subst (Fits P _) at fit) s)
+        let fit : ActionFits P (deed_of P I w (length fs) f (end_at P f) (i ∷ rest)).action (instr_of P (site_of f)) = subst (λ code. ActionFits P (deed_of P I w (length fs) f (end_at P f) code).action (instr_of P (site_of f))) q (deed_fits P I w f fs) in
+        turns i (is_one _ (Some i) (subst (ActionFits P _) at fit) s)
 
 few_step : (P : Program) (I : Input) (s : State) → IsFew I s → IsFew I (step P I s)
 unfolding step on_ending on_frames

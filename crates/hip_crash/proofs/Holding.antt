@@ -13,7 +13,7 @@ use Rattle.hip_runs.specs.Crash.{covers, byte_of}
 use Rattle.hip_runs.specs.Laws.ImageLaws.{past_durable}
 use Rattle.hip_runs.specs.State.{Counts, Flush, Level, StorePart}
 use Rattle.hip_runs.specs.StoredParts.Persistence.{part_of_store, noted_flush, noted_fence, flush_line, fence_line, fenced_lines}
-use Rattle.hip_crash.specs.Holding.{IsAlike, AreAlike, IsKeptOf, AreKeptOf}
+use Rattle.hip_crash.specs.RepresentedLine.{IsAlike, AreAlike, IsKeptOf, AreKeptOf}
 use Rattle.hip_crash.specs.Kept.{Kept, with_store, with_flush, with_fence}
 use Rattle.hip_crash.specs.Now.{fresh}
 use Rattle.hip_crash.specs.Values.{stored_covers, stored_byte}

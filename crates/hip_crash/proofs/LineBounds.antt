@@ -9,15 +9,15 @@ use Rattle.hip_runs.specs.Laws.ImageLaws.{past_durable}
 use Rattle.hip_runs.specs.State.{StorePart}
 use Rattle.hip_runs.specs.Step.{run}
 use Rattle.hip_runs.specs.Seen.{Seen, state_of}
-use Rattle.hip_crash.specs.Holding.{AreKeptOf}
-use Rattle.hip_crash.specs.Logging.{view_of, IsLogging}
+use Rattle.hip_crash.specs.RepresentedLine.{AreKeptOf}
+use Rattle.hip_crash.specs.LogState.{view_of, IsLogging}
 use Rattle.hip_crash.specs.Numbers.{IsNumberOf}
 use Rattle.hip_crash.specs.Picks.{bounds_in, bounds_of}
 use Rattle.hip_crash.specs.declared.values.StoredValue.{StoredValue}
 use Rattle.hip_crash.specs.Region.{seen_at}
 use Rattle.hip_crash.specs.Values.{stored_covers, stored_byte, bytes_after}
 use Rattle.hip_crash.specs.declared.log.CrashLog.TheInside.{Inside}
-use Rattle.hip_picks.specs.declared.pick.Bounds.{Bounds}
+use Rattle.hip_types.specs.declared.pick.Bounds.{Bounds}
 use Rattle.hip_crash.proofs.Bytes.{index-bytes_after, index-take, length-bytes_after, same_lists}
 use Rattle.hip_crash.proofs.Holding.{index-drop, after-alike, alike-take}
 use Rattle.hip_crash.proofs.PickLaws.{piece}

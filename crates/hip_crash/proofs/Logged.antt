@@ -12,15 +12,15 @@ use Rattle.hip_runs.specs.Validity.{IsValid}
 use Rattle.hip_runs.specs.declared.event.Event.{Event}
 use Rattle.hip_runs.specs.declared.input.Input.{Input}
 use Rattle.hip_runs.specs.Seen.{Seen, state_of}
-use Rattle.hip_crash.specs.Holding.{AreKeptOf, IsKeptOf}
-use Rattle.hip_crash.specs.Logging.{view_of, IsLogging}
-use Rattle.hip_cache.specs.Laws.WithinLaws.{event_within}
-use Rattle.hip_cache.specs.Within.{IsWithin}
-use Rattle.hip_crash.specs.Noting.{noted}
+use Rattle.hip_crash.specs.RepresentedLine.{AreKeptOf, IsKeptOf}
+use Rattle.hip_crash.specs.LogState.{view_of, IsLogging}
+use Rattle.hip_step.specs.Laws.WithinLaws.{event_within}
+use Rattle.hip_step.specs.Within.{IsWithin}
+use Rattle.hip_crash.specs.Effects.{noted}
 use Rattle.hip_crash.specs.Now.{fresh}
-use Rattle.hip_crash.specs.Region.{HasRoom, seen_at}
-use Rattle.hip_crash.specs.declared.waiting.Waiting.TheVariants as waits
-use Rattle.hip_crash.specs.Waiting.{WaitsWithin}
+use Rattle.hip_crash.specs.Region.{LogHasRoom, seen_at}
+use Rattle.hip_crash.specs.declared.pending_change.Waiting.TheVariants as waits
+use Rattle.hip_crash.specs.PendingChange.{WaitsWithin}
 use Rattle.hip_crash.specs.declared.log.CrashLog.TheInside.{Inside}
 use Rattle.hip_crash.specs.declared.region_log.RegionLog.{RegionLog}
 use Rattle.hip_crash.proofs.Holding.{kept-fresh, kept-same}
@@ -40,8 +40,8 @@ module _ (x : Inside) (h : IsLogging x) where
   image-small = omega (arith, h.valid.image, h.sound.sizes.region)
 
   -- There is room to take up what waits.
-  pub has_room : (image : List ℕ) → image ≡ I.image → HasRoom x.region image
-  has_room image e = subst (HasRoom x.region) (sym e) (record {
+  pub has_room : (image : List ℕ) → image ≡ I.image → LogHasRoom x.region image
+  has_room image e = subst (LogHasRoom x.region) (sym e) (record {
     whole = whole;
     small = omega (arith, h.valid.image, h.sound.sizes.region);
     few = kept-few P I x.taken (seen_at x.region I.image) h.valid h.kept;

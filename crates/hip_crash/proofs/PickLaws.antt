@@ -15,9 +15,9 @@ use Rattle.hip_runs.specs.State.{State, StorePart}
 use Rattle.hip_runs.specs.declared.input.Input.{Input}
 use Rattle.hip_crash.specs.Numbers.{AreNumbers, IsBetween, IsNumberOf, number_in}
 use Rattle.hip_crash.specs.Picks.{ArePicksOf, bounds_in, bounds_of, failure, failure_after, first_failure, first_of, number_for, number_or, picked, range_failure}
-use Rattle.hip_picks.specs.declared.pick.Pick.{Pick}
-use Rattle.hip_picks.specs.declared.pick.PickRefusal.{PickRefusal}
-use Rattle.hip_picks.specs.declared.pick.PickRefusal.TheVariants.{NoLine, Repeated, OutOfRange}
+use Rattle.hip_types.specs.declared.pick.Pick.{Pick}
+use Rattle.hip_types.specs.declared.pick.PickRefusal.{PickRefusal}
+use Rattle.hip_types.specs.declared.pick.PickRefusal.TheVariants.{NoLine, Repeated, OutOfRange}
 use Rattle.hip_crash.proofs.Bytes.{index-take, same_lists}
 use Rattle.hip_crash.proofs.Holding.{index-drop}
 use Rattle.hip_lines.specs.Laws.ItemLaws.{equal_or_not}

@@ -6,11 +6,11 @@ use Rattle.hip_runs.specs.Laws.HistoryLaws.{lines_ordered}
 use Rattle.hip_runs.specs.Laws.ImageLaws.{image_valid}
 use Rattle.hip_runs.specs.Validity.{IsValid}
 use Rattle.hip_runs.specs.Seen.{Seen, state_of}
-use Rattle.hip_crash.specs.Logging.{view_of, IsLogging}
+use Rattle.hip_crash.specs.LogState.{view_of, IsLogging}
 use Rattle.hip_crash.specs.Numbers.{IsBetween}
 use Rattle.hip_crash.specs.Picks.{bounds_of, first_failure, number_for, number_or, picked}
 use Rattle.hip_crash.specs.declared.log.CrashLog.TheInside.{Inside}
-use Rattle.hip_picks.specs.declared.pick.Pick.{Pick}
+use Rattle.hip_types.specs.declared.pick.Pick.{Pick}
 use Rattle.hip_crash.proofs.PickLaws.{fit-between, fit-pick}
 use Rattle.hip_crash.proofs.Steps.{get_there}
 

@@ -6,12 +6,12 @@ use Rattle.hip_directory.specs.declared.directory.Directory.{Directory}
 use Rattle.hip_directory.specs.Directories.{number_at}
 use Rattle.hip_lines.specs.Laws.LooseLaws.{get-append_end}
 use Rattle.hip_crash.specs.Kept.{Kept, kept_in}
-use Rattle.hip_crash.specs.KeptLines.{line_at, kept_at, ChangesLine, GivesLine}
-use Rattle.hip_crash.specs.Places.{at_place, line_in, ArePlaced, ChangesPlace}
+use Rattle.hip_crash.specs.KeptLines.{line_at, kept_at, ChangesKeptLine, GivesLine}
+use Rattle.hip_crash.specs.Places.{at_place, line_in, KeptLinesArePlaced, ChangesKeptPlace}
 use Rattle.hip_crash.specs.declared.kept_line.KeptLine.{KeptLine}
 use Rattle.hip_crash.specs.declared.kept_lines.KeptLines.{KeptLines}
 
-pub changes-set : (f : Kept → Kept) (xs : List KeptLine) (place : ℕ) (x y : KeptLine) → place < length xs → slice_get xs place ≡ Some x → y.line ≡ x.line → kept_in y ≡ f (kept_in x) → ChangesPlace f place xs (slice_set xs place y)
+pub changes-set : (f : Kept → Kept) (xs : List KeptLine) (place : ℕ) (x y : KeptLine) → place < length xs → slice_get xs place ≡ Some x → y.line ≡ x.line → kept_in y ≡ f (kept_in x) → ChangesKeptPlace f place xs (slice_set xs place y)
 changes-set f xs place x y lt e l p = record {
   others = λ k ne. get-set_other xs place k y ne;
   count = length-set xs place y;
@@ -39,7 +39,7 @@ has-place d xs j s = go (number_at d j) refl s
     go zero e s = absurd (let z : ⊥ = cc in z)
     go (suc n) e s = omega (arith, e)
 
-there : (d : Directory) (xs : List KeptLine) (j : ℕ) → ArePlaced d xs → 0 < number_at d j → (x : KeptLine) × (slice_get xs (number_at d j - 1) ≡ Some x) × (line_in d xs j ≡ Some x) × (x.line ≡ j)
+there : (d : Directory) (xs : List KeptLine) (j : ℕ) → KeptLinesArePlaced d xs → 0 < number_at d j → (x : KeptLine) × (slice_get xs (number_at d j - 1) ≡ Some x) × (line_in d xs j ≡ Some x) × (x.line ≡ j)
 there d xs j h p =
     let g = get-there xs (number_at d j - 1) (omega (arith, p, h.within j)) in
     let e : line_in d xs j ≡ Some g.0 = at-counted xs (number_at d j) p ∙ g.1 in
@@ -57,7 +57,7 @@ at-place m j x p e =
     (f, m.placed.numbered j x f)
 
 -- What is kept at one place is changed.
-module _ (f : Kept → Kept) (d : Directory) (xs xs' : List KeptLine) (line : ℕ) (h : ArePlaced d xs) (p : 0 < number_at d line) (c : ChangesPlace f (number_at d line - 1) xs xs') where
+module _ (f : Kept → Kept) (d : Directory) (xs xs' : List KeptLine) (line : ℕ) (h : KeptLinesArePlaced d xs) (p : 0 < number_at d line) (c : ChangesKeptPlace f (number_at d line - 1) xs xs') where
   other-place : (j : ℕ) → j ≢ line → number_at d j ≢ number_at d line
   other-place j ne e =
       let t = there d xs line h p in
@@ -72,7 +72,7 @@ module _ (f : Kept → Kept) (d : Directory) (xs xs' : List KeptLine) (line : �
       let x = c.here t.0 t.1 in
       (x.0, at-counted xs' (number_at d line) p ∙ x.1, x.2 ∙ t.3, ap (λ k. Some k) x.3 ∙ ap (λ o. option_map f (option_map kept_in o)) (sym t.2))
 
-  pub placed-changed : ArePlaced d xs'
+  pub placed-changed : KeptLinesArePlaced d xs'
   placed-changed = record { within = λ j. omega (arith, c.count, h.within j); numbered = λ j x e. go j x e (equal_or_not j line) }
     where
       go : (j : ℕ) (x : KeptLine) → line_in d xs' j ≡ Some x → (((j == line) ≡ true) × (j ≡ line)) ⊎ (((j == line) ≡ false) × (j ≢ line)) → x.line ≡ j
@@ -81,7 +81,7 @@ module _ (f : Kept → Kept) (d : Directory) (xs xs' : List KeptLine) (line : �
           ap (λ (y : KeptLine). y.line) (some_same x r.0 (sym e ∙ ap (λ i. line_in d xs' i) s.1 ∙ r.1)) ∙ r.2 ∙ sym s.1
       go j x e (inr s) = h.numbered j x (sym (other-line j s.1) ∙ e)
 
-pub changes-line : (f : Kept → Kept) (m m' : KeptLines) (line : ℕ) → m'.directory ≡ m.directory → 0 < number_at m.directory line → ChangesPlace f (number_at m.directory line - 1) m.lines.items m'.lines.items → ChangesLine f line m m'
+pub changes-line : (f : Kept → Kept) (m m' : KeptLines) (line : ℕ) → m'.directory ≡ m.directory → 0 < number_at m.directory line → ChangesKeptPlace f (number_at m.directory line - 1) m.lines.items m'.lines.items → ChangesKeptLine f line m m'
 unfolding line_at
 changes-line f m m' line d p c = record {
   here = ap (λ x. option_map kept_in (line_in x m'.lines.items line)) d ∙ ap (option_map kept_in) r.1 ∙ r.3;
@@ -95,7 +95,7 @@ changes-line f m m' line d p c = record {
     others j ne = ap (λ x. line_in x m'.lines.items j) d ∙ other-line f m.directory m.lines.items m'.lines.items line m.placed p c j ne
 
 -- If the change of a line changes nothing, what is kept stays the same.
-pub changes-nothing : (m m' : KeptLines) (line : ℕ) → ChangesLine (λ k. k) line m m' → (j : ℕ) → kept_at m' j ≡ kept_at m j
+pub changes-nothing : (m m' : KeptLines) (line : ℕ) → ChangesKeptLine (λ k. k) line m m' → (j : ℕ) → kept_at m' j ≡ kept_at m j
 changes-nothing m m' line c j = go (equal_or_not j line)
   where
     same : (o : Option Kept) → option_map (λ k. k) o ≡ o
@@ -108,7 +108,7 @@ changes-nothing m m' line c j = go (equal_or_not j line)
 
 -- ---- a line is added
 
-module _ (d d' : Directory) (xs : List KeptLine) (line : ℕ) (x : KeptLine) (h : ArePlaced d xs) (l : x.line ≡ line)
+module _ (d d' : Directory) (xs : List KeptLine) (line : ℕ) (x : KeptLine) (h : KeptLinesArePlaced d xs) (l : x.line ≡ line)
     (s : (j : ℕ) → number_at d' j ≡ cond (j == line) (length xs + 1) (number_at d j)) where
   given : (j : ℕ) → ((j ≡ line) × (number_at d' j ≡ length xs + 1)) ⊎ ((j ≢ line) × (number_at d' j ≡ number_at d j))
   given j = go (equal_or_not j line)
@@ -137,7 +137,7 @@ module _ (d d' : Directory) (xs : List KeptLine) (line : ℕ) (x : KeptLine) (h 
       go (inl t) = absurd (ne t.0)
       go (inr t) = other_by j t.1
 
-  pub placed-added : ArePlaced d' (xs ++ x ∷ [])
+  pub placed-added : KeptLinesArePlaced d' (xs ++ x ∷ [])
   placed-added = record { within = λ j. within j (given j); numbered = λ j y e. numbered j y e (given j) }
     where
       within : (j : ℕ) → ((j ≡ line) × (number_at d' j ≡ length xs + 1)) ⊎ ((j ≢ line) × (number_at d' j ≡ number_at d j)) → number_at d' j ≤ length (xs ++ x ∷ [])
@@ -148,7 +148,7 @@ module _ (d d' : Directory) (xs : List KeptLine) (line : ℕ) (x : KeptLine) (h 
       numbered j y e (inl t) = ap (λ (z : KeptLine). z.line) (some_same y x (sym e ∙ here_by j t.1)) ∙ l ∙ sym t.0
       numbered j y e (inr t) = h.numbered j y (sym (other_by j t.1) ∙ e)
 
-pub placed-same : (d d' : Directory) (xs : List KeptLine) → ((j : ℕ) → number_at d' j ≡ number_at d j) → ArePlaced d xs → ArePlaced d' xs
+pub placed-same : (d d' : Directory) (xs : List KeptLine) → ((j : ℕ) → number_at d' j ≡ number_at d j) → KeptLinesArePlaced d xs → KeptLinesArePlaced d' xs
 placed-same d d' xs s h = record { within = λ j. omega (arith, s j, h.within j); numbered = λ j x e. h.numbered j x (sym (ap (at_place xs) (s j)) ∙ e) }
 
 pub gives-line : (m m' : KeptLines) (d : Directory) (line : ℕ) (x : KeptLine) (k : Kept) → kept_in x ≡ k → ((j : ℕ) → number_at d j ≡ number_at m.directory j)
@@ -160,11 +160,11 @@ gives-line m m' d line x k q same s l e = record {
   others = λ j ne. ap (λ xs. option_map kept_in (line_in m'.directory xs j)) e ∙ ap (option_map kept_in) (added-other d m'.directory m.lines.items line x placed l s j ne ∙ ap (at_place m.lines.items) (same j));
 }
   where
-    placed : ArePlaced d m.lines.items
+    placed : KeptLinesArePlaced d m.lines.items
     placed = placed-same m.directory d m.lines.items same m.placed
 
 -- The lines stay at their places, whether the answer is a success or an error.
-pub placed-either : {A E : Type 0} (r : Result A E) (f g : Kept → Kept) (d : Directory) (xs xs' : List KeptLine) (line n : ℕ) → ArePlaced d xs → 0 < number_at d line → n ≡ number_at d line
-    → OnOk r (ChangesPlace f (n - 1) xs xs') → OnErr r (ChangesPlace g (n - 1) xs xs') → ArePlaced d xs'
-placed-either (Ok a) f g d xs xs' line n h p e o w = placed-changed f d xs xs' line h p (subst (λ i. ChangesPlace f (i - 1) xs xs') e o)
-placed-either (Err a) f g d xs xs' line n h p e o w = placed-changed g d xs xs' line h p (subst (λ i. ChangesPlace g (i - 1) xs xs') e w)
+pub placed-either : {A E : Type 0} (r : Result A E) (f g : Kept → Kept) (d : Directory) (xs xs' : List KeptLine) (line n : ℕ) → KeptLinesArePlaced d xs → 0 < number_at d line → n ≡ number_at d line
+    → OnOk r (ChangesKeptPlace f (n - 1) xs xs') → OnErr r (ChangesKeptPlace g (n - 1) xs xs') → KeptLinesArePlaced d xs'
+placed-either (Ok a) f g d xs xs' line n h p e o w = placed-changed f d xs xs' line h p (subst (λ i. ChangesKeptPlace f (i - 1) xs xs') e o)
+placed-either (Err a) f g d xs xs' line n h p e o w = placed-changed g d xs xs' line h p (subst (λ i. ChangesKeptPlace g (i - 1) xs xs') e w)

@@ -22,10 +22,10 @@ use Rattle.hip_runs.specs.declared.event.Event.{Event}
 use Rattle.hip_runs.specs.declared.event.Event.TheVariants as events
 use Rattle.hip_runs.specs.declared.input.Input.{Input}
 use Rattle.hip_sound.specs.Sound.{IsSound}
-use Rattle.hip_cache.specs.Laws.WithinLaws.{site_there}
-use Rattle.hip_crash.specs.Holding.{AreKeptOf}
+use Rattle.hip_step.specs.Laws.WithinLaws.{site_there}
+use Rattle.hip_crash.specs.RepresentedLine.{AreKeptOf}
 use Rattle.hip_crash.specs.Kept.{Kept, with_flush}
-use Rattle.hip_crash.specs.Noting.{noted}
+use Rattle.hip_crash.specs.Effects.{noted}
 use Rattle.hip_crash.proofs.FewParts.{few_parts}
 use Rattle.hip_crash.proofs.Holding.{alike-length, alike-store, kept-stored, kept-flushed, kept-fenced, kept-same}
 

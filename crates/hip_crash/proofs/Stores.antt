@@ -3,10 +3,10 @@ use Rattle.std.proofs.Common.{◌≡◌, ◌≢◌, ◌⊎◌, inl, inr, ℕ, �
 use Rattle.std.proofs.lemmas.Bool.Decides.{nat_tests}
 use Rattle.hip_lines.specs.Line.{has_bytes}
 use Rattle.hip_crash.specs.Kept.{Kept, with_store}
-use Rattle.hip_crash.specs.Waiting.{with_waiting, WaitsWithin}
+use Rattle.hip_crash.specs.PendingChange.{with_waiting, WaitsWithin}
 use Rattle.hip_crash.specs.declared.values.StoredValue.{StoredValue}
-use Rattle.hip_crash.specs.declared.waiting.Waiting.{Waiting}
-use Rattle.hip_crash.specs.declared.waiting.Waiting.TheVariants as waits
+use Rattle.hip_crash.specs.declared.pending_change.Waiting.{Waiting}
+use Rattle.hip_crash.specs.declared.pending_change.Waiting.TheVariants as waits
 use Rattle.hip_lines.specs.Laws.ItemLaws.{equal_or_not}
 
 -- The parts of a store wait in its lines from this one on.

@@ -15,7 +15,7 @@ abbrev pub kept_at : KeptLines → ℕ → Option Kept
 kept_at m j = option_map kept_in (line_at m j)
 
 -- What is kept of one cache line is changed, and nothing else is.
-pub record ChangesLine (change : Kept → Kept) (line : ℕ) (old new : KeptLines) : Type 0 where
+pub record ChangesKeptLine (change : Kept → Kept) (line : ℕ) (old new : KeptLines) : Type 0 where
   pub here : kept_at new line ≡ option_map change (kept_at old line)
   pub others : (j : ℕ) → j ≢ line → kept_at new j ≡ kept_at old j
 

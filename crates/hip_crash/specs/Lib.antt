@@ -5,9 +5,9 @@ pub mod Kept
 pub mod Places
 pub mod KeptLines
 pub mod Now
-pub mod Waiting
+pub mod PendingChange
 pub mod Region
 pub mod Views
-pub mod Noting
-pub mod Holding
-pub mod Logging
+pub mod Effects
+pub mod RepresentedLine
+pub mod LogState

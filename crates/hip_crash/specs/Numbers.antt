@@ -7,8 +7,8 @@ use Rattle.hip_runs.specs.Crash.{byte_of, covers}
 use Rattle.hip_runs.specs.State.{State, StorePart}
 use Rattle.hip_runs.specs.declared.input.Input.{Input}
 use Rattle.hip_crash.specs.Picks.{number_for}
-use Rattle.hip_picks.specs.declared.pick.Bounds.{Bounds}
-use Rattle.hip_picks.specs.declared.pick.Pick.{Pick}
+use Rattle.hip_types.specs.declared.pick.Bounds.{Bounds}
+use Rattle.hip_types.specs.declared.pick.Pick.{Pick}
 
 -- The number that a table by lines gives line j, if it has one.
 abbrev pub number_in : List (ℕ × ℕ) → ℕ → Option ℕ

@@ -5,10 +5,10 @@ use Rattle.hip_lines.specs.Line.{Line}
 use Rattle.hip_runs.specs.Crash.{IsCrashImage, crash_image}
 use Rattle.hip_runs.specs.State.{StorePart, State}
 use Rattle.hip_runs.specs.declared.input.Input.{Input}
-use Rattle.hip_picks.specs.declared.pick.Bounds.{Bounds}
-use Rattle.hip_picks.specs.declared.pick.Pick.{Pick}
-use Rattle.hip_picks.specs.declared.pick.PickRefusal.{PickRefusal}
-use Rattle.hip_picks.specs.declared.pick.PickRefusal.TheVariants.{NoLine, Repeated, OutOfRange, NoMemory}
+use Rattle.hip_types.specs.declared.pick.Bounds.{Bounds}
+use Rattle.hip_types.specs.declared.pick.Pick.{Pick}
+use Rattle.hip_types.specs.declared.pick.PickRefusal.{PickRefusal}
+use Rattle.hip_types.specs.declared.pick.PickRefusal.TheVariants.{NoLine, Repeated, OutOfRange, NoMemory}
 
 -- The least and the greatest number of first parts of a cache line that a crash may leave: the number of its durable
 -- parts, and the number of all its parts.

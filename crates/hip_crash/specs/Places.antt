@@ -15,12 +15,12 @@ abbrev pub line_in : Directory → List KeptLine → ℕ → Option KeptLine
 line_in d xs j = at_place xs (number_at d j)
 
 -- Each place that the directory gives is a place of a kept line, which has the number of its cache line.
-pub record ArePlaced (d : Directory) (xs : List KeptLine) : Type 0 where
+pub record KeptLinesArePlaced (d : Directory) (xs : List KeptLine) : Type 0 where
   pub within : (j : ℕ) → number_at d j ≤ length xs
   pub numbered : (j : ℕ) (x : KeptLine) → line_in d xs j ≡ Some x → x.line ≡ j
 
 -- What is kept at a place, counted from 0, is changed, and nothing else is.
-pub record ChangesPlace (change : Kept → Kept) (place : ℕ) (old new : List KeptLine) : Type 0 where
+pub record ChangesKeptPlace (change : Kept → Kept) (place : ℕ) (old new : List KeptLine) : Type 0 where
   pub others : (k : ℕ) → k ≢ place → slice_get new k ≡ slice_get old k
   pub count : length new ≡ length old
   pub here : (x : KeptLine) → slice_get old place ≡ Some x →

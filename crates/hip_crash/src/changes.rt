@@ -5,7 +5,7 @@ ghost use Rattle.std.specs.List.{list_any};
 ghost use Rattle.hip_lines.specs.Line.{has_bytes};
 ghost use Rattle.hip_types.specs.declared.areas.TheConstants.{LINE_SIZE};
 ghost use Rattle.hip_crash.specs.Kept.{with_fence, with_flush, with_store};
-ghost use Rattle.hip_crash.specs.KeptLines.{AreListed, ChangesLine, is_unflushed, kept_at, line_at};
+ghost use Rattle.hip_crash.specs.KeptLines.{AreListed, ChangesKeptLine, is_unflushed, kept_at, line_at};
 ghost use Rattle.hip_crash.specs.Now.{now_at};
 
 use crate::kept_lines::KeptLines;
@@ -89,7 +89,7 @@ fn flush_line(lines: &mut KeptLines, flushed: &mut Vec<u64>, line: u64) -> Resul
     requires there { IsSome (line_at lines.old line) }
     requires listed { AreListed flushed.old.items lines.old }
     ensures listed { AreListed flushed.new.items lines.new }
-    ensures ok { OnOk result (ChangesLine with_flush line lines.old lines.new) }
+    ensures ok { OnOk result (ChangesKeptLine with_flush line lines.old lines.new) }
     ensures err { OnErr result (lines.new ≡ lines.old) }
 {
     if is_to_be_listed(lines, line) {

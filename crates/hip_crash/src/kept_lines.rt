@@ -3,7 +3,7 @@
 ghost use Rattle.std.specs.Prelude.{◌≡◌, ℕ, ◌+◌, ◌-◌, ◌<◌, ◌^◌, [], ◌∷◌, ◌++◌, length, Option, Some, None, IsSome, slice_get, IfOk, OnOk, OnErr};
 ghost use Rattle.std.specs.Option.{option_copied};
 ghost use Rattle.hip_crash.specs.Kept.{with_store, with_flush, with_fence};
-ghost use Rattle.hip_crash.specs.Places.{ArePlaced, ChangesPlace};
+ghost use Rattle.hip_crash.specs.Places.{KeptLinesArePlaced, ChangesKeptPlace};
 ghost use Rattle.hip_crash.specs.declared.kept_line.KeptLine.{KeptLine};
 ghost use Rattle.hip_types.specs.declared.areas.TheConstants.{LINE_SIZE};
 
@@ -20,12 +20,12 @@ pub struct KeptLines {
     // For each cache line that is kept, its place, counted from 1.
     directory: Directory,
     lines: Vec<KeptLine>,
-    ghost placed: { ArePlaced directory lines.items },
+    ghost placed: { KeptLinesArePlaced directory lines.items },
 }
 
 #[tactic(auto, unfolding(crate::specs::KeptLines::line_at))]
 impl KeptLines {
-    ghost use Rattle.hip_crash.specs.KeptLines.{line_at, kept_at, ChangesLine, GivesLine, IsFirstKept};
+    ghost use Rattle.hip_crash.specs.KeptLines.{line_at, kept_at, ChangesKeptLine, GivesLine, IsFirstKept};
 
     /// Nothing is kept.
     pub fn new(alloc: Global) -> Result<KeptLines, NoMemory>
@@ -87,7 +87,7 @@ impl KeptLines {
         requires there { IsSome (line_at self.old line) }
         requires few { (x : KeptLine) → line_at self.old line ≡ Some x
             → x.least + length x.later.items + 1 < 2 ^ 63 }
-        ensures ok { OnOk result (ChangesLine (with_store stored) line self.old self.new) }
+        ensures ok { OnOk result (ChangesKeptLine (with_store stored) line self.old self.new) }
         ensures err { OnErr result ((j : ℕ) → kept_at self.new j ≡ kept_at self.old j) }
     {
         let place = self.directory.get(line) as usize - 1;
@@ -98,7 +98,7 @@ impl KeptLines {
     #[inline]
     pub fn flush(&mut self, line: u64)
         requires { IsSome (line_at self.old line) }
-        ensures { ChangesLine with_flush line self.old self.new }
+        ensures { ChangesKeptLine with_flush line self.old self.new }
     {
         let place = self.directory.get(line) as usize - 1;
         flush_at(&mut self.lines, place);
@@ -107,7 +107,7 @@ impl KeptLines {
     /// Makes the flushed stores of a line durable.
     #[inline]
     pub fn fence(&mut self, line: u64)
-        ensures { ChangesLine (with_fence line) line self.old self.new }
+        ensures { ChangesKeptLine (with_fence line) line self.old self.new }
     {
         let place = self.directory.get(line) as usize;
         if place != 0 {
@@ -130,8 +130,8 @@ fn push_at(lines: &mut Vec<KeptLine>, place: usize, stored: StoredValue) -> Resu
     requires within { place < length lines.old.items }
     requires few { (x : KeptLine) → slice_get lines.old.items place ≡ Some x
         → x.least + length x.later.items + 1 < 2 ^ 63 }
-    ensures ok { OnOk result (ChangesPlace (with_store stored) place lines.old.items lines.new.items) }
-    ensures err { OnErr result (ChangesPlace (λ k. k) place lines.old.items lines.new.items) }
+    ensures ok { OnOk result (ChangesKeptPlace (with_store stored) place lines.old.items lines.new.items) }
+    ensures err { OnErr result (ChangesKeptPlace (λ k. k) place lines.old.items lines.new.items) }
 {
     let line = &mut lines[place];
     line.push(stored)
@@ -139,7 +139,7 @@ fn push_at(lines: &mut Vec<KeptLine>, place: usize, stored: StoredValue) -> Resu
 
 fn flush_at(lines: &mut Vec<KeptLine>, place: usize)
     requires { place < length lines.old.items }
-    ensures { ChangesPlace with_flush place lines.old.items lines.new.items }
+    ensures { ChangesKeptPlace with_flush place lines.old.items lines.new.items }
 {
     let line = &mut lines[place];
     line.flush();
@@ -148,7 +148,7 @@ fn flush_at(lines: &mut Vec<KeptLine>, place: usize)
 fn fence_at(lines: &mut Vec<KeptLine>, place: usize, number: u64)
     requires within { place < length lines.old.items }
     requires line { (x : KeptLine) → slice_get lines.old.items place ≡ Some x → x.line ≡ number }
-    ensures { ChangesPlace (with_fence number) place lines.old.items lines.new.items }
+    ensures { ChangesKeptPlace (with_fence number) place lines.old.items lines.new.items }
 {
     let line = &mut lines[place];
     line.fence();

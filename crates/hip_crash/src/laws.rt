@@ -3,7 +3,7 @@
 ghost use Rattle.std.specs.Prelude.{◌≡◌, ℕ, List, None};
 ghost use Rattle.hip_crash.specs.Picks.{first_failure, picked};
 ghost use Rattle.hip_tree.specs.declared.program.Program.{Program};
-ghost use Rattle.hip_picks.specs.declared.pick.Pick.{Pick};
+ghost use Rattle.hip_types.specs.declared.pick.Pick.{Pick};
 ghost use Rattle.hip_runs.specs.Crash.{IsCrashImage, crash_image};
 ghost use Rattle.hip_runs.specs.Step.{run};
 ghost use Rattle.hip_runs.specs.Validity.{IsValid};

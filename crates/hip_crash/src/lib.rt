@@ -2,17 +2,17 @@
 #![tactic(auto)]
 
 mod changes;
-mod counting;
+mod effects;
+mod entry_counts;
 mod kept_line;
 mod kept_lines;
 mod laws;
 mod log;
-mod noting;
+mod pending_change;
 mod region_log;
 mod values;
 mod views;
-mod waiting;
 
-pub use hip_picks::{Bounds, Pick, PickRefusal};
+pub use hip_types::{Bounds, Pick, PickRefusal};
 pub use laws::fitting_picks_give_images;
 pub use log::CrashLog;

@@ -5,20 +5,19 @@ ghost use Rattle.hip_runs.specs.Step.{event, has_ended};
 ghost use Rattle.hip_runs.specs.Validity.{IsValid};
 ghost use Rattle.hip_crash.specs.Numbers.{AreNumbers, IsBetween, IsNumberOf, number_in};
 ghost use Rattle.hip_crash.specs.Picks.{ArePicksOf, IsRefusal, bounds_of, failure, first_failure, number_or, picked, range_failure};
-ghost use Rattle.hip_picks.specs.declared.pick.Pick.{Pick};
+ghost use Rattle.hip_types.specs.declared.pick.Pick.{Pick};
 ghost use Rattle.hip_types.specs.declared.areas.TheConstants.{LINE_SIZE};
 ghost use Rattle.hip_runs.specs.Crash.{IsCrashImage, crash_image};
 ghost use Rattle.hip_runs.specs.Seen.{after_step, state_of};
 
-use crate::counting::{count_header, is_counted, is_end};
-use crate::noting::note;
+use crate::effects::note;
+use crate::entry_counts::{count_header, is_counted, is_end};
 use crate::region_log::RegionLog;
-use hip_cache::Machine;
 use hip_image::Image;
-use hip_picks::{Bounds, Pick, PickRefusal};
 use hip_runs::{Event, Input, longest};
 use hip_sound::Checked;
-use hip_types::{LINE_SIZE, NoMemory, Row};
+use hip_step::Machine;
+use hip_types::{Bounds, LINE_SIZE, NoMemory, Pick, PickRefusal, Row};
 use std::alloc::Global;
 use std::collections::BTreeMap;
 use std::marker::Model;
@@ -45,7 +44,7 @@ impl<'a> Model for CrashLog<'a> {
 
     ghost coded = { Prim.hlevel (codes, programs.the_row.coded) };
 
-    ghost use Rattle.hip_crash.specs.Logging.{view_of, IsLogging};
+    ghost use Rattle.hip_crash.specs.LogState.{view_of, IsLogging};
 
     ghost view = { view_of };
 

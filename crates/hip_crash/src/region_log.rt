@@ -7,14 +7,14 @@ ghost use Rattle.hip_crash.specs.Kept.{with_fence, with_flush, with_store};
 ghost use Rattle.hip_crash.specs.KeptLines.{AreListed};
 ghost use Rattle.hip_crash.specs.Now.{fresh};
 ghost use Rattle.hip_crash.specs.Views.{later_in};
-ghost use Rattle.hip_crash.specs.Waiting.{WaitsWithin, waiting_in};
-ghost use Rattle.hip_crash.specs.declared.waiting.Waiting.TheVariants as waits;
+ghost use Rattle.hip_crash.specs.PendingChange.{WaitsWithin, waiting_in};
+ghost use Rattle.hip_crash.specs.declared.pending_change.Waiting.TheVariants as waits;
 
 use crate::changes::{end_line, fence_in, flush_in, persist_in, push_in};
 use crate::kept_lines::KeptLines;
+use crate::pending_change::Waiting;
 use crate::values::StoredValue;
 use crate::views::LineView;
-use crate::waiting::Waiting;
 use hip_image::Image;
 use hip_types::{LINE_SIZE, NoMemory};
 use std::alloc::Global;
@@ -31,7 +31,7 @@ pub struct RegionLog {
 
 #[tactic(auto, unfolding(crate::specs::Region::seen_at))]
 impl RegionLog {
-    ghost use Rattle.hip_crash.specs.Region.{HasRoom, seen_at};
+    ghost use Rattle.hip_crash.specs.Region.{LogHasRoom, seen_at};
 
     /// Nothing was stored into the region.
     pub fn new(alloc: Global) -> Result<RegionLog, NoMemory>
@@ -50,7 +50,7 @@ impl RegionLog {
     /// Takes up what waits. What is seen of the lines does not change, even if memory runs out.
     #[inline(always)]
     pub fn take_up(&mut self, image: &Image) -> Result<(), NoMemory>
-        requires room { HasRoom self.old image.now }
+        requires room { LogHasRoom self.old image.now }
         requires within { WaitsWithin self.old.waiting image.now }
         ensures same { (j : ℕ) → seen_at self.new image.now j ≡ seen_at self.old image.now j }
         ensures within { WaitsWithin self.new.waiting image.now }
@@ -64,7 +64,7 @@ impl RegionLog {
 
     #[inline(never)]
     fn take_up_last(&mut self, image: &Image) -> Result<(), NoMemory>
-        requires room { HasRoom self.old image.now }
+        requires room { LogHasRoom self.old image.now }
         requires within { WaitsWithin self.old.waiting image.now }
         ensures same { (j : ℕ) → seen_at self.new image.now j ≡ seen_at self.old image.now j }
         ensures within { WaitsWithin self.new.waiting image.now }
@@ -83,7 +83,7 @@ impl RegionLog {
         stored: StoredValue,
         from: u64,
     ) -> Result<(), NoMemory>
-        requires room { HasRoom self.old image.now }
+        requires room { LogHasRoom self.old image.now }
         requires within { stored.offset + stored.size ≤ length image.now }
         requires waiting { self.old.waiting ≡ waits.Store stored from }
         ensures same { (j : ℕ) → seen_at self.new image.now j ≡ seen_at self.old image.now j }

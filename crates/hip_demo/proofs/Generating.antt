@@ -4,9 +4,9 @@ use Rattle.hip_gen.specs.Generated.{generated_program}
 use Rattle.hip_gen.specs.Lines.{generated_text}
 use Rattle.hip_gen.specs.Read.{IsReadAsSound}
 use Rattle.hip_grammar.specs.Laws.TextExact.{one_program}
-use Rattle.hip_grammar.specs.Reading.{Reads}
+use Rattle.hip_grammar.specs.ReadTexts.{Reads}
 use Rattle.hip_tree.specs.declared.program.Program.{Program}
-use Rattle.hip_program_files.specs.Loading.{RefusesProgram, RefusesText}
+use Rattle.hip_program_files.specs.LoadedPrograms.{RefusesProgram, RefusesText}
 use Rattle.hip_program_files.specs.declared.refusal.ProgramRefusal.{ProgramRefusal}
 use Rattle.hip_program_files.specs.declared.refusal.ProgramRefusal.TheVariants as refusals
 use Rattle.hip_grammar.specs.declared.refusal.ParseRefusal.{ParseRefusal}

@@ -6,9 +6,10 @@ use Rattle.hip_demo.specs.declared.replayed.Kept.{Kept}
 use Rattle.hip_io.specs.Cabinets.{CabinetState, IsFirstFile, file_of}
 use Rattle.hip_io.specs.declared.cabinet.NamedFile.{NamedFile}
 use Rattle.hip_tree.specs.declared.program.Program.{Program}
+use Rattle.hip_ledger.specs.declared.sought.Sought.TheVariants.{Findings}
 use Rattle.hip_lockstep.specs.Refusals.{HasMisfit}
-use Rattle.hip_following.specs.Replaying.{HasReplayed}
-use Rattle.hip_following.specs.declared.compared.Replayed.{Replayed}
+use Rattle.hip_replay.specs.Replays.{HasReplayed}
+use Rattle.hip_replay.specs.declared.compared.Replayed.{Replayed}
 use Rattle.hip_answers.specs.TraceLaws.{one_input}
 use Rattle.hip_run_traces.specs.Misfits.{IsMisfit, IsTraceOf}
 use Rattle.hip_run_traces.specs.Traces.{IsTrace}
@@ -49,7 +50,7 @@ not_misfit none P text r old new entry kind traced rest h =
     (subst (λ (o : Option (List ℕ)). IfSome o (λ bytes. IsMisfit P bytes true entry kind)) rest h.stated)
 
 pub replayed_whole : TracesAreOne → (P : Program) (text : List ℕ) (r : ReaderState) (old new : CabinetState)
-    (replayed : Replayed) → old.rest ≡ Some text → HasReplayed P r old new replayed → spec.HasReplayed P text replayed
+    (replayed : Replayed) → old.rest ≡ Some text → HasReplayed P Findings r old new replayed → spec.HasReplayedText P text replayed
 replayed_whole one P text r old new replayed rest h =
     let traced : IsTraceOf P text replayed.input =
     subst (λ (o : Option (List ℕ)). IfSome o (λ bytes. IsTraceOf P bytes replayed.input)) rest h.stated in
@@ -67,7 +68,7 @@ pub trace_of_kept : (P : Program) (I : Input) (kept : Kept)
 trace_of_kept P I kept reads k = subst (λ text. IsTraceOf P text I) (sym k.text_is) (reads k.trace k.is_trace)
 
 pub found_again : (P : Program) (I : Input) (text : List ℕ) (replayed : Replayed) → IsTraceOf P text I
-    → spec.HasReplayed P text replayed → spec.HasFound P I replayed
+    → spec.HasReplayedText P text replayed → spec.HasFoundAgain P I replayed
 found_again P I text replayed traced h =
     let same = one_input P text replayed.input I h.traced traced in
     record {
@@ -79,7 +80,7 @@ found_again P I text replayed traced h =
     }
 
 pub found_if : (P : Program) (I : Input) (text : List ℕ) (result : Result Replayed NoMemory) → IsTraceOf P text I
-    → IfOk result (λ replayed. spec.HasReplayed P text replayed)
-    → IfOk result (λ replayed. spec.HasFound P I replayed)
+    → IfOk result (λ replayed. spec.HasReplayedText P text replayed)
+    → IfOk result (λ replayed. spec.HasFoundAgain P I replayed)
 found_if P I text (Ok replayed) traced h = found_again P I text replayed traced h
 found_if P I text (Err e) traced h = tt

@@ -1,15 +1,15 @@
 -- What is counted of a program that was repaired and run again.
 use Rattle.std.proofs.Common.{◌≡◌, ℕ, length, ap, ◌∙◌, subst}
 use Rattle.hip_demo.specs.Demo.{HasShown}
-use Rattle.hip_demo.specs.Replays.{HasFound, HasKept}
+use Rattle.hip_demo.specs.Replays.{HasFoundAgain, HasKept}
 use Rattle.hip_demo.specs.declared.replayed.Kept.{Kept}
 use Rattle.hip_demo.specs.declared.shown.Shown.{Shown}
 use Rattle.hip_tree.specs.declared.program.Program.{Program}
 use Rattle.hip_repair_answers.specs.Cured.{IsCured, repaired_for}
-use Rattle.hip_repairing.specs.Making.{IsRepairFor}
-use Rattle.hip_repairing.specs.declared.one_run.Repair.{Repair}
+use Rattle.hip_run_repairs.specs.RunRepairs.{IsRepairFor}
+use Rattle.hip_run_repairs.specs.declared.one_run.Repair.{Repair}
 use Rattle.hip_repairs.specs.declared.plan.Plan.{Plan}
-use Rattle.hip_following.specs.declared.compared.Replayed.{Replayed}
+use Rattle.hip_replay.specs.declared.compared.Replayed.{Replayed}
 use Rattle.hip_runs.specs.declared.input.Input.{Input}
 use Rattle.hip_runs.specs.declared.report.Findings.{Findings}
 
@@ -22,7 +22,7 @@ same_shown : {e e' r r' c c' m m' a a' : ℕ} {p p' : Plan} → e ≡ e' → r �
 same_shown e r p c m a = cc
 
 pub shows : (P : Program) (I : Input) (replayed : Replayed) (repair : Repair) (kept : Kept)
-    (reports clones after : ℕ) → IsCured P I replayed.findings → HasFound P I replayed
+    (reports clones after : ℕ) → IsCured P I replayed.findings → HasFoundAgain P I replayed
     → IsRepairFor P replayed.findings repair → HasKept repair.repaired.checked I kept
     → reports ≡ length replayed.findings.reports → clones ≡ length repair.repaired.clones
     → after ≡ length kept.recorded.findings.reports

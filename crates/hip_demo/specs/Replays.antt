@@ -2,7 +2,7 @@
 use Rattle.std.specs.Prelude.{ℕ, ◌≡◌, List, length}
 use Rattle.hip_tree.specs.declared.program.Program.{Program}
 use Rattle.hip_demo.specs.declared.replayed.Kept.{Kept}
-use Rattle.hip_following.specs.declared.compared.Replayed.{Replayed}
+use Rattle.hip_replay.specs.declared.compared.Replayed.{Replayed}
 use Rattle.hip_run_traces.specs.Misfits.{IsTraceOf}
 use Rattle.hip_run_traces.specs.Traces.{IsTrace}
 use Rattle.hip_runs.specs.Found.Marks.{IsFound}
@@ -19,13 +19,13 @@ pub record HasKept (P : Program) (I : Input) (kept : Kept) : Type 0 where
   pub found : IsFound P I kept.recorded.findings
 
 -- The text is the trace of the run on this input, which found this.
-pub record HasReplayed (P : Program) (text : List ℕ) (replayed : Replayed) : Type 0 where
+pub record HasReplayedText (P : Program) (text : List ℕ) (replayed : Replayed) : Type 0 where
   pub traced : IsTraceOf P text replayed.input
   pub found : IsFound P replayed.input replayed.findings
   pub entries : replayed.entries ≡ length traced.trace
 
 -- The run on the input was recorded and replayed, and found this.
-pub record HasFound (P : Program) (I : Input) (replayed : Replayed) : Type 0 where
+pub record HasFoundAgain (P : Program) (I : Input) (replayed : Replayed) : Type 0 where
   pub input_is : replayed.input ≡ I
   pub found : IsFound P I replayed.findings
   pub trace : List Entry

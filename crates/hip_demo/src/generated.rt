@@ -3,8 +3,8 @@
 ghost use Rattle.std.specs.Prelude.{◌≡◌, ◌<◌, ◌≤◌, IfOk};
 ghost use Rattle.hip_gen.specs.Generated.{generated_program};
 
+use hip_command_io::read_program;
 use hip_gen::{LARGEST_SIZE, SEED_END, generate, generated_programs_are_sound};
-use hip_loading::read_program;
 use hip_program_files::Failure;
 use hip_sound::Checked;
 use hip_types::NoMemory;

@@ -1,16 +1,15 @@
 //! A run that is recorded in memory, and its trace replayed.
 
 ghost use Rattle.std.specs.Prelude.{◌≡◌, [], ◌∷◌, IfOk, codes};
-ghost use Rattle.hip_demo.specs.Replays.{HasKept, HasReplayed};
+ghost use Rattle.hip_demo.specs.Replays.{HasKept, HasReplayedText};
 ghost use Rattle.hip_run_traces.specs.Misfits.{IsTraceOf};
 ghost use Rattle.hip_runs.specs.Validity.{IsValid};
 ghost use Rattle.hip_runs.specs.declared.input.Input.{Input};
 
 use crate::kept::KeptText;
-use hip_following::{Replayed, replay};
 use hip_io::{Cabinet, Fetched, MemCabinet, NamedFile};
 use hip_lockstep::ReplayRefusal;
-use hip_recording::{Recorded, record_run};
+use hip_replay::{Recorded, Replayed, Sought, record_run, replay};
 use hip_run_traces::{each_run_has_one_trace, misfits_are_one};
 use hip_runs::Input;
 use hip_sound::Checked;
@@ -62,7 +61,7 @@ pub(crate) fn replay_text(
     text: Row<u8>,
 ) -> Result<Replayed, NoMemory>
     requires { (I : Input) × IsTraceOf checked.now text I }
-    ensures { IfOk result (λ replayed. HasReplayed checked.now text replayed) }
+    ensures { IfOk result (λ replayed. HasReplayedText checked.now text replayed) }
 {
     each_run_has_one_trace();
     misfits_are_one();
@@ -73,7 +72,7 @@ pub(crate) fn replay_text(
         Fetched::Failed => unreachable!(),
     }
     let mut reader = Reader::new();
-    match replay(alloc, checked, &mut reader, &mut cabinet) {
+    match replay(alloc, checked, Sought::Findings, &mut reader, &mut cabinet) {
         Ok(replayed) => Ok(replayed),
         Err(ReplayRefusal::NoMemory) => Err(NoMemory),
         Err(ReplayRefusal::Misfit { .. }) => unreachable!(),

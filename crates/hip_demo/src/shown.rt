@@ -2,17 +2,17 @@
 
 ghost use Rattle.std.specs.Prelude.{◌<◌, ◌≤◌, IfOk};
 ghost use Rattle.hip_demo.specs.Demo.{HasShown, demo_input};
-ghost use Rattle.hip_demo.specs.Replays.{HasFound};
+ghost use Rattle.hip_demo.specs.Replays.{HasFoundAgain};
 ghost use Rattle.hip_gen.specs.Generated.{generated_program};
 ghost use Rattle.hip_runs.specs.Validity.{IsInput, IsValid};
 
 use crate::generated::load_generated;
 use crate::replayed::{Kept, keep_run, replay_text};
-use hip_following::Replayed;
 use hip_gen::{LARGEST_SIZE, SEED_END};
 use hip_repair_answers::repairs_cure;
-use hip_repairing::{Repair, repair_for};
 use hip_repairs::{Plan, inputs_stay_valid};
+use hip_replay::Replayed;
+use hip_run_repairs::{Repair, repair_for};
 use hip_run_traces::{each_run_has_one_trace, written_traces_are_read_back};
 use hip_runs::{DEFAULT_LIMIT, Input, first_input};
 use hip_sound::Checked;
@@ -38,7 +38,7 @@ pub(crate) struct Shown {
 fn find(alloc: Global, checked: &Checked, input: &Input) -> Result<Replayed, NoMemory>
     requires input { IsInput input.now }
     requires valid { IsValid checked.now input.now }
-    ensures { IfOk result (λ replayed. HasFound checked.now input.now replayed) }
+    ensures { IfOk result (λ replayed. HasFoundAgain checked.now input.now replayed) }
 {
     each_run_has_one_trace();
     written_traces_are_read_back();
@@ -49,7 +49,7 @@ fn find(alloc: Global, checked: &Checked, input: &Input) -> Result<Replayed, NoM
 
 /// Repairs a program for what its run found, and records the run of the repaired program on the same input.
 fn mend(alloc: Global, checked: &Checked, replayed: Replayed) -> Result<Shown, NoMemory>
-    requires found { HasFound checked.now replayed.input replayed }
+    requires found { HasFoundAgain checked.now replayed.input replayed }
     requires valid { IsValid checked.now replayed.input }
     ensures { IfOk result (λ shown. HasShown checked.now replayed.input shown) }
 {

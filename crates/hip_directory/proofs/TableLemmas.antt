@@ -2,7 +2,7 @@
 use Rattle.std.proofs.Common.{◌≡◌, ◌≢◌, ◌⊎◌, inl, inr, ℕ, ◌+◌, ◌*◌, ◌/◌, ◌%◌, ◌<◌, ◌≤◌, ◌==◌, Bool, true, false, cond, List, length, slice_index, slice_set, refl, sym, ap, ◌∙◌, arith}
 use Rattle.std.proofs.lemmas.List.{get_or-set_same, get_or-set_other, get_or_past}
 use Rattle.std.proofs.lemmas.Bool.Decides.{nat_tests}
-use Rattle.hip_directory.specs.Tables.{number_in, IsTable}
+use Rattle.hip_directory.specs.Tables.{number_in, IsDirectoryTable}
 
 equal_or_not : (j k : ℕ) → (((j == k) ≡ true) × (j ≡ k)) ⊎ (((j == k) ≡ false) × (j ≢ k))
 equal_or_not j k = grind (arith, nat_tests)
@@ -13,7 +13,7 @@ pub number-same : (gs gs' es es' : List ℕ) → ((i : ℕ) → slice_index gs' 
 unfolding number_in
 number-same gs gs' es es' f g k = g (64 * slice_index gs' (k / 64) + k % 64) ∙ ap (λ n. slice_index es (64 * n + k % 64)) (f (k / 64))
 
-pub table-same : (gs gs' es : List ℕ) → IsTable gs es → ((i : ℕ) → slice_index gs' i ≡ slice_index gs i) → IsTable gs' es
+pub table-same : (gs gs' es : List ℕ) → IsDirectoryTable gs es → ((i : ℕ) → slice_index gs' i ≡ slice_index gs i) → IsDirectoryTable gs' es
 table-same gs gs' es h f = record {
   whole = h.whole;
   within = λ i. omega (arith, f i, h.within i);
@@ -31,7 +31,7 @@ made gs at c i lt = go (equal_or_not i at)
     go (inl x) = inl (x.1, ap (slice_index (slice_set gs at c)) x.1 ∙ get_or-set_same gs at c 0 lt)
     go (inr x) = inr (x.1, get_or-set_other gs at i c 0 x.1)
 
-pub number-grown : (gs es es' : List ℕ) (at c : ℕ) → IsTable gs es → at < length gs → slice_index gs at ≡ 0 → c ≡ length es / 64 → ((i : ℕ) → slice_index es' i ≡ slice_index es i) → (k : ℕ) → number_in (slice_set gs at c) es' k ≡ number_in gs es k
+pub number-grown : (gs es es' : List ℕ) (at c : ℕ) → IsDirectoryTable gs es → at < length gs → slice_index gs at ≡ 0 → c ≡ length es / 64 → ((i : ℕ) → slice_index es' i ≡ slice_index es i) → (k : ℕ) → number_in (slice_set gs at c) es' k ≡ number_in gs es k
 unfolding number_in
 number-grown gs es es' at c h lt none ce g k = g (64 * slice_index (slice_set gs at c) (k / 64) + k % 64) ∙ go (made gs at c (k / 64) lt)
   where

@@ -7,7 +7,7 @@ unfoldable pub number_in : List ℕ → List ℕ → ℕ → ℕ
 number_in groups entries k = slice_index entries (GROUP_SIZE * slice_index groups (k / GROUP_SIZE) + k % GROUP_SIZE)
 
 -- The entries are whole groups; the first group is zeros, and each other group belongs to at most one group of keys.
-pub record IsTable (groups entries : List ℕ) : Type 0 where
+pub record IsDirectoryTable (groups entries : List ℕ) : Type 0 where
   pub whole : length entries % GROUP_SIZE ≡ 0
   pub within : (i : ℕ) → GROUP_SIZE * slice_index groups i + GROUP_SIZE ≤ length entries
   pub first : (i : ℕ) → i < GROUP_SIZE → slice_index entries i ≡ 0

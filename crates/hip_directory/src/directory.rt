@@ -1,6 +1,6 @@
 ghost use Rattle.std.specs.Prelude.{◌≡◌, ◌≢◌, ℕ, ◌+◌, ◌-◌, ◌*◌, ◌/◌, ◌%◌, ◌^◌, ◌<◌, ◌≤◌, ◌==◌, cond, length, slice_index, IfOk, OnOk, OnErr};
 ghost use Rattle.hip_directory.specs.declared.TheConstants.{GROUP_SIZE};
-ghost use Rattle.hip_directory.specs.Tables.{number_in, IsTable, set_once, count_set};
+ghost use Rattle.hip_directory.specs.Tables.{number_in, IsDirectoryTable, set_once, count_set};
 
 use crate::GROUP_SIZE;
 use hip_types::NoMemory;
@@ -16,7 +16,7 @@ pub struct Directory {
     entries: Vec<u32>,
     // How many entries are not 0.
     held: usize,
-    ghost table: { IsTable groups.items entries.items },
+    ghost table: { IsDirectoryTable groups.items entries.items },
     ghost counted: { held ≡ count_set entries.items },
 }
 
@@ -151,9 +151,9 @@ fn zeros(alloc: Global) -> Result<Vec<u32>, NoMemory>
 
 // Makes the entries of a group of keys.
 fn add_group(groups: &mut Vec<u32>, entries: &mut Vec<u32>, at: usize) -> Result<(), NoMemory>
-    requires table { IsTable groups.old.items entries.old.items }
+    requires table { IsDirectoryTable groups.old.items entries.old.items }
     requires none { slice_index groups.old.items at ≡ 0 }
-    ensures table { IsTable groups.new.items entries.new.items }
+    ensures table { IsDirectoryTable groups.new.items entries.new.items }
     ensures same { (j : ℕ) → number_in groups.new.items entries.new.items j
         ≡ number_in groups.old.items entries.old.items j }
     ensures kept { (j : ℕ) → 0 < slice_index groups.old.items j → 0 < slice_index groups.new.items j }

@@ -11,12 +11,12 @@ use Rattle.hip_runs.specs.declared.input.Input.{Input}
 use Rattle.hip_code.specs.Edges.{AreCases, IsEdge}
 use Rattle.hip_code.specs.Numbers.{Tables}
 use Rattle.hip_code.specs.Ops.{case_edge}
-use Rattle.hip_code.specs.declared.op.Case.{Case}
+use Rattle.hip_code.specs.declared.op.EdgeCase.{EdgeCase}
 use Rattle.hip_end_ops.specs.Switched.{IsSorted, are_cases}
 
 -- ---- a stable sort by value
 
-abbrev below : Case → Case → Bool
+abbrev below : EdgeCase → EdgeCase → Bool
 below c d = is_lt (nat_cmp c.value d.value)
 
 tied_is : (v w : ℕ) → not (is_lt (nat_cmp v w)) && not (is_lt (nat_cmp w v)) ≡ nat_eq w v
@@ -26,17 +26,17 @@ tied_is v w = go (nat_eq w v) refl
     go true e = grind (arith, nat_tests)
     go false e = grind (arith, nat_tests)
 
-abbrev head_edge : List Case → ℕ → ℕ
+abbrev head_edge : List EdgeCase → ℕ → ℕ
 head_edge [] other = other
 head_edge (c ∷ cs) other = c.edge
 
 -- The first of the cases with a value is the first of those that tie with it.
-by_ties : (v other : ℕ) (cs : List Case) → case_edge v cs other ≡ head_edge (filter (ties below (record { value = v; edge = 0 })) cs) other
+by_ties : (v other : ℕ) (cs : List EdgeCase) → case_edge v cs other ≡ head_edge (filter (ties below (record { value = v; edge = 0 })) cs) other
 by_ties v other [] = refl
 by_ties v other (c ∷ cs) =
     go (nat_eq c.value v) _ (tied_is v c.value) (by_ties v other cs)
   where
-    tied : List Case
+    tied : List EdgeCase
     tied = filter (ties below (record { value = v; edge = 0 })) cs
 
     go : (b t : Bool) → t ≡ b → case_edge v cs other ≡ head_edge tied other → cond b c.edge (case_edge v cs other) ≡ head_edge (cond t (c ∷ tied) tied) other
@@ -45,7 +45,7 @@ by_ties v other (c ∷ cs) =
     go true false e h = absurd (let z : ⊥ = cc in z)
     go false true e h = absurd (let z : ⊥ = cc in z)
 
-pub is_sorted : (cs sorted : List Case) → IsSortedByKey (λ (c : Case). c.value) nat_cmp sorted → IsPermutation cs sorted → IsStableByKey (λ (c : Case). c.value) nat_cmp cs sorted → IsSorted cs sorted
+pub is_sorted : (cs sorted : List EdgeCase) → IsSortedByKey (λ (c : EdgeCase). c.value) nat_cmp sorted → IsPermutation cs sorted → IsStableByKey (λ (c : EdgeCase). c.value) nat_cmp cs sorted → IsSorted cs sorted
 is_sorted cs sorted up same stable = record {
   ascend = IsNonDecreasingBy-from_sort (λ c. c.value) sorted up;
   same = same;
@@ -55,15 +55,15 @@ is_sorted cs sorted up same stable = record {
 -- ---- edges of the cases
 
 module _ (Leads : ℕ → List ℕ → Type 0) where
-  abbrev pub Leading : Case → Type 0
+  abbrev pub Leading : EdgeCase → Type 0
   Leading c = (label : List ℕ) × Leads c.edge label
 
-  pub all_lead : (cs : List Case) (ds : List named_case.Case) → are_cases Leads cs ds → All Leading cs
+  pub all_lead : (cs : List EdgeCase) (ds : List named_case.Case) → are_cases Leads cs ds → All Leading cs
   all_lead [] ds a = All-nil Leading
   all_lead (c ∷ cs) [] a = absurd a
   all_lead (c ∷ cs) (d ∷ ds) a = All-cons Leading c cs (d.label, a.1) (all_lead cs ds a.2)
 
-  pub leads_at : (cs : List Case) (k : ℕ) (c : Case) → All Leading cs → slice_get cs k ≡ Some c → Leading c
+  pub leads_at : (cs : List EdgeCase) (k : ℕ) (c : EdgeCase) → All Leading cs → slice_get cs k ≡ Some c → Leading c
   leads_at [] k c h e = absurd (let z : ⊥ = cc in z)
   leads_at (x ∷ cs) zero c h e = let same : x ≡ c = cc in subst Leading same (All-head Leading x cs h)
   leads_at (x ∷ cs) (suc k) c h e = leads_at cs k c (All-tail Leading x cs h) e
@@ -72,7 +72,7 @@ module _ (Leads : ℕ → List ℕ → Type 0) where
   chosen true one other first second p q = p
   chosen false one other first second p q = q
 
-  pub case_taken : (v other : ℕ) (label : List ℕ) (cs : List Case) (ds : List named_case.Case) → are_cases Leads cs ds → Leads other label → Leads (case_edge v cs other) (case_label v ds label)
+  pub case_taken : (v other : ℕ) (label : List ℕ) (cs : List EdgeCase) (ds : List named_case.Case) → are_cases Leads cs ds → Leads other label → Leads (case_edge v cs other) (case_label v ds label)
   case_taken v other label [] [] a e = e
   case_taken v other label [] (d ∷ ds) a e = absurd a
   case_taken v other label (c ∷ cs) [] a e = absurd a
@@ -80,13 +80,13 @@ module _ (Leads : ℕ → List ℕ → Type 0) where
       subst (λ u. Leads (cond (nat_eq u v) c.edge (case_edge v cs other)) (cond (nat_eq d.value.value v) d.label (case_label v ds label))) (sym a.0)
       (chosen (nat_eq d.value.value v) c.edge (case_edge v cs other) d.label (case_label v ds label) a.1 (case_taken v other label cs ds a.2 e))
 
-pub cases_also : (Leads Other : ℕ → List ℕ → Type 0) → ((n : ℕ) (label : List ℕ) → Leads n label → Other n label) → (cs : List Case) (ds : List named_case.Case) → are_cases Leads cs ds → are_cases Other cs ds
+pub cases_also : (Leads Other : ℕ → List ℕ → Type 0) → ((n : ℕ) (label : List ℕ) → Leads n label → Other n label) → (cs : List EdgeCase) (ds : List named_case.Case) → are_cases Leads cs ds → are_cases Other cs ds
 cases_also Leads Other f [] [] a = tt
 cases_also Leads Other f [] (d ∷ ds) a = absurd a
 cases_also Leads Other f (c ∷ cs) [] a = absurd a
 cases_also Leads Other f (c ∷ cs) (d ∷ ds) a = (a.0, f c.edge d.label a.1, cases_also Leads Other f cs ds a.2)
 
-pub sorted_are : (P : Program) (I : Input) (f b : ℕ) (tables : Tables) (cs sorted : List Case) (ds : List named_case.Case) → IsSorted cs sorted → are_cases (IsEdge P I f b tables) cs ds → AreCases P I f b tables sorted ds
+pub sorted_are : (P : Program) (I : Input) (f b : ℕ) (tables : Tables) (cs sorted : List EdgeCase) (ds : List named_case.Case) → IsSorted cs sorted → are_cases (IsEdge P I f b tables) cs ds → AreCases P I f b tables sorted ds
 sorted_are P I f b tables cs sorted ds is a =
     let Edged = IsEdge P I f b tables in
     record {

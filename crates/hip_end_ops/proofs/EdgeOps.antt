@@ -13,25 +13,25 @@ use Rattle.hip_names.specs.Laws.NameLaws.{bytes_eq-sym}
 use Rattle.hip_names.specs.Laws.NumberLaws.{number_cases, number_of-there}
 use Rattle.hip_names.specs.Names.{IsAmong, number_of}
 use Rattle.hip_names.specs.declared.table.NameTable.{NameTable}
-use Rattle.hip_names.specs.Numbered.{Numbers}
+use Rattle.hip_names.specs.Numbered.{NumbersNames}
 use Rattle.hip_types.specs.Laws.DistinctLaws.{get_kept}
 use Rattle.hip_code.specs.Edges.{IsMove, are_moves, edge_from}
 use Rattle.hip_code.specs.Numbers.{Tables}
 use Rattle.hip_code.specs.Resolved.{IsOperand}
 use Rattle.hip_code.specs.Entries.{entry}
-use Rattle.hip_code.specs.declared.op.Edge.{Edge}
+use Rattle.hip_code.specs.declared.op.OpEdge.{OpEdge}
 use Rattle.hip_code.specs.declared.op.Move.{Move}
 use Rattle.hip_runs.specs.Places.{block_at, block_number, blocks_in, blocks_of, label_of, phis_of}
 use Rattle.hip_sound.specs.Registers.{end_labels}
 use Rattle.hip_sound.specs.Sound.{IsBlockAt}
-use Rattle.hip_sound.specs.Numbering.{label_names}
-use Rattle.hip_code.specs.declared.op.Operand.{Operand}
-use Rattle.hip_end_ops.specs.Edged.{HasEdge, IsSource, IsTarget, LeadFrom, Leads, Moves, NewEdge, moves_of}
+use Rattle.hip_sound.specs.NumberedNames.{label_names}
+use Rattle.hip_code.specs.declared.op.OpOperand.{OpOperand}
+use Rattle.hip_end_ops.specs.Edged.{HasEdge, IsSource, IsTarget, LeadFrom, EdgeLeads, PutsMoves, NewEdge, moves_of}
 use Rattle.hip_scope.specs.Known.{PhiKnown}
 use Rattle.hip_scope.specs.PhiNumbers.{HasNumbers}
-use Rattle.hip_scope.specs.Growth.{Grows, Makes, OnlyConstants}
-use Rattle.hip_scope.specs.Scopes.{Describes, names_of}
-use Rattle.hip_end_ops.specs.declared.edges.Source.{Source}
+use Rattle.hip_scope.specs.Growth.{TablesGrow, Makes, OnlyConstants}
+use Rattle.hip_scope.specs.Scopes.{DescribesScope, names_of}
+use Rattle.hip_end_ops.specs.declared.edges.EdgeSource.{EdgeSource}
 use Rattle.hip_scope.specs.declared.scope.Scope.{Scope}
 use Rattle.hip_scope.proofs.Growth.{grows_moves}
 use Rattle.hip_scope.proofs.Growth.{extends_by, extends_same, get_extended, get_last, grows_on, makes_same, span_is, span_within}
@@ -41,7 +41,7 @@ use Rattle.hip_scope.proofs.Sound.{among_all, phi_known}
 -- ---- tables of edges
 
 pub numbers_on : (tables more : List (NameTable ℕ)) (t : NameTable ℕ) (ps : List Phi) (k : ℕ) (p : Phi) → ((j : ℕ) (q : Phi) → j < k → slice_get ps j ≡ Some q → HasNumbers tables j q) → length tables ≡ k → more ≡ tables ++ t ∷ [] → p ≡ get_or ps k p →
-    Numbers t.names t.values (map (λ e. e.label) p.edges) → (j : ℕ) (q : Phi) → j < k + 1 → slice_get ps j ≡ Some q → HasNumbers more j q
+    NumbersNames t.names t.values (map (λ e. e.label) p.edges) → (j : ℕ) (q : Phi) → j < k + 1 → slice_get ps j ≡ Some q → HasNumbers more j q
 numbers_on tables more t ps k p before long e is n j q lt h =
     ⊎_elim now (λ earlier. let b = before j q earlier h in record { table = b.table; here = subst (λ l. slice_get l j ≡ Some b.table) (sym e) (get_kept tables (t ∷ []) j b.table b.here); numbers = b.numbers }) (eq-or-lt_of_le (omega (arith, lt)))
   where
@@ -52,7 +52,7 @@ numbers_on tables more t ps k p before long e is n j q lt h =
         record {
           table = t;
           here = subst (λ l. slice_get l j ≡ Some t) (sym e) (subst (λ i. slice_get (tables ++ t ∷ []) i ≡ Some t) (long ∙ sym s) (get_last tables t));
-          numbers = subst (λ (r : Phi). Numbers t.names t.values (map (λ e. e.label) r.edges)) same n;
+          numbers = subst (λ (r : Phi). NumbersNames t.names t.values (map (λ e. e.label) r.edges)) same n;
         }
 
 -- ---- a phi's operand
@@ -78,10 +78,10 @@ edge_found (e ∷ es) from k h =
       value = ap (λ b. cond b (Some e.value) (edge_from es from)) (bytes_eq-sym e.label from ∙ x.1) ∙ r.value;
     }) (number_cases e.label (map (λ e. e.label) es) from k h)
 
-pub edge_numbered : (names : List (List ℕ)) (from : List ℕ) (p : Phi) (t : NameTable ℕ) → PhiKnown names from p → Numbers t.names t.values (map (λ e. e.label) p.edges) → number_of (map (λ e. e.label) p.edges) from ≡ None → ⊥
+pub edge_numbered : (names : List (List ℕ)) (from : List ℕ) (p : Phi) (t : NameTable ℕ) → PhiKnown names from p → NumbersNames t.names t.values (map (λ e. e.label) p.edges) → number_of (map (λ e. e.label) p.edges) from ≡ None → ⊥
 edge_numbered names from p t known n e = let r = known_number (map (λ e. e.label) p.edges) from known.from_is in let q : ⊥ = cc (e, r.1) in q
 
-pub is_move : (globals : List GlobalVar) (base : ℕ) (names : List (List ℕ)) (constants from : List ℕ) (p : Phi) (k dest : ℕ) (o : Operand) (e : named_edge.Edge) → number_of (map (λ e. e.label) p.edges) from ≡ Some k → slice_get p.edges k ≡ Some e →
+pub is_move : (globals : List GlobalVar) (base : ℕ) (names : List (List ℕ)) (constants from : List ℕ) (p : Phi) (k dest : ℕ) (o : OpOperand) (e : named_edge.Edge) → number_of (map (λ e. e.label) p.edges) from ≡ Some k → slice_get p.edges k ≡ Some e →
     number_of names p.dest ≡ Some dest → IsOperand globals base names constants o e.value → IsMove globals base names constants from (record { dest = dest; value = o }) p
 is_move globals base names constants from p k dest o e n h d q =
     let r = edge_found p.edges from k n in
@@ -90,7 +90,7 @@ is_move globals base names constants from p k dest o e n h d q =
 
 -- ---- moves
 
-pub moves_none : (s : Scope) (t : Tables) (from : List ℕ) → Moves s t t from []
+pub moves_none : (s : Scope) (t : Tables) (from : List ℕ) → PutsMoves s t t from []
 moves_none s t from = record { moves = []; are = sym (append-nil t.moves); makes = makes_same t (λ v. Unit {0}) (λ v. tt); edges = refl; cases = refl }
 
 moves_more : (globals : List GlobalVar) (base : ℕ) (names : List (List ℕ)) (constants from : List ℕ) (ms : List Move) (ps : List Phi) (m : Move) (p : Phi) → are_moves globals base names constants from ms ps → IsMove globals base names constants from m p →
@@ -105,8 +105,8 @@ taken [] k x lt is = absurd (let q : ⊥ = omega (arith, lt) in q)
 taken (y ∷ xs) zero x lt is = ap (λ z. z ∷ []) (sym is)
 taken (y ∷ xs) (suc k) x lt is = ap (λ l. y ∷ l) (taken xs k x (omega (arith, lt)) is)
 
-pub moves_on : (s : Scope) (t u v : Tables) (from : List ℕ) (moves : List Move) (ps : List Phi) (k : ℕ) (m : Move) (p : Phi) → Moves s t u from (take k ps) →
-    Makes u v (λ w. IsMove s.program.now.globals s.base (names_of s) w.constants from m p) → OnlyConstants u v → moves ≡ v.moves ++ m ∷ [] → k < length ps → p ≡ get_or ps k p → Moves s t (record v { moves = moves }) from (take (k + 1) ps)
+pub moves_on : (s : Scope) (t u v : Tables) (from : List ℕ) (moves : List Move) (ps : List Phi) (k : ℕ) (m : Move) (p : Phi) → PutsMoves s t u from (take k ps) →
+    Makes u v (λ w. IsMove s.program.now.globals s.base (names_of s) w.constants from m p) → OnlyConstants u v → moves ≡ v.moves ++ m ∷ [] → k < length ps → p ≡ get_or ps k p → PutsMoves s t (record v { moves = moves }) from (take (k + 1) ps)
 moves_on s t u v from moves ps k m p before makes only e lt is = record {
   moves = before.moves ++ m ∷ [];
   are = e ∙ ap (λ l. l ++ m ∷ []) (only.moves ∙ before.are) ∙ append_assoc t.moves before.moves _;
@@ -122,8 +122,8 @@ moves_on s t u v from moves ps k m p before makes only e lt is = record {
   cases = only.cases ∙ before.cases;
 }
 
-pub moves_all : (s : Scope) (t u : Tables) (from : List ℕ) (ps : List Phi) (k : ℕ) → length ps ≤ k → Moves s t u from (take k ps) → Moves s t u from ps
-moves_all s t u from ps k le m = subst (Moves s t u from) (all ps k le) m
+pub moves_all : (s : Scope) (t u : Tables) (from : List ℕ) (ps : List Phi) (k : ℕ) → length ps ≤ k → PutsMoves s t u from (take k ps) → PutsMoves s t u from ps
+moves_all s t u from ps k le m = subst (PutsMoves s t u from) (all ps k le) m
   where
     all : (xs : List Phi) (k : ℕ) → length xs ≤ k → take k xs ≡ xs
     all [] zero le = refl
@@ -143,7 +143,7 @@ moves_long globals base names constants from [] (p ∷ ps) a = absurd a
 moves_long globals base names constants from (m ∷ ms) [] a = absurd a
 moves_long globals base names constants from (m ∷ ms) (p ∷ ps) a = ap suc (moves_long globals base names constants from ms ps a.1)
 
-grows_edges : (t : Tables) (more edges : List Edge) → edges ≡ t.edges ++ more → Grows t (record t { edges = edges })
+grows_edges : (t : Tables) (more edges : List OpEdge) → edges ≡ t.edges ++ more → TablesGrow t (record t { edges = edges })
 grows_edges t more edges e = record {
   constants = extends_same t.constants;
   terms = extends_same t.terms;
@@ -152,12 +152,12 @@ grows_edges t more edges e = record {
   cases = extends_same t.cases;
 }
 
-pub edge_made : (s : Scope) (t u : Tables) (source : Source) (target number from count begins block : ℕ) (edges : List Edge) (to : Block) → Describes s → IsSource s source → block_at s.program.now s.number target ≡ Some to →
-    Moves s t u source.block.now.label to.phis → from ≡ length t.moves → count ≡ length to.phis → number ≡ length u.edges → block ≡ target → slice_get s.places target ≡ Some begins →
+pub edge_made : (s : Scope) (t u : Tables) (source : EdgeSource) (target number from count begins block : ℕ) (edges : List OpEdge) (to : Block) → DescribesScope s → IsSource s source → block_at s.program.now s.number target ≡ Some to →
+    PutsMoves s t u source.block.now.label to.phis → from ≡ length t.moves → count ≡ length to.phis → number ≡ length u.edges → block ≡ target → slice_get s.places target ≡ Some begins →
     edges ≡ u.edges ++ record { target = begins; block = block; moves = record { from = from; count = count } } ∷ [] → NewEdge s t (record u { edges = edges }) source.number number target
 edge_made s t u source target number from count begins block edges to d src at m f n number_is block_is begins_is e =
-    let made : Edge = record { target = begins; block = block; moves = record { from = from; count = count } } in
-    let step : Grows u (record u { edges = edges }) = grows_edges u (made ∷ []) edges e in
+    let made : OpEdge = record { target = begins; block = block; moves = record { from = from; count = count } } in
+    let step : TablesGrow u (record u { edges = edges }) = grows_edges u (made ∷ []) edges e in
     record {
       edge = made;
       number_is = number_is ∙ ap length m.edges;
@@ -199,7 +199,7 @@ edge_made s t u source target number from count begins block edges to d src at m
 pub lead_more : (s : Scope) (t u : Tables) (b first number target : ℕ) → LeadFrom s b first t → NewEdge s t u b number target → LeadFrom s b first u
 lead_more s t u b first number target lead new = record { at = at }
   where
-    at : (k : ℕ) (e : Edge) → first ≤ k → slice_get u.edges k ≡ Some e → (v : Tables) → Grows u v → Leads s v b k e.block
+    at : (k : ℕ) (e : OpEdge) → first ≤ k → slice_get u.edges k ≡ Some e → (v : Tables) → TablesGrow u v → EdgeLeads s v b k e.block
     at k e le h v g = ⊎_elim now (λ lt. lead.at k e le (earlier_is lt) v (grows_on new.makes.grows g)) (eq-or-lt_of_le below)
       where
         h2 : slice_get (t.edges ++ new.edge ∷ []) k ≡ Some e
@@ -211,12 +211,12 @@ lead_more s t u b first number target lead new = record { at = at }
         earlier_is : k < length t.edges → slice_get t.edges k ≡ Some e
         earlier_is lt = slice_get-get_or t.edges k e lt ∙ sym (slice_get-get_or (t.edges ++ new.edge ∷ []) k e (let l = length-append t.edges (new.edge ∷ []) in omega (arith, lt, l)) ∙ ap Some (get_or-append t.edges (new.edge ∷ []) e k lt)) ∙ h2
 
-        now : k ≡ length t.edges → Leads s v b k e.block
+        now : k ≡ length t.edges → EdgeLeads s v b k e.block
         now q =
             let same : new.edge ≡ e = same_Some new.edge e (sym (subst (λ i. slice_get (t.edges ++ new.edge ∷ []) i ≡ Some new.edge) (sym q) (get_last t.edges new.edge)) ∙ h2) in
-            subst (λ (x : Edge). Leads s v b k x.block) same (subst (λ z. Leads s v b k z) (sym new.block) (subst (λ i. Leads s v b i target) (new.number_is ∙ sym q) (new.makes.lasts v g)))
+            subst (λ (x : OpEdge). EdgeLeads s v b k x.block) same (subst (λ z. EdgeLeads s v b k z) (sym new.block) (subst (λ i. EdgeLeads s v b i target) (new.number_is ∙ sym q) (new.makes.lasts v g)))
 
-pub edge_new : (s : Scope) (t u : Tables) (source : Source) (number target : ℕ) (label : List ℕ) → LeadFrom s source.number source.first t → NewEdge s t u source.number number target →
+pub edge_new : (s : Scope) (t u : Tables) (source : EdgeSource) (number target : ℕ) (label : List ℕ) → LeadFrom s source.number source.first t → NewEdge s t u source.number number target →
     block_number (blocks_of s.program.now s.number) label ≡ Some target → HasEdge s t u source number label
 edge_new s t u source number target label lead new n = record {
   lead = lead_more s t u source.number source.first number target lead new;
@@ -226,19 +226,19 @@ edge_new s t u source number target label lead new n = record {
 
 -- ---- where an end leads
 
-pub block_here : (s : Scope) → Describes s → (b : ℕ) (block : Block) → block_at s.program.now s.number b ≡ Some block → slice_get s.function.now.blocks b ≡ Some block
+pub block_here : (s : Scope) → DescribesScope s → (b : ℕ) (block : Block) → block_at s.program.now s.number b ≡ Some block → slice_get s.function.now.blocks b ≡ Some block
 block_here s d b block h = subst (λ o. slice_get (blocks_in o) b ≡ Some block) d.function h
 
-pub is_at : (s : Scope) → Describes s → (b : ℕ) (block : Block) → block_at s.program.now s.number b ≡ Some block → IsBlockAt s.program.now s.number b s.function.now block
+pub is_at : (s : Scope) → DescribesScope s → (b : ℕ) (block : Block) → block_at s.program.now s.number b ≡ Some block → IsBlockAt s.program.now s.number b s.function.now block
 is_at s d b block h = record { function = d.function; block_is = block_here s d b block h }
 
 -- The label that an end names is that of a block.
-pub label_known : (s : Scope) → Describes s → (source : Source) → IsSource s source → (label : List ℕ) → IsAmong (end_labels source.block.now.«end») label → IsAmong (map (λ b. b.label) (blocks_of s.program.now s.number)) label
+pub label_known : (s : Scope) → DescribesScope s → (source : EdgeSource) → IsSource s source → (label : List ℕ) → IsAmong (end_labels source.block.now.«end») label → IsAmong (map (λ b. b.label) (blocks_of s.program.now s.number)) label
 label_known s d source src label h =
     subst (λ o. IsAmong (map (λ b. b.label) (blocks_in o)) label) (sym d.function)
     (among_all (IsAmong (label_names s.function.now)) (end_labels source.block.now.«end») label (d.sound.names_exist s.number source.number s.function.now source.block.now (is_at s d source.number source.block.now src.here)).last.labels h)
 
-pub is_target : (s : Scope) → Describes s → (source : Source) → IsSource s source → (label : List ℕ) (target : ℕ) → IsAmong (end_labels source.block.now.«end») label → block_number (blocks_of s.program.now s.number) label ≡ Some target → IsTarget s source target
+pub is_target : (s : Scope) → DescribesScope s → (source : EdgeSource) → IsSource s source → (label : List ℕ) (target : ℕ) → IsAmong (end_labels source.block.now.«end») label → block_number (blocks_of s.program.now s.number) label ≡ Some target → IsTarget s source target
 is_target s d source src label target h n = by_block (block_at s.program.now s.number target) refl
   where
     there : option_map (λ (b : Block). b.label) (block_at s.program.now s.number target) ≡ Some label

@@ -3,17 +3,17 @@ ghost use Rattle.hip_names.specs.Names.{IsAmong};
 ghost use Rattle.hip_sound.specs.Registers.{end_labels};
 ghost use Rattle.hip_end_ops.specs.Edged.{Earlier, HasEdge, IsSource, IsTarget, LeadFrom, NewEdge};
 ghost use Rattle.hip_scope.specs.Grown.{grown};
-ghost use Rattle.hip_scope.specs.Scopes.{Describes};
+ghost use Rattle.hip_scope.specs.Scopes.{DescribesScope};
 
 use crate::phis::phi_moves;
-use hip_code::{Edge, Span};
+use hip_code::{OpEdge, Span};
 use hip_scope::{Growing, Scope, number_at, place};
 use hip_tree::Block;
 use hip_types::{Name, NoMemory, Row};
 
 /// A block, its number, and the number of the first edge that leads from it.
 #[derive(Drop)]
-pub struct Source<'a> {
+pub struct EdgeSource<'a> {
     pub block: &'a Block,
     pub number: usize,
     pub first: usize,
@@ -37,10 +37,10 @@ fn earlier(tables: &Growing, made: &Row<u32>, first: usize, target: usize) -> Op
 fn new_edge(
     scope: &Scope<'_, '_>,
     tables: &mut Growing,
-    source: &Source<'_>,
+    source: &EdgeSource<'_>,
     target: usize,
 ) -> Result<u32, NoMemory>
-    requires scope { Describes scope.now }
+    requires scope { DescribesScope scope.now }
     requires source { IsSource scope.now source.now }
     requires target { IsTarget scope.now source.now target }
     ensures { IfOk result (λ number. NewEdge scope.now (grown tables.old)
@@ -66,7 +66,7 @@ fn new_edge(
     let number = place(tables.edges.len())?;
     let block = place(target)?;
     let begins = number_at(scope.places.as_slice(), target);
-    tables.edges.push(Edge {
+    tables.edges.push(OpEdge {
         target: begins,
         block,
         moves: Span { from, count },
@@ -87,10 +87,10 @@ pub fn edge(
     scope: &Scope<'_, '_>,
     tables: &mut Growing,
     made: &mut Row<u32>,
-    source: &Source<'_>,
+    source: &EdgeSource<'_>,
     label: &Name,
 ) -> Result<u32, NoMemory>
-    requires scope { Describes scope.now }
+    requires scope { DescribesScope scope.now }
     requires source { IsSource scope.now source.now }
     requires lead { LeadFrom scope.now source.now.number source.now.first (grown tables.old) }
     requires named { IsAmong (end_labels source.now.block.now.«end») label.now }

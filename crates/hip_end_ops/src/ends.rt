@@ -4,11 +4,11 @@ ghost use Rattle.hip_types.specs.declared.number.Width.{Width};
 ghost use Rattle.hip_end_ops.specs.Edged.{IsSource, LeadFrom};
 ghost use Rattle.hip_scope.specs.Grown.{grown};
 ghost use Rattle.hip_scope.specs.Known.{OperandKnown};
-ghost use Rattle.hip_scope.specs.Scopes.{Describes, names_of};
+ghost use Rattle.hip_scope.specs.Scopes.{DescribesScope, names_of};
 ghost use Rattle.hip_end_ops.specs.Switched.{CasesNamed, EndsHere, HasCases, IsSorted, PutsCases};
 
-use crate::edges::{Source, edge};
-use hip_code::{Case, Control, Exit, Go, Op, Span};
+use crate::edges::{EdgeSource, edge};
+use hip_code::{Control, EdgeCase, Exit, Go, Op, Span};
 use hip_scope::{Growing, Scope, operand, place};
 use hip_tree::{Arg, End, Operand};
 use hip_types::{Name, NoMemory, Row};
@@ -22,7 +22,7 @@ pub struct Labels<'a> {
 
 /// The cases of a switch, and the label that it takes if no case fits.
 #[derive(Clone, Copy)]
-pub struct Targets<'a> {
+pub struct SwitchTargets<'a> {
     cases: &'a [hip_tree::Case],
     other: &'a Name,
 }
@@ -31,10 +31,10 @@ pub fn branch(
     scope: &Scope<'_, '_>,
     tables: &mut Growing,
     made: &mut Row<u32>,
-    source: &Source<'_>,
+    source: &EdgeSource<'_>,
     label: &Name,
 ) -> Result<Op, NoMemory>
-    requires scope { Describes scope.now }
+    requires scope { DescribesScope scope.now }
     requires source { IsSource scope.now source.now }
     requires lead { LeadFrom scope.now source.now.number source.now.first (grown tables.old) }
     requires last { source.now.block.now.«end» ≡ ends.Br label.now }
@@ -48,11 +48,11 @@ pub fn branch_on(
     scope: &Scope<'_, '_>,
     tables: &mut Growing,
     made: &mut Row<u32>,
-    source: &Source<'_>,
+    source: &EdgeSource<'_>,
     test: &Operand,
     labels: &Labels<'_>,
 ) -> Result<Op, NoMemory>
-    requires scope { Describes scope.now }
+    requires scope { DescribesScope scope.now }
     requires source { IsSource scope.now source.now }
     requires lead { LeadFrom scope.now source.now.number source.now.first (grown tables.old) }
     requires test { OperandKnown (names_of scope.now) test.now }
@@ -70,10 +70,10 @@ fn cases_of(
     scope: &Scope<'_, '_>,
     tables: &mut Growing,
     made: &mut Row<u32>,
-    source: &Source<'_>,
+    source: &EdgeSource<'_>,
     cases: &[hip_tree::Case],
-) -> Result<Row<Case>, NoMemory>
-    requires scope { Describes scope.now }
+) -> Result<Row<EdgeCase>, NoMemory>
+    requires scope { DescribesScope scope.now }
     requires source { IsSource scope.now source.now }
     requires lead { LeadFrom scope.now source.now.number source.now.first (grown tables.old) }
     requires named { CasesNamed source.now cases.now }
@@ -84,13 +84,13 @@ fn cases_of(
         let case = &cases[index];
         let edge = edge(scope, tables, made, source, &case.label)?;
         let value = case.value.value;
-        found.push(Case { value, edge })?;
+        found.push(EdgeCase { value, edge })?;
     }
     Ok(found)
 }
 
 // The cases in ascending order of value. Cases with the same value stay in their order.
-fn sorted(cases: Row<Case>) -> Result<Row<Case>, NoMemory>
+fn sorted(cases: Row<EdgeCase>) -> Result<Row<EdgeCase>, NoMemory>
     ensures { IfOk result (λ sorted. IsSorted cases sorted) }
 {
     let mut cases = cases.into_vec();
@@ -101,7 +101,7 @@ fn sorted(cases: Row<Case>) -> Result<Row<Case>, NoMemory>
 }
 
 // Puts the cases of a switch into the table in ascending order of value, so that a run finds a case by binary search.
-fn put_cases(tables: &mut Growing, cases: Row<Case>) -> Result<Span, NoMemory>
+fn put_cases(tables: &mut Growing, cases: Row<EdgeCase>) -> Result<Span, NoMemory>
     ensures { IfOk result (λ span. PutsCases (grown tables.old) (grown tables.new) cases span) }
 {
     let from = place(tables.cases.len())?;
@@ -115,11 +115,11 @@ pub fn switch(
     scope: &Scope<'_, '_>,
     tables: &mut Growing,
     made: &mut Row<u32>,
-    source: &Source<'_>,
+    source: &EdgeSource<'_>,
     value: &Operand,
-    targets: &Targets<'_>,
+    targets: &SwitchTargets<'_>,
 ) -> Result<Op, NoMemory>
-    requires scope { Describes scope.now }
+    requires scope { DescribesScope scope.now }
     requires source { IsSource scope.now source.now }
     requires lead { LeadFrom scope.now source.now.number source.now.first (grown tables.old) }
     requires value { OperandKnown (names_of scope.now) value.now }
@@ -141,10 +141,10 @@ pub fn switch(
 pub fn give_back(
     scope: &Scope<'_, '_>,
     tables: &mut Growing,
-    source: &Source<'_>,
+    source: &EdgeSource<'_>,
     arg: &Arg,
 ) -> Result<Op, NoMemory>
-    requires scope { Describes scope.now }
+    requires scope { DescribesScope scope.now }
     requires value { OperandKnown (names_of scope.now) arg.now.value }
     requires last { source.now.block.now.«end» ≡ ends.Ret (Some arg.now) }
     ensures { IfOk result (λ o. EndsHere scope.now (grown tables.old) (grown tables.new) source.now o) }
@@ -156,10 +156,10 @@ pub fn give_back(
 fn return_op(
     scope: &Scope<'_, '_>,
     tables: &mut Growing,
-    source: &Source<'_>,
+    source: &EdgeSource<'_>,
     value: &Option<Arg>,
 ) -> Result<Op, NoMemory>
-    requires scope { Describes scope.now }
+    requires scope { DescribesScope scope.now }
     requires source { IsSource scope.now source.now }
     requires last { source.now.block.now.«end» ≡ ends.Ret value.now }
     ensures { IfOk result (λ o. EndsHere scope.now (grown tables.old) (grown tables.new) source.now o) }
@@ -178,9 +178,9 @@ pub fn end_op(
     scope: &Scope<'_, '_>,
     tables: &mut Growing,
     made: &mut Row<u32>,
-    source: &Source<'_>,
+    source: &EdgeSource<'_>,
 ) -> Result<Op, NoMemory>
-    requires scope { Describes scope.now }
+    requires scope { DescribesScope scope.now }
     requires source { IsSource scope.now source.now }
     requires lead { LeadFrom scope.now source.now.number source.now.first (grown tables.old) }
     ensures { IfOk result (λ o. EndsHere scope.now (grown tables.old) (grown tables.new) source.now o) }
@@ -201,7 +201,7 @@ pub fn end_op(
             ..
         } => {
             let cases = cases.as_slice();
-            let targets = Targets { cases, other };
+            let targets = SwitchTargets { cases, other };
             let op = switch(scope, tables, made, source, value.get(), &targets)?;
             Ok(op)
         }

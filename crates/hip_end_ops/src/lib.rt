@@ -5,5 +5,5 @@ mod edges;
 mod ends;
 mod phis;
 
-pub use edges::Source;
+pub use edges::EdgeSource;
 pub use ends::end_op;

@@ -1,12 +1,12 @@
 ghost use Rattle.std.specs.Prelude.{map, IfOk, OnOk};
-ghost use Rattle.hip_names.specs.Numbered.{Numbers};
+ghost use Rattle.hip_names.specs.Numbered.{NumbersNames};
 ghost use Rattle.hip_code.specs.Edges.{IsMove};
-ghost use Rattle.hip_end_ops.specs.Edged.{Moves};
+ghost use Rattle.hip_end_ops.specs.Edged.{PutsMoves};
 ghost use Rattle.hip_scope.specs.Known.{PhiKnown, PhisKnown};
 ghost use Rattle.hip_scope.specs.PhiNumbers.{NumbersPhis};
 ghost use Rattle.hip_scope.specs.Grown.{grown};
 ghost use Rattle.hip_scope.specs.Growth.{Makes, OnlyConstants};
-ghost use Rattle.hip_scope.specs.Scopes.{Describes, names_of};
+ghost use Rattle.hip_scope.specs.Scopes.{DescribesScope, names_of};
 
 use hip_code::Move;
 use hip_scope::{EdgeNumbers, Growing, Scope, operand, slot};
@@ -21,9 +21,9 @@ fn phi_move(
     phi: &Phi,
     numbers: &EdgeNumbers<'_>,
 ) -> Result<Move, NoMemory>
-    requires scope { Describes scope.now }
+    requires scope { DescribesScope scope.now }
     requires known { PhiKnown (names_of scope.now) from.now phi.now }
-    requires numbers { Numbers numbers.now.names numbers.now.values (map (λ e. e.label) phi.now.edges) }
+    requires numbers { NumbersNames numbers.now.names numbers.now.values (map (λ e. e.label) phi.now.edges) }
     ensures moves { IfOk result (λ m. Makes (grown tables.old) (grown tables.new)
         (λ t. IsMove scope.now.program.now.globals scope.now.base
         (names_of scope.now) t.constants from.now m phi.now)) }
@@ -51,10 +51,10 @@ pub fn phi_moves(
     phis: &[Phi],
     numbers: &Row<EdgeNumbers<'_>>,
 ) -> Result<(), NoMemory>
-    requires scope { Describes scope.now }
+    requires scope { DescribesScope scope.now }
     requires known { PhisKnown (names_of scope.now) from.now phis.now }
     requires numbers { NumbersPhis numbers.now phis.now }
-    ensures { IfOk result (λ _. Moves scope.now (grown tables.old) (grown tables.new) from.now phis.now) }
+    ensures { IfOk result (λ _. PutsMoves scope.now (grown tables.old) (grown tables.new) from.now phis.now) }
 {
     'moving: for index in 0..phis.len() {
         let phi = &phis[index];

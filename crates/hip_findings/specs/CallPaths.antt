@@ -2,16 +2,16 @@
 use Rattle.std.specs.Prelude.{◌≡◌, ℕ, suc, ◌+◌, Bool, false, cond, nat_eq, List, [], ◌∷◌, length, map, Option, Some, None, slice_get}
 use Rattle.hip_tree.specs.declared.site.Site.{Site}
 use Rattle.hip_runs.specs.State.{Level}
-use Rattle.hip_findings.specs.declared.call_path.Link.{Link}
-use Rattle.hip_findings.specs.declared.call_path.Link.TheVariants.{End, Call}
+use Rattle.hip_findings.specs.declared.call_path.CallLink.{CallLink}
+use Rattle.hip_findings.specs.declared.call_path.CallLink.TheVariants.{End, Call}
 
 -- The calls from a node outward, the innermost one first; none at the end.
-abbrev pub levels_in : Link → List Level
+abbrev pub levels_in : CallLink → List Level
 levels_in End = []
 levels_in (Call site birth count outer) = record { call = site; birth = birth } ∷ outer.value
 
 -- The innermost call of the path has the number of calls of the path.
-abbrev pub HasCount : Link → Type 0
+abbrev pub HasCount : CallLink → Type 0
 HasCount End = Unit {0}
 HasCount (Call site birth count outer) = count ≡ length outer.value + 1
 

@@ -12,11 +12,11 @@ use std::rc::Rc;
 /// and the stores that were made in them, share the nodes of the calls that they have in common.
 #[cycle(call_path)]
 pub struct CallPath {
-    link: Link,
+    link: CallLink,
 }
 
 #[cycle(call_path)]
-enum Link {
+enum CallLink {
     End,
     // A call: its site, how many steps were taken before it, the number of calls from it outward, and the calls outside
     // of it.
@@ -52,9 +52,11 @@ impl Drop for CallPath {
     fn drop(mut self) {
         loop {
             match self {
-                CallPath { link: Link::End } => return,
                 CallPath {
-                    link: Link::Call {
+                    link: CallLink::End,
+                } => return,
+                CallPath {
+                    link: CallLink::Call {
                         site: _,
                         birth: _,
                         count: _,
@@ -74,7 +76,12 @@ impl CallPath {
     pub fn none(alloc: Global) -> Result<Rc<CallPath>, NoMemory>
         ensures { IfOk result (λ path. path.value ≡ []) }
     {
-        match Rc::new(alloc, CallPath { link: Link::End }) {
+        match Rc::new(
+            alloc,
+            CallPath {
+                link: CallLink::End,
+            },
+        ) {
             Ok(path) => Ok(path),
             Err(_) => Err(NoMemory),
         }
@@ -91,7 +98,7 @@ impl CallPath {
         requires { count ≡ length outer.value + 1 }
         ensures { IfOk result (λ path. path.value ≡ record { call = site; birth = birth } ∷ outer.value) }
     {
-        let link = Link::Call {
+        let link = CallLink::Call {
             site,
             birth,
             count,
@@ -118,8 +125,8 @@ impl CallPath {
         ensures { IfOk result (λ rest. rest.value ≡ drop 1 path.now.value) }
     {
         match &path.link {
-            Link::End => CallPath::shared(path),
-            Link::Call { outer, .. } => CallPath::shared(outer),
+            CallLink::End => CallPath::shared(path),
+            CallLink::Call { outer, .. } => CallPath::shared(outer),
         }
     }
 
@@ -128,8 +135,8 @@ impl CallPath {
         ensures { result ≡ length self.now }
     {
         match &self.link {
-            Link::End => 0,
-            Link::Call { count, .. } => *count,
+            CallLink::End => 0,
+            CallLink::Call { count, .. } => *count,
         }
     }
 
@@ -145,7 +152,7 @@ impl CallPath {
         }
         let mut closed = 0;
         let mut rest = self;
-        'calls: while let Link::Call {
+        'calls: while let CallLink::Call {
             site: _,
             birth,
             count,
@@ -206,8 +213,8 @@ impl<'a> Iterator for CallSites<'a> {
     fn next(&mut self) -> Option<Site> {
         let calls: &'a CallPath = self.calls;
         match &calls.link {
-            Link::End => None,
-            Link::Call { site, outer, .. } => {
+            CallLink::End => None,
+            CallLink::Call { site, outer, .. } => {
                 self.calls = outer;
                 Some(*site)
             }

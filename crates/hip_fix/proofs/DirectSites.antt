@@ -24,8 +24,8 @@ use Rattle.hip_names.specs.Names.{is_among}
 use Rattle.hip_names.specs.Laws.MetLaws.{met-alike}
 use Rattle.hip_runs.specs.Places.{blocks_in, blocks_of}
 use Rattle.hip_repairs.specs.Direct.{allocates, allocates_in, is_volatile_global, names_volatile, stores_outside, direct}
-use Rattle.hip_sites.specs.Laws.PassingLaws.{listed, walk_filtered}
-use Rattle.hip_sites.specs.Passing.{passing_in_blocks, passing_in_functions}
+use Rattle.hip_sites.specs.Laws.SiteWalkLaws.{listed, walk_filtered}
+use Rattle.hip_sites.specs.SiteWalk.{passing_in_blocks, passing_in_functions}
 use Rattle.hip_fix.specs.DirectWalk.{volatile_names, allocated, body_allocas, alloca_names, names_one_of, stores_by, direct_in_functions}
 
 -- ---- the names

@@ -16,7 +16,7 @@ use Rattle.hip_runs.specs.Laws.Members.{both_true}
 use Rattle.hip_runs.specs.StoredParts.Parts.{In}
 use Rattle.hip_runs.specs.Places.{blocks_in, body_at, body_of}
 use Rattle.hip_runs.specs.Sites.{is_defined_call, is_flush_call, is_store}
-use Rattle.hip_sound.specs.Numbering.{function_number}
+use Rattle.hip_sound.specs.NumberedNames.{function_number}
 use Rattle.hip_repairs.specs.declared.plan.Plan.{Plan}
 use Rattle.hip_repairs.specs.Laws.SiteOrder.{has_in, in_has, strict_order}
 use Rattle.hip_repairs.specs.Suits.{IsSuiting, site_before, is_ascending}

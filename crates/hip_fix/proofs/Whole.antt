@@ -17,7 +17,7 @@ use Rattle.hip_calls.specs.Fresh.{fresh_names, name_of}
 use Rattle.hip_calls.specs.Laws.FreshLaws.{length-fresh_for}
 use Rattle.hip_repairs.specs.declared.plan.Plan.{Plan}
 use Rattle.hip_repairs.specs.Repaired.{Marked, Clone, Wanted, is_call_of, inserts, inserts_in, inserts_from, inserts_cloned, needs, repaired_by, repaired_body, repaired_functions, clone_functions, clones_of, clones_from, cloned, repaired, wanted_by, clwb_name, sfence_name, pmem_flush_name, declared_if}
-use Rattle.hip_insertions.specs.Walk.{marked_blocks, marked_functions, marked_clone, marked_clones}
+use Rattle.hip_fix.specs.Walk.{marked_blocks, marked_functions, marked_clone, marked_clones}
 use Rattle.hip_fix.specs.Walked.{walked}
 
 module _ (name : List ℕ) (clones : List Clone) (w : Wanted) where

@@ -17,7 +17,7 @@ use Rattle.hip_tree.specs.declared.program.Function.{Function}
 use Rattle.hip_tree.specs.declared.program.GlobalVar.{GlobalVar}
 use Rattle.hip_tree.specs.declared.site.Site.{Site}
 use Rattle.hip_names.specs.Names.{is_among}
-use Rattle.hip_sites.specs.Passing.{passing_in_blocks}
+use Rattle.hip_sites.specs.SiteWalk.{passing_in_blocks}
 
 -- The names of the volatile globals, in their order.
 abbrev pub volatile_names : List GlobalVar → List (List ℕ)

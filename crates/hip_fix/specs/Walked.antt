@@ -2,7 +2,7 @@
 use Rattle.std.specs.Prelude.{ℕ, List, ◌++◌}
 use Rattle.hip_tree.specs.declared.program.Program.{Program}
 use Rattle.hip_repairs.specs.Repaired.{Clone, Wanted, repaired_functions, clone_functions}
-use Rattle.hip_insertions.specs.Walk.{none_needed, noted, added, marked_functions, marked_clones}
+use Rattle.hip_fix.specs.Walk.{none_needed, noted, added, marked_functions, marked_clones}
 
 -- The program with clones of the functions of these numbers after all functions, under these names.
 abbrev pub walked : Program → List Clone → Wanted → List ℕ → List (List ℕ) → Program

@@ -2,11 +2,13 @@ ghost use Rattle.std.specs.Prelude.{◌≡◌, length, IfOk};
 ghost use Rattle.hip_calls.specs.Fresh.{fresh_names};
 ghost use Rattle.hip_tree.specs.Sites.{has_site};
 ghost use Rattle.hip_repairs.specs.Repaired.{cloned, clones_from, repaired, wanted_by};
-ghost use Rattle.hip_insertions.specs.Walk.{wanted_in};
+ghost use Rattle.hip_fix.specs.Walk.{wanted_in};
 ghost use Rattle.hip_fix.specs.Walked.{walked};
 
-use hip_copies::Structural;
-use hip_insertions::{CloneTable, Made, Repair, declarations};
+use crate::clone_table::CloneTable;
+use crate::externs::declarations;
+use crate::repair::{RepairSites, RepairedFunctions};
+use hip_ir::Structural;
 use hip_repairs::Plan;
 use hip_sites::SiteSet;
 use hip_tree::{Program, Site};
@@ -21,11 +23,11 @@ fn repair_of<'a>(
     skip: &[Site],
     originals: &'a [usize],
     names: &'a [Name],
-) -> Result<Repair<'a>, NoMemory>
+) -> Result<RepairSites<'a>, NoMemory>
     ensures wanted { IfOk result (λ r. wanted_in r ≡ wanted_by plan.now (has_site skip.now)) }
     ensures clones { IfOk result (λ r. r.clones ≡ clones_from program.now originals.now names.now) }
 {
-    Ok(Repair {
+    Ok(RepairSites {
         flush_after: SiteSet::of(alloc, plan.flush_after.as_slice())?,
         fence_after: SiteSet::of(alloc, plan.fence_after.as_slice())?,
         hoist: SiteSet::of(alloc, plan.hoist.as_slice())?,
@@ -37,7 +39,7 @@ fn repair_of<'a>(
 /// The program that one walk makes. The clones of the functions of these numbers follow all functions.
 fn walk(
     alloc: Global,
-    repair: &Repair<'_>,
+    repair: &RepairSites<'_>,
     program: &Program,
     originals: &[usize],
     names: &[Name],
@@ -46,7 +48,7 @@ fn walk(
     ensures { IfOk result (λ p. p
         ≡ walked program.now repair.now.clones (wanted_in repair.now) originals.now names.now) }
 {
-    let mut made = Made::none(alloc);
+    let mut made = RepairedFunctions::none(alloc);
     repair.add_functions(alloc, &mut made, program.functions.as_slice())?;
     repair.add_clones(alloc, &mut made, program, originals, names)?;
     Ok(Program {

@@ -16,8 +16,8 @@ use Rattle.hip_tree.specs.declared.program.Extern.{Extern}
 use Rattle.hip_tree.specs.declared.program.Function.{Function}
 use Rattle.hip_tree.specs.declared.program.GlobalVar.{GlobalVar}
 use Rattle.hip_tree.specs.declared.program.Program.{Program}
-use Rattle.hip_gen.specs.declared.kinds.Kind.{Kind}
-use Rattle.hip_gen.specs.declared.kinds.Kind.TheVariants as kinds
+use Rattle.hip_gen.specs.declared.kinds.GroupKind.{GroupKind}
+use Rattle.hip_gen.specs.declared.kinds.GroupKind.TheVariants as kinds
 use Rattle.hip_gen.specs.declared.limits.TheConstants.{VOLATILE_LENGTH}
 use Rattle.hip_gen.specs.Kinds.{kind}
 
@@ -76,7 +76,7 @@ put element value =
     ∷ [])
 
 -- The instructions of a group, by its kind.
-abbrev pub group_instrs : ℕ → ℕ → Kind → List Instr
+abbrev pub group_instrs : ℕ → ℕ → GroupKind → List Instr
 group_instrs size group kinds.Store = store (persistent_element size group) (group + 1) ∷ []
 group_instrs size group kinds.FlushedStore =
     store (persistent_element size group) (group + 1) ∷ flush (persistent_element size group) ∷ []

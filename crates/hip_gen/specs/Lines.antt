@@ -3,8 +3,8 @@
 -- instructions stores that number plus 1.
 use Rattle.std.specs.Prelude.{ℕ, zero, suc, ◌+◌, ◌%◌, List, [], ◌++◌, codes}
 use Rattle.std.specs.Fmt.{decimal}
-use Rattle.hip_gen.specs.declared.kinds.Kind.{Kind}
-use Rattle.hip_gen.specs.declared.kinds.Kind.TheVariants.{Store, FlushedStore, PersistentCall, VolatileCall}
+use Rattle.hip_gen.specs.declared.kinds.GroupKind.{GroupKind}
+use Rattle.hip_gen.specs.declared.kinds.GroupKind.TheVariants.{Store, FlushedStore, PersistentCall, VolatileCall}
 use Rattle.hip_gen.specs.declared.limits.TheConstants.{VOLATILE_LENGTH}
 use Rattle.hip_gen.specs.Kinds.{kind}
 
@@ -36,7 +36,7 @@ put_line element value =
     codes "  call void @put(ptr " ++ (element ++ (codes ", i64 " ++ (decimal value ++ codes ")\n")))
 
 -- The lines of a group, by its kind.
-abbrev pub group_lines : ℕ → ℕ → Kind → List ℕ
+abbrev pub group_lines : ℕ → ℕ → GroupKind → List ℕ
 group_lines size group Store = store_line (persistent_element size group) (group + 1)
 group_lines size group FlushedStore =
     store_line (persistent_element size group) (group + 1) ++ flush_line (persistent_element size group)

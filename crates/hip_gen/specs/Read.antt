@@ -1,6 +1,6 @@
--- How the reader and the checker take a generated text.
+-- How the reader and the verifier take a generated text.
 use Rattle.std.specs.Prelude.{ℕ, ◌≡◌}
-use Rattle.hip_grammar.specs.Reading.{Reads}
+use Rattle.hip_grammar.specs.ReadTexts.{Reads}
 use Rattle.hip_grammar.specs.Show.{show}
 use Rattle.hip_sound.specs.Sound.{IsSound}
 use Rattle.hip_gen.specs.Generated.{generated_program}

@@ -8,7 +8,7 @@ use crate::limits::SEED_END;
 
 /// What a group of instructions does.
 #[derive(Clone, Copy, PartialEq, Eq)]
-pub enum Kind {
+pub enum GroupKind {
     /// It stores into the persistent array.
     Store,
     /// It stores into the persistent array and flushes what it stored.
@@ -28,13 +28,13 @@ pub fn next_draw(draw: u64) -> u64
 }
 
 /// The kind of the group that a number was drawn for.
-pub fn kind_by(draw: u64) -> Kind
+pub fn kind_by(draw: u64) -> GroupKind
     ensures { result ≡ kind_by draw }
 {
     match draw / 65_536 % 4 {
-        0 => Kind::Store,
-        1 => Kind::FlushedStore,
-        2 => Kind::PersistentCall,
-        _ => Kind::VolatileCall,
+        0 => GroupKind::Store,
+        1 => GroupKind::FlushedStore,
+        2 => GroupKind::PersistentCall,
+        _ => GroupKind::VolatileCall,
     }
 }

@@ -6,7 +6,7 @@ ghost use Rattle.hip_gen.specs.Appends.{Appends, AppendsBoth};
 ghost use Rattle.hip_gen.specs.Lines.{element_text, persistent_element, store_line, flush_line, put_line, group_lines};
 ghost use Rattle.hip_gen.specs.declared.limits.TheConstants.{LARGEST_SIZE};
 
-use crate::kinds::Kind;
+use crate::kinds::GroupKind;
 use crate::limits::{LARGEST_SIZE, VOLATILE_LENGTH};
 use hip_num::natural_into;
 use hip_types::{NoMemory, Row};
@@ -79,19 +79,24 @@ fn push_call(
 }
 
 /// Puts the lines of a group at the end of the text.
-pub fn push_group(text: &mut Row<u8>, size: u64, group: u64, kind: Kind) -> Result<(), NoMemory>
+pub fn push_group(
+    text: &mut Row<u8>,
+    size: u64,
+    group: u64,
+    kind: GroupKind,
+) -> Result<(), NoMemory>
     requires { group < LARGEST_SIZE }
     ensures { OnOk result (Appends text.old text.new (group_lines size group kind)) }
 {
     match kind {
-        Kind::Store => push_store(text, size, group),
-        Kind::FlushedStore => {
+        GroupKind::Store => push_store(text, size, group),
+        GroupKind::FlushedStore => {
             push_store(text, size, group)?;
             push_flush(text, size, group)?;
             Ok(())
         }
-        Kind::PersistentCall => push_call(text, b"data", size, group, group + 1),
-        Kind::VolatileCall => {
+        GroupKind::PersistentCall => push_call(text, b"data", size, group, group + 1),
+        GroupKind::VolatileCall => {
             let index = group % VOLATILE_LENGTH;
             push_call(text, b"temp", VOLATILE_LENGTH, index, group + 1)
         }

@@ -7,13 +7,13 @@ use Rattle.hip_tree.specs.declared.program.GlobalVar.{GlobalVar}
 use Rattle.hip_globals.specs.Addresses.{end_of, global_start}
 use Rattle.hip_globals.specs.AddressesSeen.{laid_entries, address_entry}
 use Rattle.hip_names.specs.Tables.{Gains}
-use Rattle.hip_names.specs.Tables.{Entry, StandsFor}
+use Rattle.hip_names.specs.Tables.{Entry, TableStandsFor}
 use Rattle.hip_globals.proofs.AddressLemmas.{end_of-ge, end_of-next}
 
 -- The table has the first globals, and the others are laid from these ends on.
 pub record IsLaid (ns : List (List ℕ)) (vs : List ℕ) (base start persistent volatile : ℕ) (globals : List GlobalVar) (index : ℕ) : Type 0 where
   pub before : List (Entry ℕ)
-  pub stands : StandsFor ns vs before
+  pub stands : TableStandsFor ns vs before
   pub all : before ++ laid_entries persistent volatile (drop index globals) ≡ laid_entries base start globals
   pub persistent_end : end_of true persistent (drop index globals) ≡ end_of true base globals
   pub volatile_end : end_of false volatile (drop index globals) ≡ end_of false start globals
@@ -70,11 +70,11 @@ module _ {ns : List (List ℕ)} {vs : List ℕ} (base start p v : ℕ) (gs : Lis
       let bottom : end_of false v (drop i gs) ≡ end_of false next (drop (i + 1) gs) = rw kind at (end_of-next false v gs i g within here) in
       omega (arith, is.volatile_end, end_of-ge false next (drop (i + 1) gs))
 
-pub laid_none : {ns : List (List ℕ)} {vs : List ℕ} (base start : ℕ) (gs : List GlobalVar) → StandsFor ns vs [] → IsLaid ns vs base start base start gs 0
+pub laid_none : {ns : List (List ℕ)} {vs : List ℕ} (base start : ℕ) (gs : List GlobalVar) → TableStandsFor ns vs [] → IsLaid ns vs base start base start gs 0
 laid_none base start gs stands = record { before = []; stands = stands; all = refl; persistent_end = refl; volatile_end = refl }
 
-pub laid_all : {ns : List (List ℕ)} {vs : List ℕ} (base start p v : ℕ) (gs : List GlobalVar) (i : ℕ) → IsLaid ns vs base start p v gs i → length gs ≤ i → StandsFor ns vs (laid_entries base start gs)
+pub laid_all : {ns : List (List ℕ)} {vs : List ℕ} (base start p v : ℕ) (gs : List GlobalVar) (i : ℕ) → IsLaid ns vs base start p v gs i → length gs ≤ i → TableStandsFor ns vs (laid_entries base start gs)
 laid_all {ns} {vs} base start p v gs i is past =
     let none : drop i gs ≡ [] = drop_of_length-le gs past in
     let whole : is.before ≡ laid_entries base start gs = sym (append-nil is.before) ∙ rw none at is.all in
-    subst (λ (es : List (Entry ℕ)). StandsFor ns vs es) whole is.stands
+    subst (λ (es : List (Entry ℕ)). TableStandsFor ns vs es) whole is.stands

@@ -9,7 +9,7 @@ use Rattle.hip_types.specs.Layout.{Fits}
 use Rattle.hip_types.specs.declared.ty.Ty.{Ty}
 use Rattle.hip_globals.specs.Constants.{joined}
 use Rattle.hip_globals.specs.InitialSeen.{AllFit}
-use Rattle.hip_globals.specs.Values.{Piece, aligned, sized, placed}
+use Rattle.hip_globals.specs.Values.{ItemBytes, aligned, sized, placed}
 use Rattle.hip_globals.proofs.Lists.{joined-push, take_one}
 
 -- A number's lowest byte, and the bytes of the rest.
@@ -62,7 +62,7 @@ item_fits types (x ∷ xs) (suc i) d all low = item_fits types xs i d (right_fit
 
 -- ---- pieces one after another
 
-pub placed-push : (so_far : List ℕ) (ps : List Piece) (p : Piece) → placed so_far (ps ++ p ∷ []) ≡ aligned 0 p.align (placed so_far ps) ++ p.bytes
+pub placed-push : (so_far : List ℕ) (ps : List ItemBytes) (p : ItemBytes) → placed so_far (ps ++ p ∷ []) ≡ aligned 0 p.align (placed so_far ps) ++ p.bytes
 placed-push so_far [] p = refl
 placed-push so_far (q ∷ qs) p = placed-push (aligned 0 q.align so_far ++ q.bytes) qs p
 
@@ -87,7 +87,7 @@ aligned_more old more bytes new start address align wanted is e same h =
     ∙ ap (λ (bs : List ℕ). bs ++ aligned address align (drop start (old ++ more))) (take_seam old more start e)
     ∙ ap (λ (bs : List ℕ). old ++ aligned address align bs) (drop_seam old more start e) ∙ ap (λ (n : ℕ). old ++ aligned address n more) same
 
-module _ {A : Type 0} (piece : A → Piece) (old : List ℕ) (items : List A) (i : ℕ) (x : A) where
+module _ {A : Type 0} (piece : A → ItemBytes) (old : List ℕ) (items : List A) (i : ℕ) (x : A) where
   pieces_more : i < length items → x ≡ get_or items i x → map piece (take (i + 1) items) ≡ map piece (take i items) ++ piece x ∷ []
   pieces_more within is = ap (map piece) (take_one items i x within is) ∙ map-append piece (take i items) (x ∷ [])
 

@@ -7,7 +7,7 @@ use Rattle.hip_tree.specs.declared.constant.TypedConst.{TypedConst}
 use Rattle.hip_tree.specs.declared.constant.Const.TheFolds.{fold_out-ConstGep, fold_out-TypedConst}
 use Rattle.hip_globals.specs.Constants.{types_step, gep_types_step, item_types_step, types_in, gep_types, item_types}
 use Rattle.hip_globals.specs.InitialSeen.{AllFit, item_piece}
-use Rattle.hip_globals.specs.Values.{Written, Piece, written_step, gep_step, item_step, written, sized}
+use Rattle.hip_globals.specs.Values.{Written, ItemBytes, written_step, gep_step, item_step, written, sized}
 use Rattle.hip_globals.proofs.ByteLists.{first_fits, others_fit}
 
 gep_types-is : (gep : ConstGep) → gep_types gep ≡ gep.ty ∷ types_in gep.base
@@ -29,7 +29,7 @@ pub item_value_fits : (item : TypedConst) → AllFit (item_types item) → AllFi
 item_value_fits item all = others_fit item.ty (types_in item.value) (rw (item_types-is item) at all)
 
 item_piece-is : (a : List ℕ → ℕ) (item : TypedConst) → item_piece a item ≡ record { align = align_of item.ty; bytes = sized (size_of item.ty) (written a item.value).bytes }
-item_piece-is a item = fold_out-TypedConst Written ℕ Piece (written_step a) gep_step item_step item
+item_piece-is a item = fold_out-TypedConst Written ℕ ItemBytes (written_step a) gep_step item_step item
 
 pub item_bytes : (a : List ℕ → ℕ) (item : TypedConst) → (item_piece a item).bytes ≡ sized (size_of item.ty) (written a item.value).bytes
 item_bytes a item = ap (λ p. p.bytes) (item_piece-is a item)

@@ -19,7 +19,7 @@ use Rattle.hip_globals.specs.InitialSeen.{AllFit, GlobalsFit}
 use Rattle.hip_names.specs.Names.{number_of}
 use Rattle.hip_names.specs.Laws.NumberLaws.{number_of-cons}
 use Rattle.hip_globals.specs.Addresses.{TypesFitIn}
-use Rattle.hip_names.specs.Tables.{StandsFor, value_of}
+use Rattle.hip_names.specs.Tables.{TableStandsFor, value_of}
 use Rattle.hip_globals.specs.Values.{global_address, aligned, sized, written, constant_bytes}
 use Rattle.hip_names.specs.declared.table.NameTable.{NameTable}
 use Rattle.hip_names.specs.Laws.NameLaws.{bytes_eq-sym}
@@ -107,7 +107,7 @@ laid_at p v (g ∷ gs) name = by_kind g.persistent refl (λ p' v'. laid_at p' v'
         ∙ first_or_later (bytes_eq name g.name) (place p v (g ∷ gs)) (place p next gs) (global_start v g) (number_of (global_names gs) name) first (λ k. volatile_next p v g gs k kind)
 
 -- The table has the program's addresses.
-pub addresses_alike : (globals : List GlobalVar) (base : ℕ) (table : NameTable ℕ) → StandsFor table.names table.values (laid_entries base volatile_start globals) → address_beside table ≡ global_address globals base
+pub addresses_alike : (globals : List GlobalVar) (base : ℕ) (table : NameTable ℕ) → TableStandsFor table.names table.values (laid_entries base volatile_start globals) → address_beside table ≡ global_address globals base
 addresses_alike globals base table stands = fun_ext (λ name. ap (λ o. unwrap_or o 0) (stands.finds name ∙ laid_at base volatile_start globals name))
 
 -- ---- how many bytes they are
@@ -147,7 +147,7 @@ length-region P base =
     sym zero_more ∙ length-aligned 0 64 laid ∙ ap (λ n. next_multiple_of n 64) end
 
 -- The bytes by the addresses of the table are the bytes by the addresses of the program.
-pub laid_alike : (P : Program) (base : ℕ) (table : NameTable ℕ) (gs : List GlobalVar) (persistent : Bool) (start : ℕ) → StandsFor table.names table.values (laid_entries base volatile_start gs) → gs ≡ P.globals →
+pub laid_alike : (P : Program) (base : ℕ) (table : NameTable ℕ) (gs : List GlobalVar) (persistent : Bool) (start : ℕ) → TableStandsFor table.names table.values (laid_entries base volatile_start gs) → gs ≡ P.globals →
     laid_bytes (address_beside table) persistent start [] gs ≡ laid_bytes (global_address P.globals base) persistent start [] P.globals
 laid_alike P base table gs persistent start stands e =
     ap (λ a. laid_bytes a persistent start [] gs) (addresses_alike gs base table stands) ∙ ap (λ globals. laid_bytes (global_address globals base) persistent start [] globals) e

@@ -6,11 +6,11 @@ use Rattle.hip_tree.specs.declared.constant.TypedConst.{TypedConst}
 use Rattle.hip_tree.specs.declared.constant.Const.TheFolds.{fold-TypedConst}
 use Rattle.hip_tree.specs.declared.program.GlobalVar.{GlobalVar}
 use Rattle.hip_globals.specs.Constants.{types_in}
-use Rattle.hip_globals.specs.Values.{Written, Piece, written_step, gep_step, item_step}
+use Rattle.hip_globals.specs.Values.{Written, ItemBytes, written_step, gep_step, item_step}
 
 -- An item's bytes, with its alignment.
-abbrev pub item_piece : (List ℕ → ℕ) → TypedConst → Piece
-item_piece address_of = fold-TypedConst Written ℕ Piece (written_step address_of) gep_step item_step
+abbrev pub item_piece : (List ℕ → ℕ) → TypedConst → ItemBytes
+item_piece address_of = fold-TypedConst Written ℕ ItemBytes (written_step address_of) gep_step item_step
 
 -- Each of these types fits.
 pub record AllFit (types : List Ty) : Type 0 where

@@ -45,12 +45,12 @@ abbrev pub sized : ℕ → List ℕ → List ℕ
 sized size bytes = take size bytes ++ replicate (size - length bytes) 0
 
 -- The bytes of an item, with the alignment of its type.
-pub record Piece : Type 0 where
+pub record ItemBytes : Type 0 where
   pub align : ℕ
   pub bytes : List ℕ
 
 -- The pieces after the bytes so far, each at a multiple of its alignment.
-abbrev pub placed : List ℕ → List Piece → List ℕ
+abbrev pub placed : List ℕ → List ItemBytes → List ℕ
 placed so_far [] = so_far
 placed so_far (p ∷ ps) = placed (aligned 0 p.align so_far ++ p.bytes) ps
 
@@ -64,30 +64,30 @@ pub record Written : Type 0 where
 -- The bytes of a constant. An array's items follow one another, and each field of a struct is at a multiple of its
 -- alignment. Any other constant has the bytes of its value, the lowest first. (LLVM, "Constants"; the order of bytes of
 -- x86-64.)
-abbrev bytes_step : ℕ → Const-F Written ℕ Piece → List ℕ
+abbrev bytes_step : ℕ → Const-F Written ℕ ItemBytes → List ℕ
 bytes_step value (Const-F.Array items) = joined (map (λ p. p.bytes) items)
 bytes_step value (Const-F.Struct items) = placed [] items
 bytes_step value _ = bytes_of 8 value
 
 -- The value and the bytes of a constant, by those of the constants inside, where names have these addresses.
-abbrev pub written_step : (List ℕ → ℕ) → Const-F Written ℕ Piece → Written
+abbrev pub written_step : (List ℕ → ℕ) → Const-F Written ℕ ItemBytes → Written
 written_step address_of c = record { value = value_step address_of c; bytes = bytes_step (value_step address_of c) c }
 
 -- The element that the indices lead to from the base, each index sign-extended to 64 bits.
-abbrev pub gep_step : ConstGep-F Written ℕ Piece → ℕ
+abbrev pub gep_step : ConstGep-F Written ℕ ItemBytes → ℕ
 gep_step gep = element_address gep.base.value gep.ty (map index_of gep.indices)
 
 -- An item has as many bytes as its type's size.
-abbrev pub item_step : TypedConst-F Written ℕ Piece → Piece
+abbrev pub item_step : TypedConst-F Written ℕ ItemBytes → ItemBytes
 item_step item = record { align = align_of item.ty; bytes = sized (size_of item.ty) item.value.bytes }
 
 -- The value and the bytes of a constant, where names have these addresses.
 abbrev pub written : (List ℕ → ℕ) → Const → Written
-written address_of = fold-Const Written ℕ Piece (written_step address_of) gep_step item_step
+written address_of = fold-Const Written ℕ ItemBytes (written_step address_of) gep_step item_step
 
 -- The address that a constant `getelementptr` gives, where names have these addresses.
 abbrev pub gep_address : (List ℕ → ℕ) → ConstGep → ℕ
-gep_address address_of = fold-ConstGep Written ℕ Piece (written_step address_of) gep_step item_step
+gep_address address_of = fold-ConstGep Written ℕ ItemBytes (written_step address_of) gep_step item_step
 
 -- The value of a constant under an integer type or `ptr`, where the region begins at a base.
 abbrev pub const_value : List GlobalVar → ℕ → Const → ℕ

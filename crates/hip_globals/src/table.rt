@@ -5,7 +5,7 @@ ghost use Rattle.hip_types.specs.Areas.{volatile_start};
 ghost use Rattle.hip_globals.specs.Addresses.{OwnTypesFit, global_start};
 ghost use Rattle.hip_globals.specs.AddressesSeen.{address_entry, address_beside, laid_entries};
 ghost use Rattle.hip_names.specs.Tables.{Gains};
-ghost use Rattle.hip_names.specs.Tables.{StandsFor};
+ghost use Rattle.hip_names.specs.Tables.{TableStandsFor};
 
 use crate::addresses::alignment;
 use hip_names::NameTable;
@@ -52,7 +52,7 @@ pub fn address_table(
     requires fit { OwnTypesFit globals.now }
     requires persistent { spec.end_of true base globals.now < 2 ^ 64 }
     requires volatile { spec.end_of false volatile_start globals.now < 2 ^ 64 }
-    ensures { IfOk result (λ table. StandsFor table.names table.values
+    ensures { IfOk result (λ table. TableStandsFor table.names table.values
         (laid_entries base volatile_start globals.now)) }
 {
     let mut table = NameTable::new(alloc);

@@ -8,15 +8,15 @@ use Rattle.hip_types.specs.declared.number.Width.{Width}
 use Rattle.hip_types.specs.declared.number.Width.TheVariants.{W1}
 use Rattle.hip_tokens.specs.Bytes.{byte}
 use Rattle.hip_tokens.specs.Tokens.{Tok}
-use Rattle.hip_rules.specs.Reader.{folded}
-use Rattle.hip_rules.specs.Part.{Part, gives, token, ◌>>=◌, either, repeated, optional, passing, one_more_by, separated, listed, phased}
+use Rattle.hip_grammar.specs.Reader.{folded}
+use Rattle.hip_grammar.specs.Production.{Production, gives, token, ◌>>=◌, either, repeated, optional, passing, one_more_by, separated, listed, phased}
 use Rattle.hip_tree.specs.declared.block.Block.{Block}
 use Rattle.hip_tree.specs.declared.block.Case.{Case}
 use Rattle.hip_tree.specs.declared.block.Edge.{Edge}
 use Rattle.hip_tree.specs.declared.block.End.{End}
 use Rattle.hip_tree.specs.declared.block.End.TheVariants as ends
 use Rattle.hip_tree.specs.declared.block.Phi.{Phi}
-use Rattle.hip_grammar.specs.declared.fault.Fault.{Fault}
+use Rattle.hip_grammar.specs.declared.fault.TextFault.{TextFault}
 use Rattle.hip_tree.specs.declared.instr.Flag.{Flag}
 use Rattle.hip_tree.specs.declared.instr.Flag.TheVariants.{Nuw, Nsw, Exact}
 use Rattle.hip_tree.specs.declared.instr.Flags.{Flags}
@@ -28,31 +28,31 @@ use Rattle.hip_grammar.specs.Numbers.{a_literal, an_alignment}
 use Rattle.hip_grammar.specs.Grammar.{word, mark, maybe_word, int, scalar, type, is_width, is_scalar, operand, arg, index}
 
 -- ret = "void" | scalar
-abbrev pub ret : Part Fault (Option Scalar)
+abbrev pub ret : Production TextFault (Option Scalar)
 ret = token (a_word_of ret_word)
 
 -- align = "," "align" NUM
-unfoldable pub align : Part Fault ℕ
+unfoldable pub align : Production TextFault ℕ
 align = do
   _ ← mark (byte ",")
   _ ← word (codes "align")
   token an_alignment
 
 -- [ align ]
-abbrev pub maybe_align : Part Fault (Option ℕ)
+abbrev pub maybe_align : Production TextFault (Option ℕ)
 maybe_align = optional comma align
 
 -- ---- phis
 
 -- LOCAL "=".
-unfoldable pub assigned : Part Fault (List ℕ)
+unfoldable pub assigned : Production TextFault (List ℕ)
 assigned = do
   name ← token a_local
   _ ← mark (byte "=")
   gives name
 
 -- "," LOCAL "]"
-unfoldable pub edge_label : Part Fault (List ℕ)
+unfoldable pub edge_label : Production TextFault (List ℕ)
 edge_label = do
   _ ← mark (byte ",")
   label ← token a_local
@@ -60,7 +60,7 @@ edge_label = do
   gives label
 
 -- edge = "[" operand "," LOCAL "]"
-unfoldable pub edge : Scalar → Part Fault Edge
+unfoldable pub edge : Scalar → Production TextFault Edge
 edge s = do
   _ ← mark (byte "[")
   value ← operand s
@@ -68,7 +68,7 @@ edge s = do
   gives (record { value = value; label = label })
 
 -- phi = LOCAL "=" "phi" scalar edge { "," edge }, after its LOCAL "="
-unfoldable pub phi : List ℕ → Part Fault Phi
+unfoldable pub phi : List ℕ → Production TextFault Phi
 phi dest = do
   _ ← word (codes "phi")
   s ← scalar
@@ -88,13 +88,13 @@ with_flag f Nsw = record f { nsw = true }
 with_flag f Exact = record f { exact = true }
 
 -- { flag }, where each is a flag of the operation. Only the set counts, not the order or how often a flag occurs.
-unfoldable pub flags : BinaryOp → Part Fault Flags
+unfoldable pub flags : BinaryOp → Production TextFault Flags
 flags op = do
   found ← repeated (is_word_of (flag_word op)) (token (a_word_of (flag_word op)))
   gives (folded with_flag no_flags found)
 
 -- binop { flag } int operand "," operand
-unfoldable pub binary : List ℕ → Part Fault Instr
+unfoldable pub binary : List ℕ → Production TextFault Instr
 binary dest = do
   op ← token (a_word_of binary_word)
   set ← flags op
@@ -104,7 +104,7 @@ binary dest = do
   gives (instrs.Binary dest op set w a b)
 
 -- "icmp" pred scalar operand "," operand
-unfoldable pub compare : List ℕ → Part Fault Instr
+unfoldable pub compare : List ℕ → Production TextFault Instr
 compare dest = do
   _ ← word (codes "icmp")
   pred ← token (a_word_of pred_word)
@@ -114,14 +114,14 @@ compare dest = do
   gives (instrs.Compare dest pred s a b)
 
 -- "," scalar operand, with this type
-unfoldable pub next_of_type : Scalar → Part Fault Operand
+unfoldable pub next_of_type : Scalar → Production TextFault Operand
 next_of_type s = do
   _ ← mark (byte ",")
   _ ← passing (is_scalar s)
   operand s
 
 -- "," arg "," arg, with the first type again as the second
-unfoldable pub alternatives : Part Fault (Scalar × Operand × Operand)
+unfoldable pub alternatives : Production TextFault (Scalar × Operand × Operand)
 alternatives = do
   _ ← mark (byte ",")
   s ← scalar
@@ -130,7 +130,7 @@ alternatives = do
   gives (s, a, b)
 
 -- "select" "i1" operand "," arg "," arg, with the first type again as the second
-unfoldable pub select : List ℕ → Part Fault Instr
+unfoldable pub select : List ℕ → Production TextFault Instr
 select dest = do
   _ ← word (codes "select")
   _ ← word (codes "i1")
@@ -139,13 +139,13 @@ select dest = do
   gives (instrs.Select dest cond chosen.0 chosen.1 chosen.2)
 
 -- "to" int
-unfoldable pub to_int : Part Fault Width
+unfoldable pub to_int : Production TextFault Width
 to_int = do
   _ ← word (codes "to")
   int
 
 -- ("zext" | "sext" | "trunc") int operand "to" int.
-unfoldable pub int_cast : List ℕ → Part Fault Instr
+unfoldable pub int_cast : List ℕ → Production TextFault Instr
 int_cast dest = do
   op ← token (a_word_of int_cast_word)
   w ← int
@@ -154,7 +154,7 @@ int_cast dest = do
   gives (instrs.Cast dest op (scalars.Int w) a (scalars.Int v))
 
 -- "ptrtoint" "ptr" operand "to" int
-unfoldable pub ptrtoint : List ℕ → Part Fault Instr
+unfoldable pub ptrtoint : List ℕ → Production TextFault Instr
 ptrtoint dest = do
   _ ← word (cast_text casts.Ptrtoint)
   _ ← word (codes "ptr")
@@ -163,7 +163,7 @@ ptrtoint dest = do
   gives (instrs.Cast dest casts.Ptrtoint scalars.Ptr a (scalars.Int w))
 
 -- "inttoptr" int operand "to" "ptr"
-unfoldable pub inttoptr : List ℕ → Part Fault Instr
+unfoldable pub inttoptr : List ℕ → Production TextFault Instr
 inttoptr dest = do
   _ ← word (cast_text casts.Inttoptr)
   w ← int
@@ -173,7 +173,7 @@ inttoptr dest = do
   gives (instrs.Cast dest casts.Inttoptr (scalars.Int w) a scalars.Ptr)
 
 -- "alloca" type [ align ]
-unfoldable pub alloca : List ℕ → Part Fault Instr
+unfoldable pub alloca : List ℕ → Production TextFault Instr
 alloca dest = do
   _ ← word (codes "alloca")
   ty ← type
@@ -181,21 +181,21 @@ alloca dest = do
   gives (instrs.Alloca dest ty n)
 
 -- "," "ptr" operand
-unfoldable pub next_address : Part Fault Operand
+unfoldable pub next_address : Production TextFault Operand
 next_address = do
   _ ← mark (byte ",")
   _ ← word (codes "ptr")
   operand scalars.Ptr
 
 -- "," "ptr" operand [ align ]
-unfoldable pub aligned_address : Part Fault (Operand × Option ℕ)
+unfoldable pub aligned_address : Production TextFault (Operand × Option ℕ)
 aligned_address = do
   addr ← next_address
   n ← maybe_align
   gives (addr, n)
 
 -- "load" scalar "," "ptr" operand [ align ]
-unfoldable pub load : List ℕ → Part Fault Instr
+unfoldable pub load : List ℕ → Production TextFault Instr
 load dest = do
   _ ← word (codes "load")
   s ← scalar
@@ -203,7 +203,7 @@ load dest = do
   gives (instrs.Load dest s read.0 read.1)
 
 -- "getelementptr" [ "inbounds" ] type "," "ptr" operand "," index { "," index }
-unfoldable pub gep : List ℕ → Part Fault Instr
+unfoldable pub gep : List ℕ → Production TextFault Instr
 gep dest = do
   _ ← word (codes "getelementptr")
   inbounds ← maybe_word (codes "inbounds")
@@ -213,7 +213,7 @@ gep dest = do
   gives (instrs.Gep dest inbounds ty base indices)
 
 -- [ "tail" ] "call" ret GLOBAL "(" [ arg { "," arg } ] ")"
-unfoldable pub plain_call : Option (List ℕ) → Part Fault Instr
+unfoldable pub plain_call : Option (List ℕ) → Production TextFault Instr
 plain_call dest = do
   _ ← word (codes "call")
   result ← ret
@@ -223,13 +223,13 @@ plain_call dest = do
   gives (instrs.Call dest result callee args)
 
 -- [ "tail" ] "call" .., where "tail" is dropped (LLVM, "call": a hint)
-unfoldable pub call : Option (List ℕ) → Part Fault Instr
+unfoldable pub call : Option (List ℕ) → Production TextFault Instr
 call dest = do
   _ ← optional (is_word (codes "tail")) (word (codes "tail"))
   plain_call dest
 
 -- "store" scalar operand "," "ptr" operand [ align ]
-unfoldable pub store : Part Fault Instr
+unfoldable pub store : Production TextFault Instr
 store = do
   _ ← word (codes "store")
   s ← scalar
@@ -238,7 +238,7 @@ store = do
   gives (instrs.Store s value written.0 written.1)
 
 -- The instructions on memory, and calls.
-unfoldable pub memory_instr : List ℕ → Part Fault Instr
+unfoldable pub memory_instr : List ℕ → Production TextFault Instr
 memory_instr dest =
     either (is_word (codes "alloca")) (alloca dest)
     (either (is_word (codes "load")) (load dest)
@@ -246,7 +246,7 @@ memory_instr dest =
     (call (Some dest))))
 
 -- A conversion, or what `memory_instr` reads.
-unfoldable pub cast_instr : List ℕ → Part Fault Instr
+unfoldable pub cast_instr : List ℕ → Production TextFault Instr
 cast_instr dest =
     either (is_word_of int_cast_word) (int_cast dest)
     (either (is_word (cast_text casts.Ptrtoint)) (ptrtoint dest)
@@ -254,7 +254,7 @@ cast_instr dest =
     (memory_instr dest)))
 
 -- An instruction after LOCAL "=".
-unfoldable pub value_instr : List ℕ → Part Fault Instr
+unfoldable pub value_instr : List ℕ → Production TextFault Instr
 value_instr dest =
     either (is_word_of binary_word) (binary dest)
     (either (is_word (codes "icmp")) (compare dest)
@@ -262,18 +262,18 @@ value_instr dest =
     (cast_instr dest)))
 
 -- An instruction that assigns no register.
-unfoldable pub effect_instr : Part Fault Instr
+unfoldable pub effect_instr : Production TextFault Instr
 effect_instr = either (is_word (codes "store")) store (call None)
 
 -- The cases of instr that begin with LOCAL "=" are taken together, since a front that cases share is a front of each of
 -- them.
-unfoldable pub assigning_instr : Part Fault Instr
+unfoldable pub assigning_instr : Production TextFault Instr
 assigning_instr = do
   dest ← assigned
   value_instr dest
 
 -- instr: LOCAL "=" and one that assigns, or one that does not
-unfoldable pub instr : Part Fault Instr
+unfoldable pub instr : Production TextFault Instr
 instr = either is_local assigning_instr effect_instr
 
 -- The first tokens of instructions without a register.
@@ -287,19 +287,19 @@ begins_instr t = is_local t || begins_effect t
 -- ---- ends of blocks
 
 -- "label" LOCAL
-unfoldable pub target : Part Fault (List ℕ)
+unfoldable pub target : Production TextFault (List ℕ)
 target = do
   _ ← word (codes "label")
   token a_local
 
 -- "label" LOCAL, after "br"
-unfoldable pub jump : Part Fault End
+unfoldable pub jump : Production TextFault End
 jump = do
   label ← target
   gives (ends.Br label)
 
 -- "i1" operand "," "label" LOCAL "," "label" LOCAL
-unfoldable pub branch : Part Fault End
+unfoldable pub branch : Production TextFault End
 branch = do
   _ ← word (codes "i1")
   cond ← operand (scalars.Int W1)
@@ -308,13 +308,13 @@ branch = do
   gives (ends.CondBr cond yes_label no_label)
 
 -- "br" "label" LOCAL | "br" "i1" operand "," "label" LOCAL "," "label" LOCAL
-unfoldable pub br : Part Fault End
+unfoldable pub br : Production TextFault End
 br = do
   _ ← word (codes "br")
   either (is_word (codes "label")) jump branch
 
 -- int literal "," "label" LOCAL, with the type of the switch
-unfoldable pub case : Width → Part Fault Case
+unfoldable pub case : Width → Production TextFault Case
 case w = do
   _ ← passing (is_width w)
   value ← token (a_literal w)
@@ -322,7 +322,7 @@ case w = do
   gives (record { value = value; label = label })
 
 -- "[" { int literal "," "label" LOCAL } "]", where each type is the switch's
-unfoldable pub cases : Width → Part Fault (List Case)
+unfoldable pub cases : Width → Production TextFault (List Case)
 cases w = do
   _ ← mark (byte "[")
   found ← repeated (is_width w) (case w)
@@ -330,7 +330,7 @@ cases w = do
   gives found
 
 -- "switch" int operand "," "label" LOCAL "[" { int literal "," "label" LOCAL } "]"
-unfoldable pub switch : Part Fault End
+unfoldable pub switch : Production TextFault End
 switch = do
   _ ← word (codes "switch")
   w ← int
@@ -340,31 +340,31 @@ switch = do
   gives (ends.Switch w value other found)
 
 -- "void", after "ret"
-unfoldable pub ret_void : Part Fault End
+unfoldable pub ret_void : Production TextFault End
 ret_void = do
   _ ← word (codes "void")
   gives (ends.Ret None)
 
 -- `scalar operand`, after `ret`.
-unfoldable pub ret_arg : Part Fault End
+unfoldable pub ret_arg : Production TextFault End
 ret_arg = do
   value ← arg
   gives (ends.Ret (Some value))
 
 -- "ret" "void" | "ret" arg
-unfoldable pub ret_end : Part Fault End
+unfoldable pub ret_end : Production TextFault End
 ret_end = do
   _ ← word (codes "ret")
   either (is_word (codes "void")) ret_void ret_arg
 
 -- "unreachable"
-unfoldable pub unreachable : Part Fault End
+unfoldable pub unreachable : Production TextFault End
 unreachable = do
   _ ← word (codes "unreachable")
   gives ends.Unreachable
 
 -- end = br | switch | ret | unreachable
-unfoldable pub end : Part Fault End
+unfoldable pub end : Production TextFault End
 end =
     either (is_word (codes "br")) br (either (is_word (codes "switch")) switch
     (either (is_word (codes "ret")) ret_end unreachable))
@@ -372,41 +372,41 @@ end =
 -- ---- blocks
 
 -- `end`, after the label, the phis and the instructions of its block.
-unfoldable pub closing : List ℕ → List Phi → List Instr → Part Fault Block
+unfoldable pub closing : List ℕ → List Phi → List Instr → Production TextFault Block
 closing label phis body = do
   last ← end
   gives (record { label = label; phis = phis; body = body; end = last })
 
 -- { instr } end
-unfoldable pub instrs_and_end : List ℕ → List Phi → Part Fault Block
+unfoldable pub instrs_and_end : List ℕ → List Phi → Production TextFault Block
 instrs_and_end label phis = do
   body ← repeated begins_instr instr
   closing label phis body
 
 -- The rest of a block after its first instruction.
-unfoldable pub after_first : List ℕ → List Phi → Instr → Part Fault Block
+unfoldable pub after_first : List ℕ → List Phi → Instr → Production TextFault Block
 after_first label phis first = do
   body ← repeated begins_instr instr
   closing label phis (first ∷ body)
 
 -- The rest of a block after a LOCAL "=" that no phi follows: its first instruction assigns that register.
-unfoldable pub after_name : List ℕ → List Phi → List ℕ → Part Fault Block
+unfoldable pub after_name : List ℕ → List Phi → List ℕ → Production TextFault Block
 after_name label phis dest = do
   first ← value_instr dest
   after_first label phis first
 
 -- The rest of a block whose first instruction assigns no register.
-unfoldable pub from_effect : List ℕ → List Phi → Part Fault Block
+unfoldable pub from_effect : List ℕ → List Phi → Production TextFault Block
 from_effect label phis = do
   first ← effect_instr
   after_first label phis first
 
 -- The rest of a block with no LOCAL after its phis.
-unfoldable pub after_phis : List ℕ → List Phi → Part Fault Block
+unfoldable pub after_phis : List ℕ → List Phi → Production TextFault Block
 after_phis label phis = either begins_effect (from_effect label phis) (closing label phis [])
 
 -- block = LABEL { phi } { instr } end
-unfoldable pub block : Part Fault Block
+unfoldable pub block : Production TextFault Block
 block = do
   label ← token a_label
   phased is_local assigned (is_word (codes "phi")) phi (after_name label) (after_phis label) (instrs_and_end label)

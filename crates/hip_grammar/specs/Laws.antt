@@ -13,3 +13,11 @@ pub mod WrittenText
 pub mod BodiesSpelling
 pub mod TextSpelling
 pub mod SpellingExact
+pub mod Exact
+pub mod Repeated
+pub mod Same
+pub mod Phases
+pub mod Loops
+pub mod Productions
+pub mod Texts
+pub mod Yields

@@ -6,6 +6,9 @@ pub mod Bodies
 pub mod Text
 pub mod Show
 pub mod Spelling
-pub mod Reading
+pub mod ReadTexts
 pub mod Refusals
 pub mod Laws
+pub mod Rule
+pub mod Reader
+pub mod Production

@@ -7,11 +7,11 @@ use Rattle.hip_types.specs.declared.number.Bits.{Bits}
 use Rattle.hip_types.specs.declared.number.Width.{Width}
 use Rattle.hip_types.specs.declared.number.Width.TheVariants.{W1, W8, W16, W32, W64}
 use Rattle.hip_tokens.specs.Tokens.{Tok, Word, Num}
-use Rattle.hip_rules.specs.Rule.{Verdict, Yes, Because, No}
+use Rattle.hip_grammar.specs.Rule.{Verdict, Yes, Because, No}
 use Rattle.hip_tree.specs.declared.constant.Const.{Const}
 use Rattle.hip_tree.specs.declared.constant.Const.TheVariants as consts
-use Rattle.hip_grammar.specs.declared.fault.Fault.{Fault}
-use Rattle.hip_grammar.specs.declared.fault.Fault.TheVariants.{Range}
+use Rattle.hip_grammar.specs.declared.fault.TextFault.{TextFault}
+use Rattle.hip_grammar.specs.declared.fault.TextFault.TheVariants.{Range}
 use Rattle.hip_types.specs.Numbers.{bits}
 use Rattle.hip_types.specs.declared.limits.TheConstants.{LARGEST_ALIGNMENT, LARGEST_COUNT}
 use Rattle.hip_grammar.specs.Words.{or_no, is_word}
@@ -32,7 +32,7 @@ magnitude [] = 0
 magnitude (d ∷ ds) = if d == byte "-" then digits_from 0 ds else digits_from 0 (d ∷ ds)
 
 -- The number, or a refusal as out of range if there is none.
-abbrev pub or_range : {A : Type 0} → Option A → Verdict Fault A
+abbrev pub or_range : {A : Type 0} → Option A → Verdict TextFault A
 or_range (Some n) = Yes n
 or_range None = Because Range
 
@@ -49,7 +49,7 @@ abbrev pub value_of : Width → List ℕ → Option ℕ
 value_of w t = if is_negative t then negated w (magnitude t) else below (2 ^ bits_of w) (magnitude t)
 
 -- The number as an integer of the width, or a refusal as out of range if there is none.
-abbrev pub bits_in_range : Width → Option ℕ → Verdict Fault Bits
+abbrev pub bits_in_range : Width → Option ℕ → Verdict TextFault Bits
 bits_in_range w (Some n) = Yes (bits w n)
 bits_in_range w None = Because Range
 
@@ -65,19 +65,19 @@ truth_word W32 t = None
 truth_word W64 t = None
 
 -- A literal under an integer type.
-abbrev pub a_literal : Width → Tok → Verdict Fault Bits
+abbrev pub a_literal : Width → Tok → Verdict TextFault Bits
 a_literal w (Num t) = bits_in_range w (value_of w t)
 a_literal w (Word t) = or_no (truth_word w t)
 a_literal w _ = No
 
 -- The literal as a constant; a refusal stays what it is.
-abbrev pub as_const : Verdict Fault Bits → Verdict Fault Const
+abbrev pub as_const : Verdict TextFault Bits → Verdict TextFault Const
 as_const (Yes b) = Yes (consts.Int b)
 as_const (Because why) = Because why
 as_const No = No
 
 -- A constant under an integer type: a literal or `zeroinitializer`.
-abbrev pub an_int_const : Width → Tok → Verdict Fault Const
+abbrev pub an_int_const : Width → Tok → Verdict TextFault Const
 an_int_const w t = if is_word (codes "zeroinitializer") t then Yes consts.Zero else as_const (a_literal w t)
 
 -- The count of an array, from 0 on.
@@ -85,7 +85,7 @@ abbrev pub count_of : List ℕ → Option ℕ
 count_of t = if is_negative t && not (magnitude t == 0) then None else below (LARGEST_COUNT + 1) (magnitude t)
 
 -- A NUM that is the count of an array, out of range if it is below 0 or above `LARGEST_COUNT`.
-abbrev pub a_count : Tok → Verdict Fault ℕ
+abbrev pub a_count : Tok → Verdict TextFault ℕ
 a_count (Num t) = or_range (count_of t)
 a_count _ = No
 
@@ -98,6 +98,6 @@ abbrev pub alignment_of : List ℕ → Option ℕ
 alignment_of t = if not (is_negative t) && is_alignment (magnitude t) then Some (magnitude t) else None
 
 -- A NUM that is an alignment in bytes, out of range if it is none.
-abbrev pub an_alignment : Tok → Verdict Fault ℕ
+abbrev pub an_alignment : Tok → Verdict TextFault ℕ
 an_alignment (Num t) = or_range (alignment_of t)
 an_alignment _ = No

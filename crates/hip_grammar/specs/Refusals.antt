@@ -1,9 +1,9 @@
 -- Why a text is refused, and what the answers of the reader say of it.
 use Rattle.std.specs.Prelude.{◌≡◌, ℕ, List, Result, Ok, Err}
-use Rattle.hip_grammar.specs.declared.fault.Fault.{Fault}
-use Rattle.hip_grammar.specs.declared.fault.Fault.TheVariants as faults
+use Rattle.hip_grammar.specs.declared.fault.TextFault.{TextFault}
+use Rattle.hip_grammar.specs.declared.fault.TextFault.TheVariants as faults
 use Rattle.hip_tree.specs.declared.program.Program.{Program}
-use Rattle.hip_grammar.specs.Reading.{IsRefusal}
+use Rattle.hip_grammar.specs.ReadTexts.{IsRefusal}
 use Rattle.hip_grammar.specs.declared.refusal.ParseRefusal.{ParseRefusal}
 use Rattle.hip_grammar.specs.declared.refusal.ParseRefusal.TheVariants as refusals
 
@@ -25,7 +25,7 @@ GivesProgram (Err (refusals.Range line)) program = ⊥
 GivesProgram (Err (refusals.TooDeep line)) program = ⊥
 
 -- The refusal for a fault on that line.
-abbrev pub refusal_of : Fault → ℕ → ParseRefusal
+abbrev pub refusal_of : TextFault → ℕ → ParseRefusal
 refusal_of faults.Syntax line = refusals.Syntax line
 refusal_of faults.Unsupported line = refusals.Unsupported line
 refusal_of faults.Range line = refusals.Range line

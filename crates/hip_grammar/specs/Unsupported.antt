@@ -4,8 +4,8 @@ use Rattle.std.specs.List.{list_all}
 use Rattle.std.specs.Str.{bytes_eq}
 use Rattle.hip_tokens.specs.Bytes.{byte, is_digit}
 use Rattle.hip_tokens.specs.Tokens.{Tok, Word, Odd, At}
-use Rattle.hip_grammar.specs.declared.fault.Fault.{Fault}
-use Rattle.hip_grammar.specs.declared.fault.Fault.TheVariants as faults
+use Rattle.hip_grammar.specs.declared.fault.TextFault.{TextFault}
+use Rattle.hip_grammar.specs.declared.fault.TextFault.TheVariants as faults
 
 -- `i` and digits, as the name of an integer type.
 abbrev pub is_int_name : List ℕ → Bool
@@ -113,6 +113,6 @@ is_unsupported (Odd b) = is_unsupported_byte b
 is_unsupported _ = false
 
 -- The fault of a place that has no reason of its own, by the tokens from it on.
-abbrev pub usual : List At → Fault
+abbrev pub usual : List At → TextFault
 usual [] = faults.Syntax
 usual (t ∷ ts) = if is_unsupported t.tok then faults.Unsupported else faults.Syntax

@@ -14,12 +14,12 @@ use Rattle.hip_types.specs.declared.number.CastOp.TheVariants as casts
 use Rattle.hip_types.specs.declared.ty.Ty.{Ty}
 use Rattle.hip_types.specs.declared.ty.Ty.TheVariants as types
 use Rattle.hip_tokens.specs.Bytes.{byte}
-use Rattle.hip_tokens.specs.Tokens.{Tok, Word, Label, Local, Global, Str, Mark}
-use Rattle.hip_rules.specs.Rule.{Verdict, Yes, Because, No}
-use Rattle.hip_grammar.specs.declared.fault.Fault.{Fault}
+use Rattle.hip_tokens.specs.Tokens.{Tok, Word, Label, Local, Global, Str, Punctuation}
+use Rattle.hip_grammar.specs.Rule.{Verdict, Yes, Because, No}
+use Rattle.hip_grammar.specs.declared.fault.TextFault.{TextFault}
 use Rattle.hip_tree.specs.declared.instr.Flag.{Flag}
 use Rattle.hip_tree.specs.declared.instr.Flag.TheVariants.{Nuw, Nsw, Exact}
-use Rattle.hip_grammar.specs.declared.fault.Fault.TheVariants.{Unsupported, TooDeep}
+use Rattle.hip_grammar.specs.declared.fault.TextFault.TheVariants.{Unsupported, TooDeep}
 
 -- Whether the token is this word.
 abbrev pub is_word : List ℕ → Tok → Bool
@@ -28,7 +28,7 @@ is_word w _ = false
 
 -- Whether the token is the mark with this byte; an odd byte is no mark.
 abbrev pub is_mark : ℕ → Tok → Bool
-is_mark b (Mark c) = c == b
+is_mark b (Punctuation c) = c == b
 is_mark b _ = false
 
 -- Whether the token is a LOCAL: `%` and a name.
@@ -51,41 +51,41 @@ abbrev pub comma : Tok → Bool
 comma = is_mark (byte ",")
 
 -- Any LOCAL, by its name without `%`.
-abbrev pub a_local : Tok → Verdict Fault (List ℕ)
+abbrev pub a_local : Tok → Verdict TextFault (List ℕ)
 a_local (Local t) = Yes t
 a_local _ = No
 
 -- Any GLOBAL, by its name without `@`.
-abbrev pub a_global : Tok → Verdict Fault (List ℕ)
+abbrev pub a_global : Tok → Verdict TextFault (List ℕ)
 a_global (Global t) = Yes t
 a_global _ = No
 
 -- Any LABEL, by its name without `:`.
-abbrev pub a_label : Tok → Verdict Fault (List ℕ)
+abbrev pub a_label : Tok → Verdict TextFault (List ℕ)
 a_label (Label t) = Yes t
 a_label _ = No
 
 -- Any STRING, by the bytes between its quotes, as they are written.
-abbrev pub a_string : Tok → Verdict Fault (List ℕ)
+abbrev pub a_string : Tok → Verdict TextFault (List ℕ)
 a_string (Str t) = Yes t
 a_string _ = No
 
 -- The string after `section`: `.pm`, and any other is unsupported.
-abbrev pub a_section : Tok → Verdict Fault (Unit {0})
+abbrev pub a_section : Tok → Verdict TextFault (Unit {0})
 a_section (Str t) = if bytes_eq t (codes ".pm") then Yes tt else Because Unsupported
 a_section _ = No
 
 -- A bracket, brace or parenthesis that opens a level too many.
-abbrev pub too_deep : {A : Type 0} → ℕ → Tok → Verdict Fault A
+abbrev pub too_deep : {A : Type 0} → ℕ → Tok → Verdict TextFault A
 too_deep b t = if is_mark b t then Because TooDeep else No
 
 -- The value, or a refusal without a reason of its own if there is none.
-abbrev pub or_no : {A : Type 0} → Option A → Verdict Fault A
+abbrev pub or_no : {A : Type 0} → Option A → Verdict TextFault A
 or_no (Some x) = Yes x
 or_no None = No
 
 -- A word that has a meaning by f, by its meaning; any other token is refused without a reason of its own.
-abbrev pub a_word_of : {A : Type 0} → (List ℕ → Option A) → Tok → Verdict Fault A
+abbrev pub a_word_of : {A : Type 0} → (List ℕ → Option A) → Tok → Verdict TextFault A
 a_word_of f (Word t) = or_no (f t)
 a_word_of f _ = No
 

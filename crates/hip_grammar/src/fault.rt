@@ -1,6 +1,6 @@
 /// What is wrong with the first token that leaves the grammar, or with the end of a text that ends too early.
 #[derive(Clone, Copy, Debug, PartialEq, Eq)]
-pub enum Fault {
+pub enum TextFault {
     /// It is not allowed there, or the text ends too early.
     Syntax,
     /// It belongs to a form of LLVM's text that is not read.

@@ -30,11 +30,11 @@ use Rattle.hip_repairs.proofs.functions.Origins.{Origin, origin}
 use Rattle.hip_repairs.proofs.functions.Twins.{Twin}
 use Rattle.hip_repairs.proofs.simulation.Pairs.{Tied, tied, Below, bottom, on, Related, related}
 use Rattle.hip_repairs.proofs.simulation.Sim.{follows}
-use Rattle.hip_repair_survival.specs.Kept.{HasReportOf}
-use Rattle.hip_repair_survival.specs.Laws.ChecksKept.{worsens_no_check}
+use Rattle.hip_survival.specs.Kept.{HasReportOf}
+use Rattle.hip_survival.specs.Laws.ChecksKept.{worsens_no_check}
 use Rattle.hip_repairs.proofs.simulation.Harm.{nothing_held, nothing_kept}
-use Rattle.hip_repair_survival.specs.Laws.LoosensNothing.{loosens_nothing, matched_first, matched_onward}
-use Rattle.hip_repair_survival.specs.Laws.SameStores.{same_line}
+use Rattle.hip_survival.specs.Laws.LoosensNothing.{loosens_nothing, matched_first, matched_onward}
+use Rattle.hip_survival.specs.Laws.SameStores.{same_line}
 use Rattle.hip_survival.specs.Laws.Entries.{one_step}
 use Rattle.hip_survival.specs.Laws.ReportedBytes.{report_step}
 use Rattle.hip_survival.specs.Survival.{IsOfStep}

@@ -4,7 +4,7 @@ use Rattle.hip_tree.specs.declared.program.Program.{Program}
 use Rattle.hip_runs.specs.Step.{run}
 use Rattle.hip_repairs.specs.Covered.{IsCovered}
 use Rattle.hip_survival.specs.Laws.Places.{HasPlace}
-use Rattle.hip_repair_survival.specs.Laws.SameStores.{same_line, same_part, same_step}
+use Rattle.hip_survival.specs.Laws.SameStores.{same_line, same_part, same_step}
 use Rattle.hip_histories.specs.Chains.{StaysCovered}
 use Rattle.hip_histories.proofs.Corresponding.{valid_back}
 use Rattle.hip_histories.specs.NoHarm.{DoesNoHarm}

@@ -3,4 +3,5 @@ pub mod Rounds
 pub mod Repairs
 pub mod OneEnd
 pub mod Covering
+pub mod SameSteps
 pub mod wrong

@@ -11,15 +11,16 @@ use Rattle.hip_runs.specs.declared.input.Input.{Input}
 use Rattle.hip_runs.specs.declared.report.Findings.{Findings}
 use Rattle.hip_repairs.specs.Choice.{Contains, plan_for}
 use Rattle.hip_repairs.specs.Clean.{IsClean}
-use Rattle.hip_repairs.specs.Quiet.{IsQuiet}
+use Rattle.hip_repairs.specs.StayOutside.{StayOutside}
 use Rattle.hip_repairs.specs.Repaired.{repaired}
 use Rattle.hip_repairs.specs.declared.plan.Plan.{Plan}
 use Rattle.hip_repairs.proofs.Theorems.{hoisted_calls_are_covered, repaired_is_sound, repairs_are_clean}
 use Rattle.hip_repairs.specs.Laws.Unchanged.{valid_again}
-use Rattle.hip_repair_survival.specs.Laws.ChecksKept.{stays_clean, worsens_no_check}
-use Rattle.hip_repair_survival.specs.Laws.ChecksSurvive.{repaired_survives}
-use Rattle.hip_repair_survival.specs.Laws.CoveredSurvive.{covered_survives}
-use Rattle.hip_repair_survival.specs.Laws.LoosensNothing.{loosens_nothing}
+use Rattle.hip_survival.specs.Laws.ChecksKept.{stays_clean, worsens_no_check}
+use Rattle.hip_survival.specs.Kept.{ChecksSurvive}
+use Rattle.hip_survival.specs.Laws.ChecksSurvive.{clean_survives, repaired_survives}
+use Rattle.hip_survival.specs.Laws.CoveredSurvive.{covered_survives}
+use Rattle.hip_survival.specs.Laws.LoosensNothing.{loosens_nothing}
 use Rattle.hip_histories.specs.Chains.{AllStayCovered, AreMadeInTurn, IsMendedFor, KeepsProgram, LastsOn, Repair, StaysCovered, TraceRepair, mended, repaired_on}
 use Rattle.hip_histories.specs.CrashSafe.{IsCrashSafe}
 use Rattle.hip_histories.specs.NoHarm.{DoesNoHarm}
@@ -53,9 +54,19 @@ all_clean P (r ∷ rs) s I v clean =
     all_clean (repaired P r.plan r.skip) rs (repaired_is_sound P r.plan r.skip s) I (valid_again P r.plan r.skip I v)
     (stays_clean P r.plan r.skip s I v clean)
 
+all_valid : (P : Program) (rs : List Repair) (I : Input) → IsValid P I → IsValid (repaired_on P rs) I
+all_valid P [] I v = v
+all_valid P (r ∷ rs) I v = all_valid (repaired P r.plan r.skip) rs I (valid_again P r.plan r.skip I v)
+
+-- What a clean run checks survives in it, and after any repairs.
+pub all_survive : (P : Program) → IsSound P → (rs : List Repair) (I : Input) → IsValid P I → IsClean P I
+    → ChecksSurvive (repaired_on P rs) I
+all_survive P s rs I v clean =
+    clean_survives (repaired_on P rs) (all_sound P rs s) I (all_valid P rs I v) (all_clean P rs s I v clean)
+
 -- The repair that follows some repairs mends what was found after them, and it stays mended.
 pub all_mended : (P : Program) (before : List Repair) (r : Repair) (after : List Repair) → IsSound P → (I : Input)
-    → (found : Findings) → IsValid P I → IsQuiet (repaired_on P before) r.skip
+    → (found : Findings) → IsValid P I → StayOutside (repaired_on P before) r.skip
     → IsFound (repaired_on P before) I found → Contains r.plan (plan_for (repaired_on P before) found)
     → IsClean (repaired_on P (before ++ r ∷ after)) I
 all_mended P [] r after s I found v quiet is has =
@@ -66,7 +77,7 @@ all_mended P (b ∷ before) r after s I found v quiet is has =
     (valid_again P b.plan b.skip I v) quiet is has
 
 -- The calls that a repair hoisted stay covered after any further repairs.
-pub all_covered : (P : Program) (r : Repair) (later : List Repair) → IsSound P → IsQuiet P r.skip
+pub all_covered : (P : Program) (r : Repair) (later : List Repair) → IsSound P → StayOutside P r.skip
     → StaysCovered P (repaired P r.plan r.skip) (repaired_on (repaired P r.plan r.skip) later)
 all_covered P r later s quiet =
     stays_covered P (repaired P r.plan r.skip) (repaired_on (repaired P r.plan r.skip) later)
@@ -113,7 +124,7 @@ pub mended_for : (P : Program) (rs : List TraceRepair) → IsSound P → AreMade
 mended_for P rs s made = record { clean = all_mended_for P rs s made; covered = all_stay_covered P rs s made }
 
 pub lasts_on : (P : Program) (I : Input) (plan : Plan) (skip : Site → Bool) (found : Findings) → IsSound P → IsValid P I
-    → IsQuiet P skip → IsFound P I found → Contains plan (plan_for P found) → LastsOn P (repaired P plan skip) I
+    → StayOutside P skip → IsFound P I found → Contains plan (plan_for P found) → LastsOn P (repaired P plan skip) I
 lasts_on P I plan skip found s v quiet is has =
     let again = repaired_is_sound P plan skip s in
     let harmless = repair_does_no_harm P plan skip s in
@@ -129,7 +140,7 @@ lasts_on P I plan skip found s v quiet is has =
     }
 
 pub crash_safe : (P : Program) (I : Input) (plan : Plan) (skip : Site → Bool) (found : Findings) → IsSound P
-    → IsValid P I → IsQuiet P skip → IsFound P I found → Contains plan (plan_for P found) → IsCrashSafe P I plan skip
+    → IsValid P I → StayOutside P skip → IsFound P I found → Contains plan (plan_for P found) → IsCrashSafe P I plan skip
 crash_safe P I plan skip found s v quiet is has =
     let harmless = repair_does_no_harm P plan skip s in
     record {

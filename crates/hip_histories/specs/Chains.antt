@@ -13,7 +13,7 @@ use Rattle.hip_runs.specs.declared.report.Findings.{Findings}
 use Rattle.hip_repairs.specs.Choice.{Contains, plan_for}
 use Rattle.hip_repairs.specs.Clean.{IsClean}
 use Rattle.hip_repairs.specs.Covered.{IsAfterCloneCall, IsLastBefore}
-use Rattle.hip_repairs.specs.Quiet.{IsQuiet}
+use Rattle.hip_repairs.specs.StayOutside.{StayOutside}
 use Rattle.hip_repairs.specs.Repaired.{repaired}
 use Rattle.hip_repairs.specs.declared.plan.Plan.{Plan}
 use Rattle.hip_sound.specs.Sound.{IsSound}
@@ -75,7 +75,7 @@ pub record IsMadeFor (P : Program) (r : TraceRepair) : Type 0 where
   pub valid : IsValid P r.input
   pub found : IsFound P r.input r.findings
   pub planned : Contains r.repair.plan (plan_for P r.findings)
-  pub quiet : IsQuiet P r.repair.skip
+  pub quiet : StayOutside P r.repair.skip
 
 -- Each repair is made for a run of the program that the repairs before it left.
 abbrev pub AreMadeInTurn : Program → List TraceRepair → Type 0

@@ -6,7 +6,7 @@ use Rattle.hip_runs.specs.Validity.{IsValid}
 use Rattle.hip_runs.specs.declared.input.Input.{Input}
 use Rattle.hip_repairs.specs.Repaired.{repaired}
 use Rattle.hip_repairs.specs.declared.plan.Plan.{Plan}
-use Rattle.hip_repair_survival.specs.Kept.{ChecksSurvive, CoveredSurvive, LoosensNothing, WorsensNoCheck}
+use Rattle.hip_survival.specs.Kept.{ChecksSurvive, CoveredSurvive, LoosensNothing, WorsensNoCheck}
 use Rattle.hip_histories.specs.Chains.{LastsOn}
 use Rattle.hip_histories.specs.Histories.{AddsNoHistory}
 use Rattle.hip_histories.specs.WholeRuns.{EndAlike}

@@ -10,7 +10,7 @@ use Rattle.hip_runs.specs.Validity.{IsValid}
 use Rattle.hip_runs.specs.declared.input.Input.{Input}
 use Rattle.hip_repairs.specs.Harmless.{Extent, contents, extents}
 use Rattle.hip_survival.specs.Survival.{IsLooseAt}
-use Rattle.hip_repair_survival.specs.Kept.{IsAsDurable, IsNoWorse}
+use Rattle.hip_survival.specs.Kept.{IsAsDurable, IsNoWorse}
 
 -- What a frame has besides its place in its block: the function, the block, the registers, the stack mark at its call
 -- and its blocks on the stack.

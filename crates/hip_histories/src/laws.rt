@@ -5,12 +5,14 @@ ghost use Rattle.hip_histories.specs.Chains.{AreMadeInTurn, IsMendedFor, KeepsPr
 ghost use Rattle.hip_histories.specs.CrashSafe.{IsCrashSafe};
 ghost use Rattle.hip_histories.specs.Histories.{AddsNoHistory, IsRound, KeepsLosslessHistories, Round, input_of, state_of};
 ghost use Rattle.hip_histories.specs.NoHarm.{DoesNoHarm};
+ghost use Rattle.hip_histories.specs.SameSteps.{TakesSameSteps};
 ghost use Rattle.hip_histories.specs.WholeRuns.{EndAlike, EndsInOneWay};
 ghost use Rattle.hip_tree.specs.declared.program.Program.{Program};
 ghost use Rattle.hip_tree.specs.declared.site.Site.{Site};
 ghost use Rattle.hip_repairs.specs.Choice.{Contains, plan_for};
 ghost use Rattle.hip_repairs.specs.Clean.{IsClean};
-ghost use Rattle.hip_repairs.specs.Quiet.{IsQuiet};
+ghost use Rattle.hip_repairs.specs.StayOutside.{StayOutside};
+ghost use Rattle.hip_survival.specs.Kept.{ChecksSurvive};
 ghost use Rattle.hip_repairs.specs.Repaired.{repaired};
 ghost use Rattle.hip_repairs.specs.declared.plan.Plan.{Plan};
 ghost use Rattle.hip_runs.specs.Found.Marks.{IsFound};
@@ -53,15 +55,15 @@ pub fn repairs_add_up()
     ensures clean { (P : Program) → (first second : Plan) → (skip also : Site → Bool) → IsSound P → (I : Input) →
         IsValid P I → IsClean (repaired P first skip) I → IsClean (repaired (repaired P first skip) second also) I }
     ensures earlier { (P : Program) → (first second : Plan) → (skip also : Site → Bool) → IsSound P → (I : Input) →
-        (found : Findings) → IsValid P I → IsQuiet P skip → IsFound P I found → Contains first (plan_for P found) →
+        (found : Findings) → IsValid P I → StayOutside P skip → IsFound P I found → Contains first (plan_for P found) →
         IsClean (repaired (repaired P first skip) second also) I }
     ensures later { (P : Program) → (first second : Plan) → (skip also : Site → Bool) → IsSound P → (I : Input) →
-        (found : Findings) → IsValid P I → IsQuiet (repaired P first skip) also →
+        (found : Findings) → IsValid P I → StayOutside (repaired P first skip) also →
         IsFound (repaired P first skip) I found → Contains second (plan_for (repaired P first skip) found) →
         IsClean (repaired (repaired P first skip) second also) I }
     ensures harm { (P : Program) → (first second : Plan) → (skip also : Site → Bool) → IsSound P →
         DoesNoHarm P (repaired (repaired P first skip) second also) }
-    ensures covered { (P : Program) → (first second : Plan) → (skip also : Site → Bool) → IsSound P → IsQuiet P skip →
+    ensures covered { (P : Program) → (first second : Plan) → (skip also : Site → Bool) → IsSound P → StayOutside P skip →
         StaysCovered P (repaired P first skip) (repaired (repaired P first skip) second also) }
     ensures histories { (P : Program) → (first second : Plan) → (skip also : Site → Bool) → IsSound P →
         AddsNoHistory P (repaired (repaired P first skip) second also) }
@@ -76,20 +78,26 @@ pub fn chains_of_repairs_add_up()
     ensures traces { (P : Program) → (repairs : List TraceRepair) → IsSound P → AreMadeInTurn P repairs →
         IsMendedFor P repairs }
     ensures mended { (P : Program) → (before : List Repair) → (repair : Repair) → (after : List Repair) → IsSound P →
-        (I : Input) → (found : Findings) → IsValid P I → IsQuiet (repaired_on P before) repair.skip →
+        (I : Input) → (found : Findings) → IsValid P I → StayOutside (repaired_on P before) repair.skip →
         IsFound (repaired_on P before) I found →
         Contains repair.plan (plan_for (repaired_on P before) found) →
         IsClean (repaired_on P (before ++ repair ∷ after)) I }
+{}
+
+/// What a clean run checks survives a crash at the check, also after any number of repairs, whatever their plans are.
+pub fn repairs_keep_checks()
+    ensures { (P : Program) → IsSound P → (repairs : List Repair) → (I : Input) → IsValid P I → IsClean P I →
+        ChecksSurvive (repaired_on P repairs) I }
 {}
 
 /// What a repair guarantees over crashes and over later repairs, if its plan has what a run found and the stores that
 /// the clones do not flush never write to the region.
 pub fn repairs_are_crash_safe()
     ensures lasts { (P : Program) → (I : Input) → (plan : Plan) → (skip : Site → Bool) → (found : Findings) →
-        IsSound P → IsValid P I → IsQuiet P skip → IsFound P I found → Contains plan (plan_for P found) →
+        IsSound P → IsValid P I → StayOutside P skip → IsFound P I found → Contains plan (plan_for P found) →
         LastsOn P (repaired P plan skip) I }
     ensures safe { (P : Program) → (I : Input) → (plan : Plan) → (skip : Site → Bool) → (found : Findings) →
-        IsSound P → IsValid P I → IsQuiet P skip → IsFound P I found → Contains plan (plan_for P found) →
+        IsSound P → IsValid P I → StayOutside P skip → IsFound P I found → Contains plan (plan_for P found) →
         IsCrashSafe P I plan skip }
 {}
 
@@ -103,4 +111,11 @@ pub fn runs_end_in_one_way()
 pub fn repairs_keep_whole_runs()
     ensures { (P : Program) → (plan : Plan) → (skip : Site → Bool) → IsSound P → (I : Input) → IsValid P I →
         EndAlike P (repaired P plan skip) I }
+{}
+
+/// A repaired program takes the steps of the program, whatever the plan is. A step that corresponds to a step of the
+/// program takes the same instruction, but for the name of a callee, or the same end of a block. Any other step is a
+/// flush of the operand of the store that came directly before it, or a fence.
+pub fn repairs_take_the_same_steps()
+    ensures { (P : Program) → (plan : Plan) → (skip : Site → Bool) → IsSound P → TakesSameSteps P plan skip }
 {}

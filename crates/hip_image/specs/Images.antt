@@ -7,5 +7,5 @@ abbrev pub bytes_in : Inside → List ℕ
 bytes_in i = i.stored.items ++ replicate i.zeros 0
 
 -- The number of bytes is a `usize`.
-pub record IsImage (i : Inside) : Type 0 where
+pub record IsTrimmed (i : Inside) : Type 0 where
   pub fits : length i.stored.items + i.zeros < 2 ^ 64

@@ -19,11 +19,11 @@ impl Model for Image {
 
     ghost Value = { List ℕ };
 
-    ghost use Rattle.hip_image.specs.Images.{bytes_in, IsImage};
+    ghost use Rattle.hip_image.specs.Images.{bytes_in, IsTrimmed};
 
     ghost view = { bytes_in };
 
-    ghost invariant = { IsImage };
+    ghost invariant = { IsTrimmed };
 }
 
 impl Image {

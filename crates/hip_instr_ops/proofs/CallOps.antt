@@ -15,12 +15,12 @@ use Rattle.hip_externs.specs.Externs.{Signature, call_of, row_of, signature}
 use Rattle.hip_externs.specs.declared.call.ExternCall.{ExternCall}
 use Rattle.hip_sound.specs.Given.{CallsExtern, CallsFunction}
 use Rattle.hip_sound.specs.Laws.Decided.{all-at}
-use Rattle.hip_sound.specs.Numbering.{function_names}
+use Rattle.hip_sound.specs.NumberedNames.{function_names}
 use Rattle.hip_sound.specs.Sound.{IsFree, IsSound, register_names}
 use Rattle.hip_runs.specs.declared.input.Input.{Input}
 use Rattle.hip_runs.specs.Places.{block_at, blocks_in}
-use Rattle.hip_code.specs.Edges.{IsCall, are_arguments}
-use Rattle.hip_code.specs.Entries.{StandsAt, entry}
+use Rattle.hip_code.specs.Edges.{IsOpCall, are_arguments}
+use Rattle.hip_code.specs.Entries.{PlaceStandsAt, entry}
 use Rattle.hip_code.specs.Frames.{names_at, names_in}
 use Rattle.hip_code.specs.Laws.CallLaws.{resolves_call}
 use Rattle.hip_code.specs.Named.{has_pointer}
@@ -30,26 +30,26 @@ use Rattle.hip_code.specs.declared.op.Call.{Call}
 use Rattle.hip_code.specs.declared.op.Control.TheVariants as controls
 use Rattle.hip_code.specs.declared.op.Op.TheVariants as ops
 use Rattle.hip_code.specs.declared.op.Move.{Move}
-use Rattle.hip_code.specs.declared.op.Operand.{Operand}
-use Rattle.hip_scope.specs.Growth.{Grows, Makes, OnlyConstants}
-use Rattle.hip_instr_ops.specs.Passed.{are_passed, Calls, Passes}
-use Rattle.hip_scope.specs.Scopes.{Describes, DoesHere, OfFunctions, StandsFor, names_of}
+use Rattle.hip_code.specs.declared.op.OpOperand.{OpOperand}
+use Rattle.hip_scope.specs.Growth.{TablesGrow, Makes, OnlyConstants}
+use Rattle.hip_instr_ops.specs.Passed.{are_passed, Calls, PassesArguments}
+use Rattle.hip_scope.specs.Scopes.{DescribesScope, DoesHere, OfFunctions, OperandStandsFor, names_of}
 use Rattle.hip_scope.specs.declared.scope.Scope.{Scope}
 use Rattle.hip_scope.proofs.Sound.{entry_block, param_number}
 use Rattle.hip_scope.proofs.Growth.{span_is, span_within, grows_on, makes_same, grows_moves}
 
-pub passes_none : (s : Scope) (t : Tables) → Passes s t t []
+pub passes_none : (s : Scope) (t : Tables) → PassesArguments s t t []
 passes_none s t = record { moves = []; are = sym (append-nil t.moves); makes = makes_same t (λ v. Unit {0}) (λ v. tt) }
 
-passed_more : (s : Scope) (t : Tables) (slot : ℕ) (ms : List Move) (xs : List Arg) (m : Move) (x : Arg) → are_passed s t slot ms xs → m.dest ≡ slot + length xs → StandsFor s t m.value x.value →
+passed_more : (s : Scope) (t : Tables) (slot : ℕ) (ms : List Move) (xs : List Arg) (m : Move) (x : Arg) → are_passed s t slot ms xs → m.dest ≡ slot + length xs → OperandStandsFor s t m.value x.value →
     are_passed s t slot (ms ++ m ∷ []) (xs ++ x ∷ [])
 passed_more s t slot [] [] m x a d h = (let l = d in omega (arith, l), h, tt)
 passed_more s t slot [] (y ∷ xs) m x a d h = absurd a
 passed_more s t slot (n ∷ ms) [] m x a d h = absurd a
 passed_more s t slot (n ∷ ms) (y ∷ xs) m x a d h = (a.0, a.1, passed_more s t (suc slot) ms xs m x a.2 (let l = d in omega (arith, l)) h)
 
-pub passes_on : (s : Scope) (t u v : Tables) (moves : List Move) (args : List Arg) (k : ℕ) (o : Operand) (dest : ℕ) (x : Arg) → Passes s t u (take k args) → Makes u v (λ w. StandsFor s w o x.value) → OnlyConstants u v →
-    dest ≡ k → moves ≡ v.moves ++ record { dest = dest; value = o } ∷ [] → k < length args → x ≡ get_or args k x → Passes s t (record v { moves = moves }) (take (k + 1) args)
+pub passes_on : (s : Scope) (t u v : Tables) (moves : List Move) (args : List Arg) (k : ℕ) (o : OpOperand) (dest : ℕ) (x : Arg) → PassesArguments s t u (take k args) → Makes u v (λ w. OperandStandsFor s w o x.value) → OnlyConstants u v →
+    dest ≡ k → moves ≡ v.moves ++ record { dest = dest; value = o } ∷ [] → k < length args → x ≡ get_or args k x → PassesArguments s t (record v { moves = moves }) (take (k + 1) args)
 passes_on s t u v moves args k o dest x p m only d e lt is = record {
   moves = p.moves ++ record { dest = dest; value = o } ∷ [];
   are = e ∙ ap (λ l. l ++ record { dest = dest; value = o } ∷ []) (only.moves ∙ p.are) ∙ append_assoc t.moves p.moves _;
@@ -75,8 +75,8 @@ passes_on s t u v moves args k o dest x p m only d e lt is = record {
     long [] (suc k) le = absurd (let q : ⊥ = omega (arith, le) in q)
     long (y ∷ xs) (suc k) le = ap suc (long xs k (omega (arith, le)))
 
-pub passes_all : (s : Scope) (t u : Tables) (args : List Arg) (k : ℕ) → length args ≤ k → Passes s t u (take k args) → Passes s t u args
-passes_all s t u args k le p = subst (Passes s t u) (all args k le) p
+pub passes_all : (s : Scope) (t u : Tables) (args : List Arg) (k : ℕ) → length args ≤ k → PassesArguments s t u (take k args) → PassesArguments s t u args
+passes_all s t u args k le p = subst (PassesArguments s t u) (all args k le) p
   where
     all : (xs : List Arg) (k : ℕ) → length xs ≤ k → take k xs ≡ xs
     all [] zero le = refl
@@ -105,17 +105,17 @@ passed_long s t k [] (x ∷ xs) a = absurd a
 passed_long s t k (m ∷ ms) [] a = absurd a
 passed_long s t k (m ∷ ms) (x ∷ xs) a = ap suc (passed_long s t (suc k) ms xs a.2)
 
-module _ (s : Scope) (t u v : Tables) (dest : Option (List ℕ)) (ret : Option Scalar) (callee : List ℕ) (args : List Arg) (call : Call) (d : Describes s) (c : Calls s.program.now callee args)
-    (number : call.function ≡ c.number) (p : Passes s t u args) (g : Grows u v) where
+module _ (s : Scope) (t u v : Tables) (dest : Option (List ℕ)) (ret : Option Scalar) (callee : List ℕ) (args : List Arg) (call : Call) (d : DescribesScope s) (c : Calls s.program.now callee args)
+    (number : call.function ≡ c.number) (p : PassesArguments s t u args) (g : TablesGrow u v) where
   called_is : names_at s.program.now c.number ≡ register_names c.function
   called_is = ap names_in c.here
 
-  placed : call.target ≡ entry s.program.now c.number 0 → StandsAt s.program.now call.target call.function 0 0
+  placed : call.target ≡ entry s.program.now c.number 0 → PlaceStandsAt s.program.now call.target call.function 0 0
   placed target =
       let first = entry_block s.program.now d.sound c.number c.function c.here in
       let there : block_at s.program.now c.number 0 ≡ Some first.0 = ap (λ o. slice_get (blocks_in o) 0) c.here ∙ first.1 in
       let nothing : entry s.program.now c.number 0 ≡ entry s.program.now c.number 0 + 0 = omega arith in
-      subst (λ n. StandsAt s.program.now call.target n 0 0) (sym number) (record { block = first.0; here = there; within = omega arith; is = target ∙ nothing })
+      subst (λ n. PlaceStandsAt s.program.now call.target n 0 0) (sym number) (record { block = first.0; here = there; within = omega arith; is = target ∙ nothing })
 
   moved : call.arguments.from ≡ length t.moves → call.arguments.count ≡ length args → entries_of call.arguments v.moves ≡ p.moves
   moved f n =
@@ -126,7 +126,7 @@ module _ (s : Scope) (t u v : Tables) (dest : Option (List ℕ)) (ret : Option S
       call.arguments.from ≡ length t.moves → call.arguments.count ≡ length args → call.pointed ≡ has_pointer args → DoesHere s v (ops.Control (controls.Call call)) (instrs.Call dest ret callee args)
   does_call target size frame result f n pointed = record { on = λ I e. resolves_call s.program.now I s.number v dest ret callee args call c.free (is_call I e) }
     where
-      is_call : (I : Input) → I.base ≡ s.base → IsCall s.program.now I s.number v call callee args dest
+      is_call : (I : Input) → I.base ≡ s.base → IsOpCall s.program.now I s.number v call callee args dest
       is_call I e = record {
         function = c.function;
         numbered = c.named ∙ ap Some (sym number);
@@ -147,7 +147,7 @@ module _ (s : Scope) (t u v : Tables) (dest : Option (List ℕ)) (ret : Option S
       }
 
 -- The number of the callee's name is the number of the function that is called.
-pub number_is : (s : Scope) (callee : List ℕ) (args : List Arg) (number : ℕ) → Describes s → (c : Calls s.program.now callee args) → number_of s.functions.now callee ≡ Some number → number ≡ c.number
+pub number_is : (s : Scope) (callee : List ℕ) (args : List Arg) (number : ℕ) → DescribesScope s → (c : Calls s.program.now callee args) → number_of s.functions.now callee ≡ Some number → number ≡ c.number
 number_is s callee args number d c e = same_Some number c.number (sym e ∙ ap (λ ns. number_of ns callee) d.functions ∙ c.named)
 
 -- The number at a place in a table of functions is that of the function.

@@ -37,10 +37,10 @@ use Rattle.hip_runs.specs.Actions.{index_value}
 use Rattle.hip_types.specs.Scalars.{width_of}
 use Rattle.hip_code.specs.Paths.{IsGep, is_gep}
 use Rattle.hip_code.specs.Resolved.{IsOperand}
-use Rattle.hip_code.specs.declared.op.Operand.TheVariants.{Register}
+use Rattle.hip_code.specs.declared.op.OpOperand.TheVariants.{Register}
 use Rattle.hip_code.specs.declared.op.Term.{Term}
-use Rattle.hip_instr_ops.specs.Far.{Steps, Enters, Reaches, Leads, is_over, leads}
-use Rattle.hip_instr_ops.specs.Fields.{IsField, IsLiteral}
+use Rattle.hip_instr_ops.specs.Far.{Steps, Enters, ReachesPart, IndicesLead, is_over, leads}
+use Rattle.hip_instr_ops.specs.Fields.{IsField, IsLiteralIndex}
 use Rattle.hip_scope.specs.Scopes.{names_of}
 use Rattle.hip_instr_ops.specs.declared.path.Path.{Path}
 use Rattle.hip_scope.specs.declared.scope.Scope.{Scope}
@@ -121,7 +121,7 @@ literal_is globals base a b is spelled =
         let same : b.width ≡ w = same_width-equal b.width w wide in
         subst (λ v. wrapped W64 (signed v (bits v b.value).value) ≡ index_of b) same (ap (λ (x : Bits). wrapped W64 (signed b.width x.value)) (bits-value b))
 
-pub enters_field : (s : Scope) (t : Ty) (a : Arg) (fs : List Ty) (number : ℕ) (field : Ty) (old new : Path) → t ≡ Struct fs → IsLiteral a.value number → slice_get fs number ≡ Some field → spelled_index a ≡ true →
+pub enters_field : (s : Scope) (t : Ty) (a : Arg) (fs : List Ty) (number : ℕ) (field : Ty) (old new : Path) → t ≡ Struct fs → IsLiteralIndex a.value number → slice_get fs number ≡ Some field → spelled_index a ≡ true →
     new.offset ≡ (old.offset + offset_of t number) % 2 ^ 64 → new.terms ≡ old.terms → Enters s t a field old new
 enters_field s t a fs number field old new is l here spelled e h = record {
   far = offset_in fs number;
@@ -158,7 +158,7 @@ over_first s constants t a far more rest o ts (inr p) h =
     let none : o ≡ far + o = (let z = p.2 in omega (arith, z)) in
     inr (p.0, ts, p.1, ap (λ l. l ++ ts) p.3, subst (λ x. leads s constants t rest x ts) none h)
 
-pub reaches_first : (s : Scope) (t : Ty) (args : List Arg) (a : Arg) (size : ℕ) (old new : Path) → a ≡ get_or args 0 a → 0 < length args → size ≡ size_of t → old.offset ≡ 0 → old.terms ≡ [] → Steps s a size old new → Reaches s t args 1 t new
+pub reaches_first : (s : Scope) (t : Ty) (args : List Arg) (a : Arg) (size : ℕ) (old new : Path) → a ≡ get_or args 0 a → 0 < length args → size ≡ size_of t → old.offset ≡ 0 → old.terms ≡ [] → Steps s a size old new → ReachesPart s t args 1 t new
 reaches_first s t [] a size old new is some sized zeroed none steps = absurd (let q : ⊥ = omega (arith, some) in q)
 reaches_first s t (x ∷ rest) a size old new is some sized zeroed none steps = record {
   whole = steps.far;
@@ -182,7 +182,7 @@ rest_is_suc (x ∷ args) (suc k) a lt is = rest_is_suc args k a (omega (arith, l
 pub rest_is : (args : List Arg) (k : ℕ) (a : Arg) → k < length args → a ≡ get_or args k a → drop k args ≡ a ∷ drop (k + 1) args
 rest_is args k a lt is = rw add-one (rest_is_suc args k a lt is)
 
-pub reaches_on : (s : Scope) (t : Ty) (args : List Arg) (k : ℕ) (a : Arg) (part inner : Ty) (old new : Path) → drop k args ≡ a ∷ drop (k + 1) args → Reaches s t args k part old → Enters s part a inner old new → Reaches s t args (k + 1) inner new
+pub reaches_on : (s : Scope) (t : Ty) (args : List Arg) (k : ℕ) (a : Arg) (part inner : Ty) (old new : Path) → drop k args ≡ a ∷ drop (k + 1) args → ReachesPart s t args k part old → Enters s part a inner old new → ReachesPart s t args (k + 1) inner new
 reaches_on s t args k a part inner old new rest r e = record {
   whole = r.whole + e.far;
   offset = e.grows.offset ∙ shifted old.offset r.whole e.far r.offset;
@@ -199,7 +199,7 @@ no_rest [] (suc k) le = refl
 no_rest (x ∷ args) zero le = absurd (let q : ⊥ = omega (arith, le) in q)
 no_rest (x ∷ args) (suc k) le = no_rest args k (omega (arith, le))
 
-pub leads_whole : (s : Scope) (t : Ty) (args : List Arg) (k : ℕ) (part : Ty) (path : Path) → length args ≤ k → Reaches s t args k part path → Leads s t args path
+pub leads_whole : (s : Scope) (t : Ty) (args : List Arg) (k : ℕ) (part : Ty) (path : Path) → length args ≤ k → ReachesPart s t args k part path → IndicesLead s t args path
 leads_whole s t args k part path le r = record {
   whole = r.whole;
   offset = r.offset;
@@ -220,7 +220,7 @@ struct_field fs x t is h = by_option (named_field fs x) refl (subst (λ u. IsSom
     by_option (Some u) e h = record { ty = u; is = e }
 
 -- If a literal index names a field, the list has a field of that number.
-pub field_there : (fs : List Ty) (x : Operand) (number : ℕ) → IsField fs x → IsLiteral x number → (t : Ty) × (slice_get fs number ≡ Some t) × (named_field fs x ≡ Some t)
+pub field_there : (fs : List Ty) (x : Operand) (number : ℕ) → IsField fs x → IsLiteralIndex x number → (t : Ty) × (slice_get fs number ≡ Some t) × (named_field fs x ≡ Some t)
 field_there fs x number f l =
     (f.ty, ap (slice_get fs) (sym l.number_is) ∙ ap (literal_field fs) (sym (out_int l.bits)) ∙ ap (named_field fs) (sym l.is) ∙ f.is, f.is)
 

@@ -6,7 +6,7 @@ use Rattle.hip_code.specs.Numbers.{Tables, entries_of, HasSpan}
 use Rattle.hip_code.specs.Paths.{IsFixed, IsScaled, IsGep, is_path}
 use Rattle.hip_code.specs.declared.op.Gep.{Gep}
 use Rattle.hip_code.specs.declared.op.Gep.TheVariants as geps
-use Rattle.hip_code.specs.declared.op.Operand.{Operand}
+use Rattle.hip_code.specs.declared.op.OpOperand.{OpOperand}
 use Rattle.hip_code.specs.declared.op.Term.{Term}
 use Rattle.hip_scope.specs.Scopes.{names_of}
 use Rattle.hip_instr_ops.specs.declared.path.Path.{Path}
@@ -20,7 +20,7 @@ is_over s constants a size far more =
     × (more ≡ term ∷ []))
 
 -- The path grows by an offset, modulo 2^64, and by terms.
-pub record GoesOn (old new : Path) (far : ℕ) (more : List Term) : Type 0 where
+pub record PathGrows (old new : Path) (far : ℕ) (more : List Term) : Type 0 where
   pub offset : new.offset % 2 ^ 64 ≡ (old.offset + far) % 2 ^ 64
   pub terms : new.terms ≡ old.terms ++ more
 
@@ -28,7 +28,7 @@ pub record GoesOn (old new : Path) (far : ℕ) (more : List Term) : Type 0 where
 pub record Steps (s : Scope) (a : Arg) (size : ℕ) (old new : Path) : Type 0 where
   pub far : ℕ
   pub more : List Term
-  pub grows : GoesOn old new far more
+  pub grows : PathGrows old new far more
   pub over : (constants : List ℕ) → is_over s constants a size far more
 
 -- Indices after the first one add this offset and these terms, from the start of a value of the type on.
@@ -40,13 +40,13 @@ leads s constants t args offset terms = is_path s.program.now.globals s.base (na
 pub record Enters (s : Scope) (t : Ty) (a : Arg) (part : Ty) (old new : Path) : Type 0 where
   pub far : ℕ
   pub more : List Term
-  pub grows : GoesOn old new far more
+  pub grows : PathGrows old new far more
   pub on : (constants : List ℕ) (rest : List Arg) (offset : ℕ) (terms : List Term) →
       leads s constants part rest offset terms → leads s constants t (a ∷ rest) (far + offset) (more ++ terms)
 
 -- The indices before number k lead to a part: if the indices from number k on lead on from this part, all indices lead
 -- from the start.
-pub record Reaches (s : Scope) (t : Ty) (args : List Arg) (k : ℕ) (part : Ty) (path : Path) : Type 0 where
+pub record ReachesPart (s : Scope) (t : Ty) (args : List Arg) (k : ℕ) (part : Ty) (path : Path) : Type 0 where
   pub whole : ℕ
   pub offset : path.offset % 2 ^ 64 ≡ whole % 2 ^ 64
   pub on : (constants : List ℕ) (offset : ℕ) (terms : List Term)
@@ -54,7 +54,7 @@ pub record Reaches (s : Scope) (t : Ty) (args : List Arg) (k : ℕ) (part : Ty) 
       IsGep s.program.now.globals s.base (names_of s) constants t args (whole + offset) (path.terms ++ terms)
 
 -- All indices lead as far as the path says.
-pub record Leads (s : Scope) (t : Ty) (args : List Arg) (path : Path) : Type 0 where
+pub record IndicesLead (s : Scope) (t : Ty) (args : List Arg) (path : Path) : Type 0 where
   pub whole : ℕ
   pub offset : path.offset % 2 ^ 64 ≡ whole % 2 ^ 64
   pub is : (constants : List ℕ) →
@@ -62,7 +62,7 @@ pub record Leads (s : Scope) (t : Ty) (args : List Arg) (path : Path) : Type 0 w
 
 -- The op gives the address at an offset from a base, plus terms: without terms, with one term of its own, or with terms
 -- in the table.
-abbrev pub is_address : Tables → Operand → ℕ → List Term → Gep → Type 0
+abbrev pub is_address : Tables → OpOperand → ℕ → List Term → Gep → Type 0
 is_address t base offset terms (geps.Fixed b o) = (b ≡ base) × (o ≡ offset) × (terms ≡ [])
 is_address t base offset terms (geps.Scaled b index width scale o) =
     (b ≡ base) × (o ≡ offset) × (terms ≡ record { index = index; width = width; scale = scale } ∷ [])
@@ -70,5 +70,5 @@ is_address t base offset terms (geps.Terms b o span) =
     (b ≡ base) × (o ≡ offset) × HasSpan span t.terms × (entries_of span t.terms ≡ terms)
 
 -- The op gives the address at an offset from a base, plus terms, in one of its three forms.
-pub record IsAddress (t : Tables) (base : Operand) (offset : ℕ) (terms : List Term) (gep : Gep) : Type 0 where
+pub record IsAddress (t : Tables) (base : OpOperand) (offset : ℕ) (terms : List Term) (gep : Gep) : Type 0 where
   pub is : is_address t base offset terms gep

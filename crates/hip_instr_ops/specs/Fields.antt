@@ -14,7 +14,7 @@ pub record IsField (fields : List Ty) (index : Operand) : Type 0 where
   pub is : named_field fields index ≡ Some ty
 
 -- The index is the literal of that number.
-pub record IsLiteral (index : Operand) (number : ℕ) : Type 0 where
+pub record IsLiteralIndex (index : Operand) (number : ℕ) : Type 0 where
   pub bits : Bits
   pub is : index ≡ Fixed (Int bits)
   pub number_is : index_of bits ≡ number

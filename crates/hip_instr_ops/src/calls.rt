@@ -5,8 +5,8 @@ ghost use Rattle.hip_tree.specs.declared.instr.Instr.TheVariants as instrs;
 ghost use Rattle.hip_scope.specs.Grown.{grown};
 ghost use Rattle.hip_scope.specs.Growth.{Makes};
 ghost use Rattle.hip_scope.specs.Known.{ArgsKnown, ResultKnown};
-ghost use Rattle.hip_instr_ops.specs.Passed.{Calls, Passes};
-ghost use Rattle.hip_scope.specs.Scopes.{Describes, DoesHere, names_of};
+ghost use Rattle.hip_instr_ops.specs.Passed.{Calls, PassesArguments};
+ghost use Rattle.hip_scope.specs.Scopes.{DescribesScope, DoesHere, names_of};
 
 use crate::externs::result_slot;
 use hip_code::{Call, Control, Move, Op, Span};
@@ -16,9 +16,9 @@ use hip_types::{Name, NoMemory, Scalar};
 
 /// Moves of arguments into the slots of parameters, which are the first ones of the callee.
 fn arguments(scope: &Scope<'_, '_>, tables: &mut Growing, args: &[Arg]) -> Result<(), NoMemory>
-    requires scope { Describes scope.now }
+    requires scope { DescribesScope scope.now }
     requires known { ArgsKnown (names_of scope.now) args.now }
-    ensures { IfOk result (λ _. Passes scope.now (grown tables.old) (grown tables.new) args.now) }
+    ensures { IfOk result (λ _. PassesArguments scope.now (grown tables.old) (grown tables.new) args.now) }
 {
     'passing: for number in 0..args.len() {
         let arg = &args[number];
@@ -44,7 +44,7 @@ pub fn call(
     callee: &Name,
     args: &[Arg],
 ) -> Result<Op, NoMemory>
-    requires scope { Describes scope.now }
+    requires scope { DescribesScope scope.now }
     requires dest { ResultKnown (names_of scope.now) dest.now }
     requires known { ArgsKnown (names_of scope.now) args.now }
     requires calls { Calls scope.now.program.now callee.now args.now }

@@ -8,9 +8,9 @@ ghost use Rattle.hip_instr_ops.specs.Effects.{StandsForArg};
 ghost use Rattle.hip_scope.specs.Grown.{grown};
 ghost use Rattle.hip_scope.specs.Growth.{Makes};
 ghost use Rattle.hip_scope.specs.Known.{ArgsKnown, ResultKnown};
-ghost use Rattle.hip_scope.specs.Scopes.{Describes, DoesHere, names_of};
+ghost use Rattle.hip_scope.specs.Scopes.{DescribesScope, DoesHere, names_of};
 
-use hip_code::{Effect, Memory, Op, Operand, Outside, Persistence};
+use hip_code::{Effect, Memory, Op, OpOperand, Outside, Persistence};
 use hip_externs::{ExternCall, LineEffect};
 use hip_scope::{Growing, Scope, operand, slot};
 use hip_tree::Arg;
@@ -18,7 +18,7 @@ use hip_types::{Name, NoMemory, Scalar};
 
 /// Where the result of a call goes.
 pub fn result_slot(scope: &Scope<'_, '_>, dest: &Option<Name>) -> Result<Option<u32>, NoMemory>
-    requires scope { Describes scope.now }
+    requires scope { DescribesScope scope.now }
     requires known { ResultKnown (names_of scope.now) dest.now }
     ensures { IfOk result (λ slot. is_result (names_of scope.now) slot dest.now) }
 {
@@ -38,14 +38,14 @@ fn argument(
     tables: &mut Growing,
     args: &[Arg],
     index: usize,
-) -> Result<Operand, NoMemory>
-    requires scope { Describes scope.now }
+) -> Result<OpOperand, NoMemory>
+    requires scope { DescribesScope scope.now }
     requires known { ArgsKnown (names_of scope.now) args.now }
     ensures { IfOk result (λ o. Makes (grown tables.old) (grown tables.new)
         (λ t. StandsForArg scope.now t o args.now index)) }
 {
     if index >= args.len() {
-        return Ok(Operand::Register(0));
+        return Ok(OpOperand::Register(0));
     }
     let arg = &args[index];
     let argument = operand(scope, tables, &arg.value)?;
@@ -54,7 +54,7 @@ fn argument(
 
 /// What a function does to cache lines, by its effect on them and its parameters, with two arguments; the function may
 /// take fewer.
-fn persistence(effect: LineEffect, params: &[Scalar], a: Operand, b: Operand) -> Persistence
+fn persistence(effect: LineEffect, params: &[Scalar], a: OpOperand, b: OpOperand) -> Persistence
     ensures { result ≡ ops.line_op effect params.now a b }
 {
     match effect {
@@ -77,7 +77,7 @@ fn persistence(effect: LineEffect, params: &[Scalar], a: Operand, b: Operand) ->
 
 /// What a call of an external function does, with the slot of its result and two arguments; the function may take
 /// fewer.
-fn effect(call: ExternCall, dest: Option<u32>, a: Operand, b: Operand) -> Effect
+fn effect(call: ExternCall, dest: Option<u32>, a: OpOperand, b: OpOperand) -> Effect
     ensures { result ≡ ops.extern_op call dest a b }
 {
     match call {
@@ -99,7 +99,7 @@ pub fn extern_call(
     call: ExternCall,
     args: &[Arg],
 ) -> Result<Op, NoMemory>
-    requires scope { Describes scope.now }
+    requires scope { DescribesScope scope.now }
     requires dest { ResultKnown (names_of scope.now) dest.now }
     requires known { ArgsKnown (names_of scope.now) args.now }
     requires named { call_of callee.now ≡ Some call }

@@ -9,10 +9,10 @@ ghost use Rattle.hip_instr_ops.specs.Far.{IsAddress};
 ghost use Rattle.hip_scope.specs.Grown.{grown};
 ghost use Rattle.hip_scope.specs.Growth.{Makes};
 ghost use Rattle.hip_scope.specs.Known.{ArgsKnown, OperandKnown};
-ghost use Rattle.hip_scope.specs.Scopes.{Describes, DoesHere, names_of};
+ghost use Rattle.hip_scope.specs.Scopes.{DescribesScope, DoesHere, names_of};
 
 use crate::path::path_of;
-use hip_code::{Gep, Op, Operand, Span, Term, Value};
+use hip_code::{Gep, Op, OpOperand, Span, Term, Value};
 use hip_scope::{Growing, Scope, operand, place, slot};
 use hip_tree::Arg;
 use hip_types::{Name, NoMemory, Ty};
@@ -20,7 +20,7 @@ use hip_types::{Name, NoMemory, Ty};
 /// An address with terms, which are put into the table.
 fn with_terms(
     tables: &mut Growing,
-    base: Operand,
+    base: OpOperand,
     offset: u64,
     terms: &[Term],
 ) -> Result<Gep, NoMemory>
@@ -40,7 +40,7 @@ fn with_terms(
 /// An address: a base, and how far indices lead from it.
 fn address(
     tables: &mut Growing,
-    base: Operand,
+    base: OpOperand,
     offset: u64,
     terms: &[Term],
 ) -> Result<Gep, NoMemory>
@@ -73,7 +73,7 @@ pub fn gep(
     base: &hip_tree::Operand,
     indices: &[Arg],
 ) -> Result<Op, NoMemory>
-    requires scope { Describes scope.now }
+    requires scope { DescribesScope scope.now }
     requires dest { IsAmong (names_of scope.now) dest.now }
     requires base { OperandKnown (names_of scope.now) base.now }
     requires known { ArgsKnown (names_of scope.now) indices.now }

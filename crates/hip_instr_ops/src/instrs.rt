@@ -6,7 +6,7 @@ ghost use Rattle.hip_instr_ops.specs.Kinds.{IsValue};
 ghost use Rattle.hip_scope.specs.Grown.{grown};
 ghost use Rattle.hip_scope.specs.Growth.{Makes};
 ghost use Rattle.hip_scope.specs.Known.{ArgsKnown, InstrKnown, ResultKnown};
-ghost use Rattle.hip_scope.specs.Scopes.{Describes, DoesHere, names_of};
+ghost use Rattle.hip_scope.specs.Scopes.{DescribesScope, DoesHere, names_of};
 
 use crate::calls::call;
 use crate::externs::extern_call;
@@ -27,7 +27,7 @@ fn any_call(
     callee: &Name,
     args: &[Arg],
 ) -> Result<Op, NoMemory>
-    requires scope { Describes scope.now }
+    requires scope { DescribesScope scope.now }
     requires dest { ResultKnown (names_of scope.now) dest.now }
     requires known { ArgsKnown (names_of scope.now) args.now }
     requires callee { (ret : Option Scalar) × (CallsFunction scope.now.program.now callee.now ret args.now
@@ -43,7 +43,7 @@ fn any_call(
 
 /// The op of an instruction that computes a value.
 fn value_op(scope: &Scope<'_, '_>, tables: &mut Growing, instr: &Instr) -> Result<Op, NoMemory>
-    requires scope { Describes scope.now }
+    requires scope { DescribesScope scope.now }
     requires known { InstrKnown scope.now.program.now (names_of scope.now) instr.now }
     requires value { IsValue instr.now }
     ensures { IfOk result (λ o. Makes (grown tables.old) (grown tables.new) (λ t. DoesHere scope.now t o instr.now)) }
@@ -90,7 +90,7 @@ fn value_op(scope: &Scope<'_, '_>, tables: &mut Growing, instr: &Instr) -> Resul
 
 /// The op of an instruction.
 pub fn instr_op(scope: &Scope<'_, '_>, tables: &mut Growing, instr: &Instr) -> Result<Op, NoMemory>
-    requires scope { Describes scope.now }
+    requires scope { DescribesScope scope.now }
     requires known { InstrKnown scope.now.program.now (names_of scope.now) instr.now }
     ensures { IfOk result (λ o. Makes (grown tables.old) (grown tables.new) (λ t. DoesHere scope.now t o instr.now)) }
 {

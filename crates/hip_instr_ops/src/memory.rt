@@ -8,7 +8,7 @@ ghost use Rattle.hip_code.specs.Numbers.{Tables};
 ghost use Rattle.hip_scope.specs.Grown.{grown};
 ghost use Rattle.hip_scope.specs.Growth.{Makes};
 ghost use Rattle.hip_scope.specs.Known.{OperandKnown};
-ghost use Rattle.hip_scope.specs.Scopes.{Describes, DoesHere, names_of};
+ghost use Rattle.hip_scope.specs.Scopes.{DescribesScope, DoesHere, names_of};
 
 use crate::values::width_of;
 use hip_code::{Effect, Memory, Op};
@@ -45,7 +45,7 @@ pub fn load(
     addr: &hip_tree::Operand,
     written: Option<u64>,
 ) -> Result<Op, NoMemory>
-    requires scope { Describes scope.now }
+    requires scope { DescribesScope scope.now }
     requires dest { IsAmong (names_of scope.now) dest.now }
     requires addr { OperandKnown (names_of scope.now) addr.now }
     requires written { 0 < spec.access_align ty written }
@@ -70,7 +70,7 @@ pub fn store(
     addr: &hip_tree::Operand,
     written: Option<u64>,
 ) -> Result<Op, NoMemory>
-    requires scope { Describes scope.now }
+    requires scope { DescribesScope scope.now }
     requires value { OperandKnown (names_of scope.now) value.now }
     requires addr { OperandKnown (names_of scope.now) addr.now }
     requires written { 0 < spec.access_align ty written }
@@ -103,7 +103,7 @@ fn small_align(ty: &Ty) -> u32
 }
 
 pub fn alloca(scope: &Scope<'_, '_>, dest: &Name, ty: &Ty) -> Result<Op, NoMemory>
-    requires scope { Describes scope.now }
+    requires scope { DescribesScope scope.now }
     requires dest { IsAmong (names_of scope.now) dest.now }
     requires fits { Fits ty.now }
     ensures { IfOk result (λ o. (t : Tables) (written : Option ℕ)

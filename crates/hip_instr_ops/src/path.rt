@@ -7,14 +7,14 @@ ghost use Rattle.std.specs.List.{list_all};
 ghost use Rattle.hip_sound.specs.Places.{entered_by, gep_agrees};
 ghost use Rattle.hip_globals.specs.Values.{const_value};
 ghost use Rattle.hip_runs.specs.Actions.{index_value};
-ghost use Rattle.hip_instr_ops.specs.Far.{Enters, Leads, Steps};
-ghost use Rattle.hip_instr_ops.specs.Fields.{IsField, IsLiteral};
+ghost use Rattle.hip_instr_ops.specs.Far.{Enters, IndicesLead, Steps};
+ghost use Rattle.hip_instr_ops.specs.Fields.{IsField, IsLiteralIndex};
 ghost use Rattle.hip_scope.specs.Known.{ArgsKnown, OperandKnown};
-ghost use Rattle.hip_scope.specs.Scopes.{Describes, names_of};
+ghost use Rattle.hip_scope.specs.Scopes.{DescribesScope, names_of};
 
 use crate::memory::small_size;
 use crate::values::width_of;
-use hip_code::{Operand, Term, extend};
+use hip_code::{OpOperand, Term, extend};
 use hip_globals::index;
 use hip_scope::{Scope, slot};
 use hip_tree::{Arg, Const};
@@ -29,7 +29,7 @@ pub struct Path {
 
 /// The number of a constant index, sign-extended to 64 bits.
 fn literal(scope: &Scope<'_, '_>, arg: &Arg, value: &Const) -> Result<u64, NoMemory>
-    requires scope { Describes scope.now }
+    requires scope { DescribesScope scope.now }
     requires known { OperandKnown (names_of scope.now) (operands.Fixed value.now) }
     ensures { IfOk result (λ n. n ≡ index_value arg.now.ty
         (const_value scope.now.program.now.globals scope.now.base value.now)) }
@@ -40,7 +40,7 @@ fn literal(scope: &Scope<'_, '_>, arg: &Arg, value: &Const) -> Result<u64, NoMem
 
 /// Steps over values of a size: as many as the index says.
 fn step_over(scope: &Scope<'_, '_>, path: &mut Path, arg: &Arg, size: u32) -> Result<(), NoMemory>
-    requires scope { Describes scope.now }
+    requires scope { DescribesScope scope.now }
     requires known { OperandKnown (names_of scope.now) arg.now.value }
     ensures { IfOk result (λ _. Steps scope.now arg.now size path.old path.new) }
 {
@@ -53,7 +53,7 @@ fn step_over(scope: &Scope<'_, '_>, path: &mut Path, arg: &Arg, size: u32) -> Re
             Ok(())
         }
         hip_tree::Operand::Reg(name) => {
-            let index = Operand::Register(slot(scope, name)?);
+            let index = OpOperand::Register(slot(scope, name)?);
             let width = width_of(arg.ty);
             let scale = size;
             path.terms.push(Term {
@@ -69,7 +69,7 @@ fn step_over(scope: &Scope<'_, '_>, path: &mut Path, arg: &Arg, size: u32) -> Re
 /// The number of the field that an index names.
 fn field_number(fields: &[Ty], arg: &Arg) -> usize
     requires { IsField fields.now arg.now.value }
-    ensures { IsLiteral arg.now.value result }
+    ensures { IsLiteralIndex arg.now.value result }
 {
     match &arg.value {
         hip_tree::Operand::Fixed(value) => match value {
@@ -87,7 +87,7 @@ fn enter<'t>(
     part: &'t Ty,
     arg: &Arg,
 ) -> Result<&'t Ty, NoMemory>
-    requires scope { Describes scope.now }
+    requires scope { DescribesScope scope.now }
     requires known { OperandKnown (names_of scope.now) arg.now.value }
     requires spelled { spelled_index arg.now ≡ true }
     requires fits { Fits part.now }
@@ -119,12 +119,12 @@ fn enter<'t>(
 
 /// How far the indices of a `getelementptr` lead.
 pub fn path_of(scope: &Scope<'_, '_>, ty: &Ty, indices: &[Arg]) -> Result<Path, NoMemory>
-    requires scope { Describes scope.now }
+    requires scope { DescribesScope scope.now }
     requires known { ArgsKnown (names_of scope.now) indices.now }
     requires spelled { list_all spelled_index indices.now ≡ true }
     requires fits { Fits ty.now }
     requires agrees { gep_agrees indices.now ty.now ≡ true }
-    ensures { IfOk result (λ path. Leads scope.now ty.now indices.now path) }
+    ensures { IfOk result (λ path. IndicesLead scope.now ty.now indices.now path) }
 {
     let mut path = Path {
         offset: 0,

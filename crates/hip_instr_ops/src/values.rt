@@ -7,10 +7,10 @@ ghost use Rattle.hip_code.specs.Translated as ops;
 ghost use Rattle.hip_scope.specs.Grown.{grown};
 ghost use Rattle.hip_scope.specs.Growth.{Makes};
 ghost use Rattle.hip_scope.specs.Known.{OperandKnown};
-ghost use Rattle.hip_scope.specs.Scopes.{Describes, DoesHere, names_of};
+ghost use Rattle.hip_scope.specs.Scopes.{DescribesScope, DoesHere, names_of};
 
 use hip_code::{
-    BitOp, Comparison, DivisionOp, IntegerOp, Op, Operand, Other, Rest, ShiftOp, SumOp, Value,
+    BitOp, Comparison, DivisionOp, IntegerOp, Op, OpOperand, Other, Rest, ShiftOp, SumOp, Value,
 };
 use hip_scope::{Growing, Scope, operand, slot};
 use hip_types::{BinaryOp, CastOp, Name, NoMemory, Pred, Scalar, Width};
@@ -39,20 +39,20 @@ pub fn width_of(ty: Scalar) -> Width
     }
 }
 
-fn division(signed: bool, rest: bool, width: Width, a: Operand, b: Operand) -> Value
+fn division(signed: bool, rest: bool, width: Width, a: OpOperand, b: OpOperand) -> Value
     ensures { result ≡ ops.division_value signed rest width a b }
 {
     let op = DivisionOp { signed, rest };
     Value::Rest(Rest::Other(Other::Divide { op, width, a, b }))
 }
 
-fn integer(op: IntegerOp, width: Width, a: Operand, b: Operand) -> Value
+fn integer(op: IntegerOp, width: Width, a: OpOperand, b: OpOperand) -> Value
     ensures { result ≡ ops.integer_value op width a b }
 {
     Value::Integer { op, width, a, b }
 }
 
-fn binary_value(op: BinaryOp, width: Width, a: Operand, b: Operand) -> Value
+fn binary_value(op: BinaryOp, width: Width, a: OpOperand, b: OpOperand) -> Value
     ensures { result ≡ ops.binary_value op width a b }
 {
     match op {
@@ -72,7 +72,7 @@ fn binary_value(op: BinaryOp, width: Width, a: Operand, b: Operand) -> Value
     }
 }
 
-fn compares(test: Comparison, negated: bool, width: Width, a: Operand, b: Operand) -> Rest
+fn compares(test: Comparison, negated: bool, width: Width, a: OpOperand, b: OpOperand) -> Rest
     ensures { result ≡ ops.compares test negated width a b }
 {
     Rest::Compare {
@@ -86,7 +86,7 @@ fn compares(test: Comparison, negated: bool, width: Width, a: Operand, b: Operan
 
 /// The comparison for a predicate. "Greater" is "less" with the operands exchanged, "at least" is "less" negated, and
 /// "at most" is "less" with the operands exchanged and negated.
-fn comparison(pred: Pred, width: Width, a: Operand, b: Operand) -> Rest
+fn comparison(pred: Pred, width: Width, a: OpOperand, b: OpOperand) -> Rest
     ensures { result ≡ ops.compare_op pred width a b }
 {
     match pred {
@@ -103,7 +103,7 @@ fn comparison(pred: Pred, width: Width, a: Operand, b: Operand) -> Rest
     }
 }
 
-fn conversion(op: CastOp, from: Width, to: Width, a: Operand) -> Rest
+fn conversion(op: CastOp, from: Width, to: Width, a: OpOperand) -> Rest
     ensures { result ≡ ops.cast_op op from to a }
 {
     let signed = match op {
@@ -129,7 +129,7 @@ pub fn binary(
     width: Width,
     operands: &Operands<'_>,
 ) -> Result<Op, NoMemory>
-    requires scope { Describes scope.now }
+    requires scope { DescribesScope scope.now }
     requires dest { IsAmong (names_of scope.now) dest.now }
     requires a { OperandKnown (names_of scope.now) operands.now.a.now }
     requires b { OperandKnown (names_of scope.now) operands.now.b.now }
@@ -151,7 +151,7 @@ pub fn compare(
     ty: Scalar,
     operands: &Operands<'_>,
 ) -> Result<Op, NoMemory>
-    requires scope { Describes scope.now }
+    requires scope { DescribesScope scope.now }
     requires dest { IsAmong (names_of scope.now) dest.now }
     requires a { OperandKnown (names_of scope.now) operands.now.a.now }
     requires b { OperandKnown (names_of scope.now) operands.now.b.now }
@@ -172,7 +172,7 @@ pub fn select(
     test: &hip_tree::Operand,
     operands: &Operands<'_>,
 ) -> Result<Op, NoMemory>
-    requires scope { Describes scope.now }
+    requires scope { DescribesScope scope.now }
     requires dest { IsAmong (names_of scope.now) dest.now }
     requires test { OperandKnown (names_of scope.now) test.now }
     requires a { OperandKnown (names_of scope.now) operands.now.a.now }
@@ -196,7 +196,7 @@ pub fn cast(
     a: &hip_tree::Operand,
     types: CastTypes,
 ) -> Result<Op, NoMemory>
-    requires scope { Describes scope.now }
+    requires scope { DescribesScope scope.now }
     requires dest { IsAmong (names_of scope.now) dest.now }
     requires a { OperandKnown (names_of scope.now) a.now }
     ensures { IfOk result (λ o. Makes (grown tables.old) (grown tables.new)

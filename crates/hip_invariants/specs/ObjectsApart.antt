@@ -26,7 +26,7 @@ SlotHas frames j x a = (slice_get (slots_of frames) j ≡ Some x) × (range_cont
 -- Two globals that contain the same address are the same global, and two blocks of these frames that contain the same
 -- address are the same block. No global and block contain the same address. The object that an address points into is
 -- the one that contains it. (This project's own.)
-pub record AreApart (P : Program) (base : ℕ) (frames : List Frame) : Type 0 where
+pub record ObjectsAreApart (P : Program) (base : ℕ) (frames : List Frame) : Type 0 where
   pub globals : (j k a : ℕ) (g h : GlobalVar) → GlobalHas P base j g a → GlobalHas P base k h a → j ≡ k
   pub slots : (j k a : ℕ) (x y : Slot) → SlotHas frames j x a → SlotHas frames k y a → j ≡ k
   pub kinds : (j k a : ℕ) (g : GlobalVar) (x : Slot) → GlobalHas P base k g a → ¬ SlotHas frames j x a

@@ -26,7 +26,7 @@ use Rattle.hip_names.specs.Names.{number_of}
 use Rattle.hip_globals.specs.Addresses.{is_persistent}
 use Rattle.hip_globals.specs.Constants.{index_of}
 use Rattle.hip_externs.specs.Externs.{call_of}
-use Rattle.hip_sound.specs.Numbering.{function_number}
+use Rattle.hip_sound.specs.NumberedNames.{function_number}
 use Rattle.hip_sound.specs.Sound.{IsBlockAt}
 use Rattle.hip_externs.specs.declared.call.ExternCall.TheVariants as calls
 use Rattle.hip_runs.specs.Actions.{index_value}

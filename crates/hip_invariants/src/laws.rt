@@ -11,7 +11,7 @@ ghost use Rattle.hip_runs.specs.Validity.{IsValid};
 ghost use Rattle.hip_runs.specs.declared.input.Input.{Input};
 ghost use Rattle.hip_invariants.specs.Bounds.{CountsFit, IsBounded};
 ghost use Rattle.hip_invariants.specs.NeverStuck.{IsNeverStuck};
-ghost use Rattle.hip_invariants.specs.ObjectsApart.{AreApart};
+ghost use Rattle.hip_invariants.specs.ObjectsApart.{ObjectsAreApart};
 ghost use Rattle.hip_invariants.specs.PointerLevels.{IsClosed, Levels, RegistersAreWithin};
 ghost use Rattle.hip_invariants.specs.StackShape.{StackIsShaped};
 ghost use Rattle.hip_invariants.specs.Types.{AreUncut, CodeFits, OperandsFit, RegistersFit};
@@ -58,7 +58,7 @@ pub fn stack_keeps_its_shape()
 /// stack, or a global and a block. The object that an address points into is the one that contains it.
 pub fn objects_are_apart()
     ensures { (P : Program) → IsSound P → (I : Input) → IsValid P I → (n : ℕ)
-        → AreApart P I.base (run P I n).frames }
+        → ObjectsAreApart P I.base (run P I n).frames }
 {}
 
 /// A run has at most as many steps as its limit of turns plus one, times the longest body with its end, and at most one

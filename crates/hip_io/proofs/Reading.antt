@@ -5,7 +5,7 @@ use Rattle.std.proofs.lemmas.List.{length-take-le}
 use Rattle.std.specs.Prelude.{IfSome}
 use Rattle.hip_io.specs.Cabinets.{CabinetState, HasGot, IsFetched, IsFirstFile}
 use Rattle.hip_io.specs.Counts.{Rose}
-use Rattle.hip_io.specs.Reads.{HasTakenAll, HasTakenPart, HasStopped, HasTakenRest, HasTakenTooMuch, HasReadRest, IsPartTaken, IsWholeFile, IsLongFile, HasBegun, HasReadWhole, HasReadTooMuch, HasRead}
+use Rattle.hip_io.specs.Reads.{HasTakenAll, HasTakenPart, ReadHasStopped, HasTakenRest, HasTakenTooMuch, HasReadRest, IsPartTaken, IsWholeFile, IsLongFile, HasBegun, HasReadWhole, HasReadTooMuch, HasRead}
 use Rattle.hip_io.specs.declared.cabinet.NamedFile.{NamedFile}
 use Rattle.hip_io.specs.declared.read.ReadRefusal.{ReadRefusal}
 use Rattle.hip_io.specs.declared.read.ReadRefusal.TheVariants as refusals
@@ -15,7 +15,7 @@ both_pieces xs ys old mid None p q = p ∙ ap (option_map (λ rest. xs ++ rest))
 both_pieces xs ys old mid (Some rest) p q = p ∙ ap (option_map (λ rest. xs ++ rest)) q ∙ ap (λ (zs : List ℕ). Some zs) (sym (append_assoc xs ys rest))
 
 -- Memory ran out for the piece that came last.
-pub stopped : (old mid new : CabinetState) (limit n : ℕ) (bytes buffer : List ℕ) → HasTakenAll old mid bytes → HasGot mid new buffer n → length bytes + n ≤ limit + 1 → HasStopped old new limit
+pub stopped : (old mid new : CabinetState) (limit n : ℕ) (bytes buffer : List ℕ) → HasTakenAll old mid bytes → HasGot mid new buffer n → length bytes + n ≤ limit + 1 → ReadHasStopped old new limit
 stopped old mid new limit n bytes buffer h k le = record {
   part = record {
     bytes = bytes ++ take n buffer;

@@ -9,7 +9,7 @@ use Rattle.hip_io.specs.declared.cabinet.Taken.{Taken}
 use Rattle.hip_io.specs.declared.cabinet.Taken.TheVariants.{Got, End, Failed}
 use Rattle.hip_io.specs.declared.failing_cabinet.FailAt.{FailAt}
 use Rattle.hip_io.specs.declared.failing_cabinet.FailAt.TheVariants.{Fetch, Byte}
-use Rattle.hip_io.specs.declared.mem_cabinet.Place.{Place}
+use Rattle.hip_io.specs.declared.mem_cabinet.ReadPlace.{ReadPlace}
 
 -- A file that is read: its name, and what is left of it.
 pub record OpenFile : Type 0 where
@@ -59,7 +59,7 @@ mem_sink_state m = record { bytes = Some m.bytes; faults = m.faults }
 
 -- The file that is open in a cabinet. The code keeps it as the file's number and the number of its bytes that were
 -- taken.
-abbrev pub open_file : List NamedFile → Option Place → Option OpenFile
+abbrev pub open_file : List NamedFile → Option ReadPlace → Option OpenFile
 open_file files place =
     option_and_then
     (λ p. option_map (λ f. record { name = f.name; rest = drop p.taken f.bytes }) (slice_get files p.file))

@@ -114,7 +114,7 @@ pub record HasFailedRest (old new : CabinetState) (limit : ℕ) : Type 0 where
   pub rose : Rose old.faults new.faults
 
 -- Memory ran out: at most one byte more than the limit was taken, and no fault was counted.
-pub record HasStopped (old new : CabinetState) (limit : ℕ) : Type 0 where
+pub record ReadHasStopped (old new : CabinetState) (limit : ℕ) : Type 0 where
   pub part : HasTakenPart old new limit
   pub faults : new.faults ≡ old.faults
 
@@ -124,4 +124,4 @@ HasReadRest old new limit (Ok bytes) = HasTakenRest old new limit bytes
 HasReadRest old new limit (Err refusals.Missing) = ⊥
 HasReadRest old new limit (Err refusals.ReadFault) = HasFailedRest old new limit
 HasReadRest old new limit (Err refusals.TooLarge) = HasTakenTooMuch old new limit
-HasReadRest old new limit (Err refusals.NoMemory) = HasStopped old new limit
+HasReadRest old new limit (Err refusals.NoMemory) = ReadHasStopped old new limit

@@ -8,7 +8,7 @@ use std::marker::Model;
 
 /// The place of a reader: the number of its file, and how many bytes of the file were taken.
 #[derive(Clone, Copy)]
-pub struct Place {
+pub struct ReadPlace {
     pub file: usize,
     pub taken: usize,
 }
@@ -18,7 +18,7 @@ pub struct Place {
 pub struct MemCabinet {
     files: Row<NamedFile>,
     chunk: usize,
-    place: Option<Place>,
+    place: Option<ReadPlace>,
     fetches: u64,
     misses: u64,
 }
@@ -89,7 +89,7 @@ impl Cabinet for MemCabinet {
         self.fetches = self.fetches.saturating_add(1);
         match position_of(self.files.as_slice(), name.as_bytes()) {
             Some(file) => {
-                self.place = Some(Place { file, taken: 0 });
+                self.place = Some(ReadPlace { file, taken: 0 });
                 Fetched::Ready
             }
             None => {
@@ -117,7 +117,7 @@ impl Cabinet for MemCabinet {
             return Taken::End;
         }
         let count = copy_some(rest, self.chunk, buf);
-        self.place = Some(Place {
+        self.place = Some(ReadPlace {
             file: place.file,
             taken: place.taken + count,
         });
@@ -126,7 +126,7 @@ impl Cabinet for MemCabinet {
 }
 
 /// The bytes that are not taken yet.
-fn rest_of(files: &Row<NamedFile>, place: Place) -> &[u8]
+fn rest_of(files: &Row<NamedFile>, place: ReadPlace) -> &[u8]
     requires { IsSome (open_file files.now (Some place)) }
     ensures rest { option_map (λ file. file.rest) (open_file files.now (Some place)) ≡ Some result.now }
     ensures within { place.taken + length result.now < 2 ^ 64 ⊎ (result.now ≡ []) }

@@ -11,8 +11,8 @@ use Rattle.hip_lines.specs.declared.part.Part.{Part}
 use Rattle.hip_lines.specs.declared.queue.Queue.{Queue}
 use Rattle.hip_lines.specs.declared.queues.Queues.{Queues}
 use Rattle.hip_lines.specs.Pending.{Pending, none_pending, pending_fenced}
-use Rattle.hip_lines.specs.Queues.{pending_in, HasRoom}
-use Rattle.hip_lines.specs.Places.{at_place, queue_in, ArePlaced, KeepsOthers, ChangesPlace, IsFreshAt, IsFresh}
+use Rattle.hip_lines.specs.Queues.{pending_in, QueueHasRoom}
+use Rattle.hip_lines.specs.Places.{at_place, queue_in, QueuesArePlaced, KeepsOthers, ChangesPlace, IsFreshAt, IsFresh}
 use Rattle.hip_lines.specs.Kept.{queue_at, count_of, pending_by, pending_at, HasRoomBy, HasRoomAt, AreBelow, ChangesLine, GivesQueue}
 
 none_some : {A : Type 0} (x : A) (o : Option A) → o ≡ None → o ≡ Some x → ⊥
@@ -33,7 +33,7 @@ set-here qs place q r lt e = some_same q r (sym (get-set_same qs place q lt) ∙
 pub keeps-set : (qs : List Queue) (place : ℕ) (q : Queue) → KeepsOthers place qs (slice_set qs place q)
 keeps-set qs place q = record { others = λ k ne. get-set_other qs place k q ne; least = omega (arith, length-set qs place q); most = omega (arith, length-set qs place q) }
 
-pub fresh-set : (n : ℕ) (qs : List Queue) (place : ℕ) (q : Queue) → place < length qs → q.line ≡ n → pending_in q ≡ none_pending → HasRoom q → IsFreshAt n place (slice_set qs place q)
+pub fresh-set : (n : ℕ) (qs : List Queue) (place : ℕ) (q : Queue) → place < length qs → q.line ≡ n → pending_in q ≡ none_pending → QueueHasRoom q → IsFreshAt n place (slice_set qs place q)
 fresh-set n qs place q lt l p r = record { queue = q; at = get-set_same qs place q lt; numbered = l; empty = p; room = r }
 
 pub keeps-push : (qs : List Queue) (q : Queue) → KeepsOthers (length qs) qs (qs ++ q ∷ [])
@@ -43,7 +43,7 @@ keeps-push qs q = record { others = λ k ne. get-push_other qs k q ne; least = o
     len [] = refl
     len (x ∷ qs) = omega (arith, len qs)
 
-pub fresh-push : (n : ℕ) (qs : List Queue) (q : Queue) → q.line ≡ n → pending_in q ≡ none_pending → HasRoom q → IsFreshAt n (length qs) (qs ++ q ∷ [])
+pub fresh-push : (n : ℕ) (qs : List Queue) (q : Queue) → q.line ≡ n → pending_in q ≡ none_pending → QueueHasRoom q → IsFreshAt n (length qs) (qs ++ q ∷ [])
 fresh-push n qs q l p r = record { queue = q; at = get-append_end qs q; numbered = l; empty = p; room = r }
 
 pub item-is : (qs : List Queue) (place : ℕ) (q r : Queue) → slice_get qs place ≡ Some q → slice_get qs place ≡ Some r → q ≡ r
@@ -78,7 +78,7 @@ pub no-place : (d : Directory) (qs : List Queue) (j : ℕ) → number_at d j ≡
 no-place d qs j e = ap (at_place qs) e
 
 -- A line with a place has a queue there.
-pub there : (d : Directory) (qs : List Queue) (j : ℕ) → ArePlaced d qs → 0 < number_at d j → (q : Queue) × (slice_get qs (number_at d j - 1) ≡ Some q) × (queue_in d qs j ≡ Some q) × (q.line ≡ j)
+pub there : (d : Directory) (qs : List Queue) (j : ℕ) → QueuesArePlaced d qs → 0 < number_at d j → (q : Queue) × (slice_get qs (number_at d j - 1) ≡ Some q) × (queue_in d qs j ≡ Some q) × (q.line ≡ j)
 there d qs j h p =
     let g = get-there qs (number_at d j - 1) (omega (arith, p, h.within j)) in
     let e : queue_in d qs j ≡ Some g.0 = at-counted qs (number_at d j) p ∙ g.1 in
@@ -99,7 +99,7 @@ pub some-number : (d : Directory) (j n : ℕ) → n ≡ number_at d j → n ≢ 
 some-number d j n e ne = omega (arith, e, ne)
 
 -- The queue at one place is changed.
-module _ (f : Pending Part → Pending Part) (d : Directory) (qs qs' : List Queue) (line : ℕ) (h : ArePlaced d qs) (p : 0 < number_at d line) (c : ChangesPlace f (number_at d line - 1) qs qs') where
+module _ (f : Pending Part → Pending Part) (d : Directory) (qs qs' : List Queue) (line : ℕ) (h : QueuesArePlaced d qs) (p : 0 < number_at d line) (c : ChangesPlace f (number_at d line - 1) qs qs') where
   -- No other line has that place.
   pub other-place : (j : ℕ) → j ≢ line → number_at d j ≢ number_at d line
   other-place j ne e =
@@ -115,7 +115,7 @@ module _ (f : Pending Part → Pending Part) (d : Directory) (qs qs' : List Queu
       let x = c.here t.0 t.1 in
       (x.0, at-counted qs' (number_at d line) p ∙ x.1, x.2 ∙ t.3, x.3 ∙ ap (λ o. f (pending_by o)) (sym t.2))
 
-  pub placed-changed : ArePlaced d qs'
+  pub placed-changed : QueuesArePlaced d qs'
   placed-changed = record { within = λ j. omega (arith, c.count, h.within j); numbered = λ j q e. go j q e (equal_or_not j line) }
     where
       go : (j : ℕ) (q : Queue) → queue_in d qs' j ≡ Some q → (((j == line) ≡ true) × (j ≡ line)) ⊎ (((j == line) ≡ false) × (j ≢ line)) → q.line ≡ j
@@ -154,15 +154,15 @@ module _ (m m' : Queues) (line : ℕ) (d : m'.directory ≡ m.directory) (p : 0 
       let x = c.here old_there.0 old_there.1 in
       (x.0, x.1, ap (λ y. queue_in y m'.queues.items line) d ∙ at-counted m'.queues.items (number_at m.directory line) p ∙ ap (λ k. slice_get m'.queues.items (k - 1)) (sym e) ∙ x.1)
 
-  pub room-changed : ((q r : Queue) → slice_get m.queues.items (n - 1) ≡ Some q → slice_get m'.queues.items (n - 1) ≡ Some r → HasRoom q → HasRoom r) → HasRoomAt m line → HasRoomAt m' line
+  pub room-changed : ((q r : Queue) → slice_get m.queues.items (n - 1) ≡ Some q → slice_get m'.queues.items (n - 1) ≡ Some r → QueueHasRoom q → QueueHasRoom r) → HasRoomAt m line → HasRoomAt m' line
   unfolding queue_at
   room-changed k h = subst HasRoomBy (sym new_there.2) (k old_there.0 new_there.0 old_there.1 new_there.1 (subst HasRoomBy old_there.2 h))
 
-  new-room : ((r : Queue) → slice_get m'.queues.items (n - 1) ≡ Some r → HasRoom r) → HasRoomAt m' line
+  new-room : ((r : Queue) → slice_get m'.queues.items (n - 1) ≡ Some r → QueueHasRoom r) → HasRoomAt m' line
   unfolding queue_at
   new-room k = subst HasRoomBy (sym new_there.2) (k new_there.0 new_there.1)
 
-pub room-made : {A E : Type 0} (x : Result A E) (m m' : Queues) (line : ℕ) → m'.directory ≡ m.directory → 0 < number_at m.directory line → (n : ℕ) → n ≡ number_at m.directory line → ChangesPlace (λ w. w) (n - 1) m.queues.items m'.queues.items → OnOk x ((r : Queue) → slice_get m'.queues.items (n - 1) ≡ Some r → HasRoom r) → OnOk x (HasRoomAt m' line)
+pub room-made : {A E : Type 0} (x : Result A E) (m m' : Queues) (line : ℕ) → m'.directory ≡ m.directory → 0 < number_at m.directory line → (n : ℕ) → n ≡ number_at m.directory line → ChangesPlace (λ w. w) (n - 1) m.queues.items m'.queues.items → OnOk x ((r : Queue) → slice_get m'.queues.items (n - 1) ≡ Some r → QueueHasRoom r) → OnOk x (HasRoomAt m' line)
 room-made x m m' line d p n e c k = on_ok_map x (new-room m m' line d p n e c) k
 
 -- ---- a queue is given back
@@ -189,7 +189,7 @@ module _ (d d' : Directory) (qs : List Queue) (line : ℕ) (s : (j : ℕ) → nu
       go (inl x) = absurd (ne x.0)
       go (inr x) = ap (at_place qs) x.1
 
-  pub placed-gone : ArePlaced d qs → ArePlaced d' qs
+  pub placed-gone : QueuesArePlaced d qs → QueuesArePlaced d' qs
   placed-gone h = record { within = λ j. within j (gone j); numbered = λ j q e. numbered j q e (gone j) }
     where
       within : (j : ℕ) → ((j ≡ line) × (number_at d' j ≡ 0)) ⊎ ((j ≢ line) × (number_at d' j ≡ number_at d j)) → number_at d' j ≤ length qs
@@ -228,15 +228,15 @@ fenced-away m m' qs line e p c empty s = record {
 pub unused : (d : Directory) (place : ℕ) (qs qs' : List Queue) → ((j : ℕ) → number_at d j ≢ place + 1) → KeepsOthers place qs qs' → (j : ℕ) → queue_in d qs' j ≡ queue_in d qs j
 unused d place qs qs' free k j = at-same qs qs' (number_at d j) (λ i e. k.others i (λ z. free j (omega (arith, e, z))))
 
-pub placed-unused : (d : Directory) (place : ℕ) (qs qs' : List Queue) → ((j : ℕ) → number_at d j ≢ place + 1) → KeepsOthers place qs qs' → ArePlaced d qs → ArePlaced d qs'
+pub placed-unused : (d : Directory) (place : ℕ) (qs qs' : List Queue) → ((j : ℕ) → number_at d j ≢ place + 1) → KeepsOthers place qs qs' → QueuesArePlaced d qs → QueuesArePlaced d qs'
 placed-unused d place qs qs' free k h = record { within = λ j. omega (arith, h.within j, k.least); numbered = λ j q e. h.numbered j q (sym (unused d place qs qs' free k j) ∙ e) }
 
 -- No line has a place after the last.
-pub unused-end : (d : Directory) (qs : List Queue) → ArePlaced d qs → (j : ℕ) → number_at d j ≢ length qs + 1
+pub unused-end : (d : Directory) (qs : List Queue) → QueuesArePlaced d qs → (j : ℕ) → number_at d j ≢ length qs + 1
 unused-end d qs h j e = omega (arith, e, h.within j)
 
 -- A place is free if the line of its queue has another place.
-pub unused-checked : (d : Directory) (qs : List Queue) (place : ℕ) (q : Queue) → ArePlaced d qs → slice_get qs place ≡ Some q → number_at d q.line ≢ place + 1 → (j : ℕ) → number_at d j ≢ place + 1
+pub unused-checked : (d : Directory) (qs : List Queue) (place : ℕ) (q : Queue) → QueuesArePlaced d qs → slice_get qs place ≡ Some q → number_at d q.line ≢ place + 1 → (j : ℕ) → number_at d j ≢ place + 1
 unused-checked d qs place q h e ne j f =
     let i : 0 < number_at d j = omega (arith, f) in
     let k : number_at d j - 1 ≡ place = omega (arith, f) in
@@ -265,7 +265,7 @@ module _ (d d' : Directory) (qs : List Queue) (line p : ℕ) (s : (j : ℕ) → 
       go (inl x) = absurd (ne x.0)
       go (inr x) = ap (at_place qs) x.1
 
-  pub placed-given : ArePlaced d qs → ArePlaced d' qs
+  pub placed-given : QueuesArePlaced d qs → QueuesArePlaced d' qs
   placed-given h = record { within = λ j. within j (given j); numbered = λ j q e. numbered j q e (given j) }
     where
       bound : (xs : List Queue) (i : ℕ) (q : Queue) → slice_get xs i ≡ Some q → i < length xs
@@ -284,7 +284,7 @@ module _ (d d' : Directory) (qs : List Queue) (line p : ℕ) (s : (j : ℕ) → 
 pub same-numbers : (d d' : Directory) (qs : List Queue) → ((j : ℕ) → number_at d' j ≡ number_at d j) → (j : ℕ) → queue_in d' qs j ≡ queue_in d qs j
 same-numbers d d' qs s j = ap (at_place qs) (s j)
 
-pub placed-same : (d d' : Directory) (qs : List Queue) → ((j : ℕ) → number_at d' j ≡ number_at d j) → ArePlaced d qs → ArePlaced d' qs
+pub placed-same : (d d' : Directory) (qs : List Queue) → ((j : ℕ) → number_at d' j ≡ number_at d j) → QueuesArePlaced d qs → QueuesArePlaced d' qs
 placed-same d d' qs s h = record { within = λ j. omega (arith, s j, h.within j); numbered = λ j q e. h.numbered j q (sym (same-numbers d d' qs s j) ∙ e) }
 
 pub fresh-from : {E : Type 0} (r : Result ℕ E) (d : Directory) (n place : ℕ) (qs : List Queue) → ((j : ℕ) → number_at d j ≢ place + 1) → IfOk r (λ p. (p ≡ place + 1) × IsFreshAt n place qs) → IfOk r (λ p. IsFresh d n p qs)

@@ -3,7 +3,7 @@ use Rattle.std.proofs.Common.{◌≡◌, ◌≢◌, ◌⊎◌, inl, inr, ℕ, ze
 use Rattle.std.proofs.lemmas.List.{length-set, length-take}
 use Rattle.hip_lines.specs.Shown.{IsRenumbered}
 use Rattle.hip_directory.specs.Tables.{set_once, count_set}
-use Rattle.hip_lines.specs.Uses.{AreNoted, AreUses}
+use Rattle.hip_lines.specs.Uses.{NumbersAreNoted, AreUses}
 
 set-here : (xs : List ℕ) (i v : ℕ) → i < length xs → slice_index (slice_set xs i v) i ≡ v
 set-here [] i v h = absurd (omega arith)
@@ -58,10 +58,10 @@ count-none (suc n) = omega (arith, count-none n)
 
 -- ---- the uses
 
-pub noted-none : (numbers uses : List ℕ) → AreNoted numbers 0 uses uses
+pub noted-none : (numbers uses : List ℕ) → NumbersAreNoted numbers 0 uses uses
 noted-none numbers uses = record { size = refl; bytes = λ i h. absurd (omega (arith, h)); few = omega arith }
 
-pub noted-more : (numbers old uses : List ℕ) (n : ℕ) → slice_index numbers n < length old → AreNoted numbers n old uses → AreNoted numbers (n + 1) old (slice_set uses (slice_index numbers n) 1)
+pub noted-more : (numbers old uses : List ℕ) (n : ℕ) → slice_index numbers n < length old → NumbersAreNoted numbers n old uses → NumbersAreNoted numbers (n + 1) old (slice_set uses (slice_index numbers n) 1)
 noted-more numbers old uses n lt h = record {
   size = length-set uses (slice_index numbers n) 1 ∙ h.size;
   bytes = λ i less. go i (split i n less);
@@ -75,7 +75,7 @@ noted-more numbers old uses n lt h = record {
     go i (inl less) = set-keeps uses (slice_index numbers n) (slice_index numbers i) 1 (omega arith) (h.bytes i less)
     go i (inr e) = subst (λ j. 0 < slice_index (slice_set uses (slice_index numbers n) 1) (slice_index numbers j)) e (omega (arith, set-here uses (slice_index numbers n) 1 (omega (arith, lt, h.size))))
 
-pub uses-noted : (numbers old uses : List ℕ) (flushed last : ℕ) → flushed ≤ last → last < 256 → length old ≡ 256 → count_set old ≡ 0 → length numbers ≡ 64 → AreNoted numbers (length numbers) old uses → AreUses numbers flushed last (slice_set (slice_set (slice_set uses 0 1) flushed 1) last 1)
+pub uses-noted : (numbers old uses : List ℕ) (flushed last : ℕ) → flushed ≤ last → last < 256 → length old ≡ 256 → count_set old ≡ 0 → length numbers ≡ 64 → NumbersAreNoted numbers (length numbers) old uses → AreUses numbers flushed last (slice_set (slice_set (slice_set uses 0 1) flushed 1) last 1)
 uses-noted numbers old uses flushed last le lt size none line h =
     let a : List ℕ = slice_set uses 0 1 in
     let b : List ℕ = slice_set a flushed 1 in

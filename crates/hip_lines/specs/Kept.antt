@@ -11,7 +11,7 @@ use Rattle.hip_lines.specs.declared.part.Part.{Part}
 use Rattle.hip_lines.specs.declared.queue.Queue.{Queue}
 use Rattle.hip_lines.specs.declared.queues.Queues.{Queues}
 use Rattle.hip_lines.specs.Places.{queue_in}
-use Rattle.hip_lines.specs.Queues.{pending_in, HasRoom}
+use Rattle.hip_lines.specs.Queues.{pending_in, QueueHasRoom}
 
 -- The queue of line j, if it has one.
 unfoldable pub queue_at : Queues → ℕ → Option Queue
@@ -33,7 +33,7 @@ pending_at m j = pending_by (queue_at m j)
 -- There is a queue, and it has room for one more part.
 abbrev pub HasRoomBy : Option Queue → Type 0
 HasRoomBy None = ⊥
-HasRoomBy (Some q) = HasRoom q
+HasRoomBy (Some q) = QueueHasRoom q
 
 -- Line j has a queue, with room for one more part.
 abbrev pub HasRoomAt : Queues → ℕ → Type 0
@@ -107,5 +107,5 @@ pub record GivesQueue (line : ℕ) (old new : Queues) : Type 0 where
   pub queue : Queue
   pub here : queue_at new line ≡ Some queue
   pub empty : pending_in queue ≡ none_pending
-  pub room : HasRoom queue
+  pub room : QueueHasRoom queue
   pub others : (j : ℕ) → j ≢ line → queue_at new j ≡ queue_at old j

@@ -5,7 +5,7 @@ use Rattle.hip_directory.specs.Directories.{number_at}
 use Rattle.hip_lines.specs.declared.part.Part.{Part}
 use Rattle.hip_lines.specs.declared.queue.Queue.{Queue}
 use Rattle.hip_lines.specs.Pending.{Pending, none_pending}
-use Rattle.hip_lines.specs.Queues.{pending_in, HasRoom}
+use Rattle.hip_lines.specs.Queues.{pending_in, QueueHasRoom}
 
 -- The queue at a place, counted from 1. There is no queue at place 0.
 abbrev pub at_place : List Queue → ℕ → Option Queue
@@ -17,7 +17,7 @@ abbrev pub queue_in : Directory → List Queue → ℕ → Option Queue
 queue_in d qs j = at_place qs (number_at d j)
 
 -- Each queue that the directory gives for a line exists, and has the line's number.
-pub record ArePlaced (d : Directory) (qs : List Queue) : Type 0 where
+pub record QueuesArePlaced (d : Directory) (qs : List Queue) : Type 0 where
   pub within : (j : ℕ) → number_at d j ≤ length qs
   pub numbered : (j : ℕ) (q : Queue) → queue_in d qs j ≡ Some q → q.line ≡ j
 
@@ -40,7 +40,7 @@ pub record IsFreshAt (number place : ℕ) (qs : List Queue) : Type 0 where
   pub at : slice_get qs place ≡ Some queue
   pub numbered : queue.line ≡ number
   pub empty : pending_in queue ≡ none_pending
-  pub room : HasRoom queue
+  pub room : QueueHasRoom queue
 
 -- At a place, counted from 1, there is an empty queue with room, and no line has this place.
 pub record IsFresh (d : Directory) (number place : ℕ) (qs : List Queue) : Type 0 where

@@ -9,6 +9,6 @@ abbrev pub pending_in : Queue → Pending Part
 pending_in q = q.history.pending
 
 -- One more part can be added without allocating memory.
-pub record HasRoom (q : Queue) : Type 0 where
+pub record QueueHasRoom (q : Queue) : Type 0 where
   pub capacity : vec_len q.tags < vec_capacity q.tags
   pub numbers : vec_len q.tags + 1 < 2 ^ 8

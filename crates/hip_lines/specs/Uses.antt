@@ -8,7 +8,7 @@ abbrev pub AreBlank : List ℕ → Type 0
 AreBlank uses = (length uses ≡ 256) × (count_set uses ≡ 0)
 
 -- The numbers of the first n bytes are noted as used. At most n numbers are newly noted.
-pub record AreNoted (numbers : List ℕ) (n : ℕ) (old new : List ℕ) : Type 0 where
+pub record NumbersAreNoted (numbers : List ℕ) (n : ℕ) (old new : List ℕ) : Type 0 where
   pub size : length new ≡ length old
   pub bytes : (i : ℕ) → i < n → 0 < slice_index new (slice_index numbers i)
   pub few : count_set new ≤ count_set old + n

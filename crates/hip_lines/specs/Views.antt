@@ -22,7 +22,7 @@ held_of s = record { lines = lines_of s.count s.queues; room = s.room }
 
 -- There are at most 2 ^ 20 lines, and only these have queues. The list has each line with flushed parts once, and has
 -- capacity for as many lines as there are queues. If room was made for a store, that room is still there.
-pub record IsKept (s : Inside) : Type 0 where
+pub record QueuesAreKept (s : Inside) : Type 0 where
   pub small : s.count ≤ 2 ^ 20
   pub below : AreBelow s.count s.queues
   pub flushed : ListsFlushed s.flushed.items s.queues

@@ -24,11 +24,11 @@ impl Model for Lines {
 
     ghost Value = { Held };
 
-    ghost use Rattle.hip_lines.specs.Views.{held_of, IsKept};
+    ghost use Rattle.hip_lines.specs.Views.{held_of, QueuesAreKept};
 
     ghost view = { held_of };
 
-    ghost invariant = { IsKept };
+    ghost invariant = { QueuesAreKept };
 }
 
 impl Lines {

@@ -3,7 +3,7 @@
 ghost use Rattle.std.specs.Prelude.{◌≡◌, ℕ, ◌+◌, ◌-◌, ◌<◌, ◌≤◌, ◌&&◌, cond, nat_le, nat_lt, drop, take, length, slice_index};
 ghost use Rattle.hip_lines.specs.Shown.{AreNumbers, IsRenumbered};
 ghost use Rattle.hip_directory.specs.Tables.{count_set};
-ghost use Rattle.hip_lines.specs.Uses.{AreBlank, AreNoted, AreUses};
+ghost use Rattle.hip_lines.specs.Uses.{AreBlank, NumbersAreNoted, AreUses};
 
 use hip_types::LINE_SIZE;
 
@@ -90,7 +90,7 @@ pub fn note_uses(uses: &mut [u8], numbers: &[u8], flushed: usize, last: usize)
 // Notes the numbers of the bytes.
 fn note_bytes(uses: &mut [u8], numbers: &[u8])
     requires { (i : ℕ) → slice_index numbers.now i < length uses.old }
-    ensures { AreNoted numbers.now (length numbers.now) uses.old uses.new }
+    ensures { NumbersAreNoted numbers.now (length numbers.now) uses.old uses.new }
 {
     for i in 0..numbers.len() {
         uses[numbers[i] as usize] = 1;

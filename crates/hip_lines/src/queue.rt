@@ -32,7 +32,7 @@ impl Queue {
     ghost use Rattle.hip_lines.specs.Pending.{none_pending, pending_with, pending_flushed, pending_fenced};
     ghost use Rattle.hip_lines.specs.Parts.{loose_in};
     ghost use Rattle.hip_lines.specs.Next.{IsFirstLoose};
-    ghost use Rattle.hip_lines.specs.Queues.{pending_in, HasRoom};
+    ghost use Rattle.hip_lines.specs.Queues.{pending_in, QueueHasRoom};
 
     pub fn new(alloc: Global, line: u64) -> Queue
         ensures line { result.line ≡ line }
@@ -91,8 +91,8 @@ impl Queue {
     pub fn make_room(&mut self) -> Result<(), NoMemory>
         ensures line { self.new.line ≡ self.old.line }
         ensures pending { pending_in self.new ≡ pending_in self.old }
-        ensures kept { HasRoom self.old → HasRoom self.new }
-        ensures ok { OnOk result (HasRoom self.new) }
+        ensures kept { QueueHasRoom self.old → QueueHasRoom self.new }
+        ensures ok { OnOk result (QueueHasRoom self.new) }
     {
         if self.tags.len() < self.tags.capacity() && self.tags.len() < 255 {
             return Ok(());
@@ -105,7 +105,7 @@ impl Queue {
     fn grow(&mut self) -> Result<(), NoMemory>
         ensures line { self.new.line ≡ self.old.line }
         ensures pending { pending_in self.new ≡ pending_in self.old }
-        ensures ok { OnOk result (HasRoom self.new) }
+        ensures ok { OnOk result (QueueHasRoom self.new) }
     {
         self.keep_few();
         if double_room(&mut self.tags) {
@@ -143,7 +143,7 @@ impl Queue {
     /// Adds a part of the line, in the room that was made for it.
     #[inline(always)]
     pub fn push(&mut self, part: Part)
-        requires room { HasRoom self.old }
+        requires room { QueueHasRoom self.old }
         requires first { part.offset / LINE_SIZE ≡ self.old.line }
         requires last { part.offset + part.size ≤ LINE_SIZE * self.old.line + LINE_SIZE }
         ensures line { self.new.line ≡ self.old.line }

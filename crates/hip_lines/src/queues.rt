@@ -7,8 +7,8 @@ ghost use Rattle.hip_directory.specs.Directories.{number_at};
 ghost use Rattle.hip_lines.specs.declared.queue.Queue.{Queue};
 ghost use Rattle.hip_types.specs.declared.areas.TheConstants.{LINE_SIZE};
 ghost use Rattle.hip_lines.specs.Pending.{none_pending, pending_with, pending_flushed, pending_fenced};
-ghost use Rattle.hip_lines.specs.Queues.{pending_in, HasRoom};
-ghost use Rattle.hip_lines.specs.Places.{queue_in, ArePlaced, KeepsOthers, ChangesPlace, IsFreshAt, IsFresh};
+ghost use Rattle.hip_lines.specs.Queues.{pending_in, QueueHasRoom};
+ghost use Rattle.hip_lines.specs.Places.{queue_in, QueuesArePlaced, KeepsOthers, ChangesPlace, IsFreshAt, IsFresh};
 
 use crate::part::Part;
 use crate::queue::Queue;
@@ -25,7 +25,7 @@ pub struct Queues {
     queues: Vec<Queue>,
     // The places of queues that lines gave back.
     free: Vec<u32>,
-    ghost placed: { ArePlaced directory queues.items },
+    ghost placed: { QueuesArePlaced directory queues.items },
 }
 
 #[tactic(auto, unfolding(crate::specs::Kept::queue_at, crate::specs::Kept::count_of))]
@@ -154,8 +154,8 @@ fn make_room_at(queues: &mut Vec<Queue>, place: usize) -> Result<(), NoMemory>
     ensures changes { ChangesPlace (λ w. w) place queues.old.items queues.new.items }
     ensures kept { (q r : Queue) → slice_get queues.old.items place ≡ Some q
         → slice_get queues.new.items place ≡ Some r
-        → HasRoom q → HasRoom r }
-    ensures ok { OnOk result ((r : Queue) → slice_get queues.new.items place ≡ Some r → HasRoom r) }
+        → QueueHasRoom q → QueueHasRoom r }
+    ensures ok { OnOk result ((r : Queue) → slice_get queues.new.items place ≡ Some r → QueueHasRoom r) }
 {
     let queue = &mut queues[place];
     queue.make_room()
@@ -163,7 +163,7 @@ fn make_room_at(queues: &mut Vec<Queue>, place: usize) -> Result<(), NoMemory>
 
 fn push_at(queues: &mut Vec<Queue>, place: usize, part: Part)
     requires within { place < length queues.old.items }
-    requires room { (q : Queue) → slice_get queues.old.items place ≡ Some q → HasRoom q }
+    requires room { (q : Queue) → slice_get queues.old.items place ≡ Some q → QueueHasRoom q }
     requires first { (q : Queue) → slice_get queues.old.items place ≡ Some q
         → part.offset / LINE_SIZE ≡ q.line }
     requires last { (q : Queue) → slice_get queues.old.items place ≡ Some q
@@ -209,8 +209,8 @@ fn fresh_place(
     free: &mut Vec<u32>,
     line: u64,
 ) -> Result<u32, NoMemory>
-    requires { ArePlaced directory.now queues.old.items }
-    ensures placed { ArePlaced directory.now queues.new.items }
+    requires { QueuesArePlaced directory.now queues.old.items }
+    ensures placed { QueuesArePlaced directory.now queues.new.items }
     ensures same { (j : ℕ) → queue_in directory.now queues.new.items j
         ≡ queue_in directory.now queues.old.items j }
     ensures least { length queues.old.items ≤ length queues.new.items }
@@ -227,7 +227,7 @@ fn fresh_place(
 
 // Whether no line has the queue at a place.
 fn is_free(directory: &Directory, queues: &[Queue], place: u32) -> bool
-    requires { ArePlaced directory.now queues.now }
+    requires { QueuesArePlaced directory.now queues.now }
     ensures there { result ≡ true → place < length queues.now }
     ensures free { result ≡ true → (j : ℕ) → number_at directory.now j ≢ place + 1 }
 {

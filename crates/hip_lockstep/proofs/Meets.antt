@@ -19,7 +19,7 @@ use Rattle.hip_lockstep.specs.Laws.Readings.{next_read, reads_more, stated_at, s
 use Rattle.hip_lockstep.specs.Laws.RunSteps.{differs_run, ending_after, fits_more, no_entry, no_entry_goes_on, read_fault, spelled_malformed, spelled_next, spelled_none, trace_after}
 use Rattle.hip_lockstep.specs.InStep.{IsInStep, HasFollowed}
 use Rattle.hip_lockstep.specs.Nexts.{ReadsEnd, ReadsEntry}
-use Rattle.hip_lockstep.specs.Reading.{HasReadEntries, IsRead}
+use Rattle.hip_lockstep.specs.ReadEntries.{HasReadEntries, EntriesAreRead}
 use Rattle.hip_lockstep.specs.Refusals.{HasMisfit, Refuses}
 use Rattle.hip_lockstep.specs.declared.refusal.ReplayRefusal.{ReplayRefusal}
 use Rattle.hip_lockstep.specs.declared.refusal.ReplayRefusal.TheVariants as refusals
@@ -44,7 +44,7 @@ module _ {e : Event} {r : ReaderState} {s : CabinetState} {at : Lockstep} (P : P
       let step : trace P I (suc n) ≡ trace P I n ++ made ∷ [] = trace_after P I n e is.going here ∙ ap (λ o. trace P I n ++ entry_list o) q in
       subst (λ k. HasMisfit P r start s (k + 1) Differs) (sym is.counted) (record {
         reading = is.read.reading;
-        stated = stated_map (λ bytes. IsRead bytes (trace P I n ++ at.next ∷ []) (ahead r s)) (λ bytes. IsMisfit P bytes true (length (trace P I n) + 1) Differs) start.rest is.read.stated
+        stated = stated_map (λ bytes. EntriesAreRead bytes (trace P I n ++ at.next ∷ []) (ahead r s)) (λ bytes. IsMisfit P bytes true (length (trace P I n) + 1) Differs) start.rest is.read.stated
             (λ bytes there h.
             let spells = spelled_next bytes (trace P I n) at.next (ahead r s) h in
             let w = whole-trace P I in
@@ -100,7 +100,7 @@ module _ {e : Event} {r : ReaderState} {s : CabinetState} {at : Lockstep} (P : P
       counted = counted_next;
       begun = none.count ∙ read_so_far.count;
       progress = none.progress;
-      stated = stated_map (λ bytes. IsRead bytes (trace P I (suc n)) (ahead r s)) (λ bytes. IsTraceOf P bytes I) start.rest read_so_far.stated
+      stated = stated_map (λ bytes. EntriesAreRead bytes (trace P I (suc n)) (ahead r s)) (λ bytes. IsTraceOf P bytes I) start.rest read_so_far.stated
           (λ bytes there h. record {
             entries = header_entries I;
             header_is = header_here bytes there;
@@ -116,7 +116,7 @@ module _ {e : Event} {r : ReaderState} {s : CabinetState} {at : Lockstep} (P : P
         let read = next_read start s s' r r' (trace P I (suc n)) x room read_so_far h in
         subst (λ k. HasMisfit P r' start s' k Extra) (sym (number ∙ ap (λ k. k + 1) counted_next)) (record {
           reading = read.reading;
-          stated = stated_map (λ bytes. IsRead bytes (trace P I (suc n) ++ x ∷ []) (ahead r' s')) (λ bytes. IsMisfit P bytes true (length (trace P I (suc n)) + 1) Extra) start.rest read.stated
+          stated = stated_map (λ bytes. EntriesAreRead bytes (trace P I (suc n) ++ x ∷ []) (ahead r' s')) (λ bytes. IsMisfit P bytes true (length (trace P I (suc n)) + 1) Extra) start.rest read.stated
               (λ bytes there k.
               let spells = spelled_next bytes (trace P I (suc n)) x (ahead r' s') k in
               differs_run P I start is.valid (suc n) bytes (Some x ∷ spells.0) (trace P I (suc n)) [] Extra (header_here bytes there) spells.1 (whole_here ending ends) (sym (append-nil (trace P I (suc n)))) refl);
@@ -125,7 +125,7 @@ module _ {e : Event} {r : ReaderState} {s : CabinetState} {at : Lockstep} (P : P
     end_missing r' s' (refusals.Misfit entry Malformed) ending ends (number, bad) =
         subst (λ k. HasMisfit P r' start s' k Malformed) (sym (number ∙ ap (λ k. k + 1) counted_next)) (record {
           reading = reads_more start s s' read_so_far.reading bad.reading;
-          stated = stated_map (λ bytes. IsRead bytes (trace P I (suc n)) (ahead r s)) (λ bytes. IsMisfit P bytes true (length (trace P I (suc n)) + 1) Malformed) start.rest read_so_far.stated
+          stated = stated_map (λ bytes. EntriesAreRead bytes (trace P I (suc n)) (ahead r s)) (λ bytes. IsMisfit P bytes true (length (trace P I (suc n)) + 1) Malformed) start.rest read_so_far.stated
               (λ bytes there k.
               let spells = spelled_malformed bytes (trace P I (suc n)) r s k bad.entries in
               differs_run P I start is.valid (suc n) bytes (None ∷ spells.0) (trace P I (suc n)) [] Malformed (header_here bytes there) spells.1 (whole_here ending ends) (sym (append-nil (trace P I (suc n)))) refl);

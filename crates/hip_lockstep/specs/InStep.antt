@@ -13,7 +13,7 @@ use Rattle.hip_runs.specs.declared.input.Input.{Input}
 use Rattle.hip_trace.specs.Pieces.{spelled}
 use Rattle.hip_trace.specs.Reads.{ReaderState, IsReading}
 use Rattle.hip_trace.specs.declared.refusal.Progress.TheVariants.{Ended}
-use Rattle.hip_lockstep.specs.Reading.{HasReadEntries}
+use Rattle.hip_lockstep.specs.ReadEntries.{HasReadEntries}
 use Rattle.hip_lockstep.specs.Refusals.{Refuses}
 use Rattle.hip_lockstep.specs.declared.refusal.ReplayRefusal.{ReplayRefusal}
 use Rattle.hip_lockstep.specs.declared.steps.Lockstep.{Lockstep}

@@ -1,8 +1,8 @@
-pub mod Giving
+pub mod GivenInput
 pub mod InStep
 pub mod Nexts
-pub mod Opening
-pub mod Reading
+pub mod HeaderInput
+pub mod ReadEntries
 pub mod Refusals
 pub mod Laws
 pub mod Usuals

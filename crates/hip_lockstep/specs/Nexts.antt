@@ -2,7 +2,7 @@
 use Rattle.std.specs.Prelude.{◌≡◌, ◌+◌, ℕ, Option, Some, None, Result, Ok, Err}
 use Rattle.hip_io.specs.Cabinets.{CabinetState}
 use Rattle.hip_run_traces.specs.declared.misfit.MisfitKind.TheVariants.{Malformed, Differs, Early, Extra}
-use Rattle.hip_trace.specs.Reads.{ReaderState, HasNext, HasNone, HasMalformed, HasFailed}
+use Rattle.hip_trace.specs.Reads.{ReaderState, HasNext, HasNone, HasMalformed, ReadHasFailed}
 use Rattle.hip_trace.specs.declared.entry.Entry.{Entry}
 use Rattle.hip_trace.specs.declared.refusal.TraceRefusal.{TraceRefusal}
 use Rattle.hip_trace.specs.declared.refusal.TraceRefusal.TheVariants as unread
@@ -32,7 +32,7 @@ ReadsEntry count r r' s s' (Err (refusals.Misfit entry Early)) = (entry ≡ coun
 ReadsEntry count r r' s s' (Err (refusals.Misfit entry Malformed)) = (entry ≡ count + 1) × HasMalformed r r' s s'
 ReadsEntry count r r' s s' (Err (refusals.Misfit entry Differs)) = ⊥
 ReadsEntry count r r' s s' (Err (refusals.Misfit entry Extra)) = ⊥
-ReadsEntry count r r' s s' (Err refusals.ReadFault) = HasFailed r r' s s'
+ReadsEntry count r r' s s' (Err refusals.ReadFault) = ReadHasFailed r r' s s'
 ReadsEntry count r r' s s' (Err refusals.NoMemory) = ⊥
 
 -- An entry after n others, which is kept, or the cause why there is none.
@@ -55,5 +55,5 @@ ReadsEnd count r r' s s' (Err (refusals.Misfit entry Extra)) = (entry ≡ count 
 ReadsEnd count r r' s s' (Err (refusals.Misfit entry Malformed)) = (entry ≡ count + 1) × HasMalformed r r' s s'
 ReadsEnd count r r' s s' (Err (refusals.Misfit entry Differs)) = ⊥
 ReadsEnd count r r' s s' (Err (refusals.Misfit entry Early)) = ⊥
-ReadsEnd count r r' s s' (Err refusals.ReadFault) = HasFailed r r' s s'
+ReadsEnd count r r' s s' (Err refusals.ReadFault) = ReadHasFailed r r' s s'
 ReadsEnd count r r' s s' (Err refusals.NoMemory) = ⊥

@@ -3,7 +3,7 @@
 ghost use Rattle.std.specs.Prelude.{◌≡◌, ◌+◌, ◌-◌, ◌≤◌, ◌++◌, ◌&&◌, IfOk, OnOk, length, nat_le};
 ghost use Rattle.hip_globals.specs.Addresses.{region_size};
 ghost use Rattle.hip_types.specs.Bytes.{zeros};
-ghost use Rattle.hip_lockstep.specs.Giving.{TakesEntry, TakesLine, TakesNumber, input_of};
+ghost use Rattle.hip_lockstep.specs.GivenInput.{TakesEntry, TakesLine, TakesNumber, input_of};
 
 use crate::header::some_byte;
 use hip_image::Image;

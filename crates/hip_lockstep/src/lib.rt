@@ -6,14 +6,14 @@ mod ended;
 mod entries;
 mod given;
 mod header;
+mod header_input;
 mod next;
-mod opening;
 mod refusal;
 mod steps;
 
 pub use ended::Ended;
 pub use entries::{ending_of, put_entry};
 pub use header::put_header;
-pub use opening::{Begun, read_header};
+pub use header_input::{Begun, read_header};
 pub use refusal::ReplayRefusal;
 pub use steps::Lockstep;

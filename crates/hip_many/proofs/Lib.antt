@@ -1,3 +1,4 @@
 mod CountLemmas
+pub mod Decided
 mod OneUnion
 mod Unions

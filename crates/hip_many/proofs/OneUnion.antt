@@ -6,7 +6,7 @@ use Rattle.hip_tree.specs.declared.program.Program.{Program}
 use Rattle.hip_tree.specs.declared.site.Site.{Site}
 use Rattle.hip_types.specs.Laws.DistinctLaws.{either}
 use Rattle.hip_repairs.specs.Laws.SiteOrder.{filter_ascends, filtered_are, same_members}
-use Rattle.hip_repairs.specs.Planned.{IsWithin, either_list, union}
+use Rattle.hip_repairs.specs.Planned.{PlanIsWithin, either_list, union}
 use Rattle.hip_repairs.specs.Suits.{no_repairs}
 use Rattle.hip_repairs.specs.declared.plan.Plan.{Plan}
 use Rattle.hip_many.specs.Union.{HasAll, IsUnion}
@@ -49,7 +49,7 @@ module _ (P : Program) (a b : Plan) where
           (λ e. are.has s (within s (either (has_site (sites_in a) s) (has_site (sites_in b) s) e)) e)
           ∙ sym (or_none (has_site (sites_in a) s) (has_site (sites_in b) s))
 
-  pub two_unite : IsWithin P a → IsWithin P b → IsUnion (a ∷ b ∷ []) (union P a b)
+  pub two_unite : PlanIsWithin P a → PlanIsWithin P b → IsUnion (a ∷ b ∷ []) (union P a b)
   two_unite h g = record {
     flush_after = in_both (λ p. p.flush_after) h.flush_after g.flush_after;
     fence_after = in_both (λ p. p.fence_after) h.fence_after g.fence_after;

@@ -1,3 +1,4 @@
 pub mod Counts
+pub mod MendingTests
 pub mod Reasons
 pub mod Union

@@ -19,7 +19,7 @@ pub record IsUnion (plans : List Plan) (plan : Plan) : Type 0 where
   pub hoist : HasAll (λ p. p.hoist) plans plan.hoist
 
 -- The sites of a plan were put in.
-pub record HasPut (plan : Plan) (old new : PlanSites) : Type 0 where
+pub record HasPutPlan (plan : Plan) (old new : PlanSites) : Type 0 where
   pub flushes : (s : Site)
       → has_site new.flush_after s ≡ (has_site plan.flush_after s || has_site old.flush_after s)
   pub fences : (s : Site) → has_site new.fence_after s ≡ (has_site plan.fence_after s || has_site old.fence_after s)

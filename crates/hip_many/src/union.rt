@@ -9,11 +9,11 @@ ghost use Rattle.hip_runs.specs.declared.input.Input.{Input};
 ghost use Rattle.hip_runs.specs.declared.report.Findings.{Findings};
 ghost use Rattle.hip_repairs.specs.Choice.{Contains, plan_for};
 ghost use Rattle.hip_repairs.specs.Clean.{IsClean};
-ghost use Rattle.hip_repairs.specs.Quiet.{IsQuiet};
+ghost use Rattle.hip_repairs.specs.StayOutside.{StayOutside};
 ghost use Rattle.hip_repairs.specs.Repaired.{repaired};
 ghost use Rattle.hip_repairs.specs.Suits.{IsSuiting};
 ghost use Rattle.hip_repairs.specs.declared.plan.Plan.{Plan};
-ghost use Rattle.hip_many.specs.Union.{HasPut, IsUnion};
+ghost use Rattle.hip_many.specs.Union.{HasPutPlan, IsUnion};
 
 use hip_plan::PlanSites;
 use hip_repairs::{Plan, repairs_are_clean};
@@ -22,7 +22,7 @@ use std::alloc::Global;
 
 /// Inserts the sites of a plan.
 fn add_plan(sites: &mut PlanSites, plan: &Plan) -> Result<(), NoMemory>
-    ensures { OnOk result (HasPut plan.now sites.old sites.new) }
+    ensures { OnOk result (HasPutPlan plan.now sites.old sites.new) }
 {
     sites.flush_after.insert_all(plan.flush_after.as_slice())?;
     sites.fence_after.insert_all(plan.fence_after.as_slice())?;
@@ -43,7 +43,7 @@ pub fn plan_many(alloc: Global, plans: &[Plan]) -> Result<Plan, NoMemory>
         IsSuiting P plan) }
     ensures clean { IfOk result (λ plan. (P : Program) → (skip : Site → Bool) → (I : Input)
         → (found : Findings) →
-        IsSound P → IsValid P I → IsQuiet P skip → IsFound P I found → In (plan_for P found) plans.now →
+        IsSound P → IsValid P I → StayOutside P skip → IsFound P I found → In (plan_for P found) plans.now →
         IsClean (repaired P plan skip) I) }
 {
     repairs_are_clean();

@@ -4,7 +4,7 @@ use Rattle.std.proofs.lemmas.Bool.Decides.{nat_tests}
 use Rattle.std.proofs.lemmas.List.{get_or-set_same, get_or-set_other}
 use Rattle.hip_directory.specs.Directories.{number_at}
 use Rattle.hip_mem.specs.declared.pages.Pages.{Pages}
-use Rattle.hip_mem.specs.Paging.{key_of}
+use Rattle.hip_mem.specs.PageTable.{key_of}
 use Rattle.hip_mem.specs.Pages.{place_of, IsMade, byte_of}
 
 pub in_or_out : (from a to : ℕ) → (((nat_le from a && nat_lt a to) ≡ true) × (from ≤ a) × (a < to)) ⊎ (((nat_le from a && nat_lt a to) ≡ false) × ((a < from) ⊎ (to ≤ a)))

@@ -1,6 +1,6 @@
 pub mod Memory
 pub mod Areas
-pub mod Paging
+pub mod PageTable
 pub mod Recents
 pub mod Pages
 pub mod Rams

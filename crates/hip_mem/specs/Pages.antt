@@ -3,7 +3,7 @@ use Rattle.std.specs.Prelude.{◌≡◌, ℕ, zero, suc, ◌+◌, ◌*◌, ◌/�
 use Rattle.hip_directory.specs.Directories.{number_at}
 use Rattle.hip_mem.specs.declared.TheConstants.{PAGE_SIZE}
 use Rattle.hip_mem.specs.declared.pages.Pages.{Pages}
-use Rattle.hip_mem.specs.Paging.{key_of}
+use Rattle.hip_mem.specs.PageTable.{key_of}
 
 -- The place of page n among the pages. It is 0, the place of the page of zeros, if page n was not made.
 unfoldable pub place_of : Pages → ℕ → ℕ

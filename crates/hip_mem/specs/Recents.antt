@@ -4,7 +4,7 @@ use Rattle.hip_directory.specs.declared.directory.Directory.{Directory}
 use Rattle.hip_directory.specs.Directories.{number_at}
 use Rattle.hip_mem.specs.declared.TheConstants.{PAGE_SIZE}
 use Rattle.hip_mem.specs.declared.recent.Recent.{Recent}
-use Rattle.hip_mem.specs.Paging.{key_of}
+use Rattle.hip_mem.specs.PageTable.{key_of}
 
 -- Each noted start is the start of the page with the number beside it.
 abbrev pub AreStarts : Recent → (ℕ → ℕ) → Type 0

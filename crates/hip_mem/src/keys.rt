@@ -1,7 +1,7 @@
 //! The keys of pages.
 
 ghost use Rattle.std.specs.Prelude.{◌≡◌, ◌<◌, ◌^◌};
-ghost use Rattle.hip_mem.specs.Paging.{key_of};
+ghost use Rattle.hip_mem.specs.PageTable.{key_of};
 
 use crate::PAGE_SIZE;
 use hip_types::{
@@ -28,7 +28,7 @@ pub const LOWEST_REGION_PAGE: u64 = LOWEST_BASE / PAGE_SIZE;
 
 /// The key of a page, if the region begins with page `region`. Pages of the three areas have small keys.
 #[inline(always)]
-#[tactic(auto, unfolding(crate::specs::Paging::key_of))]
+#[tactic(auto, unfolding(crate::specs::PageTable::key_of))]
 pub fn key_of(region: u64, number: u64) -> u64
     requires { number < 2 ^ 63 }
     ensures { result ≡ key_of region number }

@@ -3,7 +3,7 @@
 ghost use Rattle.std.specs.Prelude.{◌≡◌, ◌≢◌, ℕ, ◌+◌, ◌-◌, ◌*◌, ◌/◌, ◌%◌, ◌^◌, ◌<◌, ◌≤◌, ◌&&◌, cond, nat_le, nat_lt, length, slice_index, slice_index_or, true, false, ◌⊎◌, IfOk, IsTrue, OnOk, OnErr};
 ghost use Rattle.hip_directory.specs.Directories.{number_at};
 ghost use Rattle.hip_mem.specs.Memory.{byte_written};
-ghost use Rattle.hip_mem.specs.Paging.{ArePages, AreClean};
+ghost use Rattle.hip_mem.specs.PageTable.{ArePages, AreClean};
 ghost use Rattle.hip_mem.specs.Recents.{AreStarts, start_in};
 ghost use Rattle.hip_mem.specs.declared.keys.TheConstants.{LOWEST_REGION_PAGE};
 ghost use Rattle.hip_mem.specs.declared.TheConstants.{PAGE_SIZE};
@@ -428,7 +428,7 @@ impl Pages {
 }
 
 // Makes a page of zeros for a key that has none.
-#[tactic(auto, unfolding(crate::specs::Paging::key_of))]
+#[tactic(auto, unfolding(crate::specs::PageTable::key_of))]
 fn append_page(
     directory: &mut Directory,
     bytes: &mut Vec<u8>,

@@ -6,11 +6,11 @@ use Rattle.std.proofs.Common.{get_or, refl, sym, ap, ◌∙◌, arith}
 use Rattle.hip_names.specs.Laws.NameLaws.{bytes_eq-sym}
 use Rattle.hip_names.specs.Names.{number_of}
 use Rattle.hip_names.specs.Laws.NumberLaws.{number_of-cons}
-use Rattle.hip_names.specs.Tables.{Entry, StandsFor, value_beside, value_of}
+use Rattle.hip_names.specs.Tables.{Entry, TableStandsFor, value_beside, value_of}
 
 -- The table of these names and numbers gives each name its first place in `names`, from 0, and no number to a name
 -- that is not there.
-pub record Numbers (known : List (List ℕ)) (numbers : List ℕ) (names : List (List ℕ)) : Type 0 where
+pub record NumbersNames (known : List (List ℕ)) (numbers : List ℕ) (names : List (List ℕ)) : Type 0 where
   pub finds : (name : List ℕ) → value_beside known numbers name ≡ number_of names name
 
 -- Each name with its number; the first name has number n.
@@ -65,7 +65,7 @@ whole (x ∷ names) (suc k) h = ap (λ rest. x ∷ rest) (whole names k (omega a
 
 pub numbers_found : (known : List (List ℕ)) (numbers : List ℕ) (names : List (List ℕ)) (k : ℕ)
     → length names ≤ k →
-    StandsFor known numbers (entries_from 0 (take k names)) → Numbers known numbers names
+    TableStandsFor known numbers (entries_from 0 (take k names)) → NumbersNames known numbers names
 numbers_found known numbers names k h stands =
     record {
       finds = λ name. stands.finds name ∙ ap (λ ns. value_of (entries_from 0 ns) name)

@@ -18,12 +18,12 @@ abbrev pub value_beside : {V : Type 0} → List (List ℕ) → List V → List �
 value_beside names values name = option_and_then (slice_get values) (number_of names name)
 
 -- Names and values are a table of these entries.
-pub record StandsFor {V : Type 0} (names : List (List ℕ)) (values : List V) (entries : List (Entry V)) : Type 0 where
+pub record TableStandsFor {V : Type 0} (names : List (List ℕ)) (values : List V) (entries : List (Entry V)) : Type 0 where
   pub as_long : length names ≡ length values
   pub finds : (name : List ℕ) → value_beside names values name ≡ value_of entries name
 
 -- A table grows by these entries.
 pub record Gains {V : Type 0} (names : List (List ℕ)) (values : List V) (more_names : List (List ℕ))
     (more_values : List V) (entries : List (Entry V)) : Type 0 where
-  pub gains : (before : List (Entry V)) → StandsFor names values before
-      → StandsFor more_names more_values (before ++ entries)
+  pub gains : (before : List (Entry V)) → TableStandsFor names values before
+      → TableStandsFor more_names more_values (before ++ entries)

@@ -1,5 +1,5 @@
 ghost use Rattle.std.specs.Prelude.{◌≡◌, List, [], ◌∷◌, ◌++◌, IfOk, OnErr};
-ghost use Rattle.hip_names.specs.Tables.{Entry, StandsFor, value_beside};
+ghost use Rattle.hip_names.specs.Tables.{Entry, TableStandsFor, value_beside};
 
 use crate::names::NameSet;
 use hip_types::{NoMemory, Row};
@@ -15,7 +15,7 @@ pub struct NameTable<'a, V> {
 impl<'a, V> NameTable<'a, V> {
     /// A table without names. It takes no memory.
     pub fn new(alloc: Global) -> NameTable<'a, V>
-        ensures { StandsFor result.names result.values [] }
+        ensures { TableStandsFor result.names result.values [] }
     {
         NameTable {
             names: NameSet::new(alloc),
@@ -47,8 +47,8 @@ impl<'a, V: Copy> NameTable<'a, V> {
     /// Adds a value, unless its name has one. If there is no memory, the table stays as it is.
     pub fn add(&mut self, name: &'a [u8], value: V) -> Result<(), NoMemory>
         ensures ok { IfOk result (λ _. (entries : List (Entry V)) →
-            StandsFor self.old.names self.old.values entries →
-            StandsFor self.new.names self.new.values (entries ++ record { name = name.now; value = value } ∷ [])) }
+            TableStandsFor self.old.names self.old.values entries →
+            TableStandsFor self.new.names self.new.values (entries ++ record { name = name.now; value = value } ∷ [])) }
         ensures err { OnErr result ((self.new.names ≡ self.old.names) × (self.new.values ≡ self.old.values)) }
     {
         let len = self.values.len();

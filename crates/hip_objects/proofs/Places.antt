@@ -17,7 +17,7 @@ use Rattle.hip_tree.specs.declared.program.GlobalVar.{GlobalVar}
 use Rattle.hip_globals.specs.Addresses.{IsBase, end_of, start_of, is_persistent, address_in, global_start, same_truth}
 use Rattle.hip_runs.specs.Found.Objects.{global_at, global_from}
 use Rattle.hip_objects.specs.Globals.{AreLaid, number_at, place_of, places_from}
-use Rattle.hip_objects.specs.declared.globals.Place.{Place}
+use Rattle.hip_objects.specs.declared.globals.GlobalRange.{GlobalRange}
 use Rattle.hip_objects.proofs.Search.{contains-before, contains-past}
 
 later : (b : Bool) (at : ℕ) (g : GlobalVar) → at ≤ (if b then global_start at g + size_of g.ty else at)
@@ -33,14 +33,14 @@ end_of-ge kind at (g ∷ gs) =
 
 -- ---- they lie in order
 
-abbrev AllFrom : ℕ → List Place → Type 0
-AllFrom at ps = (i : ℕ) (d : Place) → i < length ps → at ≤ (slice_index_or ps i d).start
+abbrev AllFrom : ℕ → List GlobalRange → Type 0
+AllFrom at ps = (i : ℕ) (d : GlobalRange) → i < length ps → at ≤ (slice_index_or ps i d).start
 
-from-cons : (at : ℕ) (p : Place) (ps : List Place) → at ≤ p.start → AllFrom at ps → AllFrom at (p ∷ ps)
+from-cons : (at : ℕ) (p : GlobalRange) (ps : List GlobalRange) → at ≤ p.start → AllFrom at ps → AllFrom at (p ∷ ps)
 from-cons at p ps first h zero d within = first
 from-cons at p ps first h (suc i) d within = h i d (omega (arith, within))
 
-from-lower : (at next : ℕ) (ps : List Place) → at ≤ next → AllFrom next ps → AllFrom at ps
+from-lower : (at next : ℕ) (ps : List GlobalRange) → at ≤ next → AllFrom next ps → AllFrom at ps
 from-lower at next ps low h i d within = let here = h i d within in omega (arith, low, here)
 
 starts-from : (kind : Bool) (at n : ℕ) (gs : List GlobalVar) → AllFrom at (places_from kind at n gs)
@@ -53,10 +53,10 @@ starts-from kind at n (g ∷ gs) =
     go true mine others = from-cons at (place_of at g n) _ (omega arith) (from-lower at (global_start at g + size_of g.ty) _ (omega arith) mine)
     go false mine others = others
 
-laid-cons : (p : Place) (ps : List Place) → AllFrom (p.start + p.size) ps → AreLaid ps → AreLaid (p ∷ ps)
+laid-cons : (p : GlobalRange) (ps : List GlobalRange) → AllFrom (p.start + p.size) ps → AreLaid ps → AreLaid (p ∷ ps)
 laid-cons p ps from laid = record { order = go }
   where
-    go : (i j : ℕ) (d : Place) → i < j → j < length (p ∷ ps) → (slice_index_or (p ∷ ps) i d).start + (slice_index_or (p ∷ ps) i d).size ≤ (slice_index_or (p ∷ ps) j d).start
+    go : (i j : ℕ) (d : GlobalRange) → i < j → j < length (p ∷ ps) → (slice_index_or (p ∷ ps) i d).start + (slice_index_or (p ∷ ps) i d).size ≤ (slice_index_or (p ∷ ps) j d).start
     go i zero d before within = absurd (omega (arith, before))
     go zero (suc j) d before within = from j d (omega (arith, within))
     go (suc i) (suc j) d before within = laid.order i j d (omega (arith, before)) (omega (arith, within))
@@ -122,11 +122,11 @@ persistent-found globals base a n v p (g ∷ gs) left high =
 -- ---- the loop over the globals
 
 -- The first i globals are laid, and the others are laid from `at` on.
-pub record IsPlaced (kind : Bool) (start : ℕ) (gs : List GlobalVar) (i at : ℕ) (ps : List Place) : Type 0 where
+pub record IsPlaced (kind : Bool) (start : ℕ) (gs : List GlobalVar) (i at : ℕ) (ps : List GlobalRange) : Type 0 where
   pub all : ps ++ places_from kind at i (drop i gs) ≡ places_from kind start 0 gs
   pub end : end_of kind at (drop i gs) ≡ end_of kind start gs
 
-module _ {kind : Bool} {start : ℕ} {gs : List GlobalVar} {i at : ℕ} {ps : List Place} (placed : IsPlaced kind start gs i at ps) (g : GlobalVar) (within : i < length gs) (here : g ≡ get_or gs i g) where
+module _ {kind : Bool} {start : ℕ} {gs : List GlobalVar} {i at : ℕ} {ps : List GlobalRange} (placed : IsPlaced kind start gs i at ps) (g : GlobalVar) (within : i < length gs) (here : g ≡ get_or gs i g) where
   next : drop i gs ≡ g ∷ drop (suc i) gs
   next =
       at_drop_more (λ ys. ys) gs i g within ∙ ap (λ (x : GlobalVar). x ∷ drop (i + 1) gs) (sym here)
@@ -172,7 +172,7 @@ same-false false false e = cc
 
 -- ---- a program's globals
 
-pub none-left : {kind : Bool} {start : ℕ} {gs : List GlobalVar} {i at : ℕ} {ps : List Place} → IsPlaced kind start gs i at ps → length gs ≤ i → ps ≡ places_from kind start 0 gs
+pub none-left : {kind : Bool} {start : ℕ} {gs : List GlobalVar} {i at : ℕ} {ps : List GlobalRange} → IsPlaced kind start gs i at ps → length gs ≤ i → ps ≡ places_from kind start 0 gs
 none-left {kind} {start} {gs} {i} {at} {ps} placed past =
     sym (append-nil ps) ∙ ap (λ l. ps ++ places_from kind at i l) (sym (drop_of_length-le gs past)) ∙ placed.all
 

@@ -11,10 +11,10 @@ use Rattle.hip_runs.specs.declared.event.Object.{Object}
 use Rattle.hip_runs.specs.declared.event.Object.TheVariants as objects
 use Rattle.hip_objects.specs.Blocks.{AreStacked, IsPast, object_in, sited, slot_of, slots_of, nonempty}
 use Rattle.hip_objects.specs.Order.{first_at}
-use Rattle.hip_objects.specs.declared.blocks.Block.{Block}
+use Rattle.hip_objects.specs.declared.blocks.StackBlock.{StackBlock}
 use Rattle.hip_objects.proofs.Search.{contains-before, first_at-none, in_order-pushed, later}
 
-abbrev pub site_first : ℕ → List Block → Option Site
+abbrev pub site_first : ℕ → List StackBlock → Option Site
 site_first a xs = first_at (λ b. b.addr) (λ b. b.size) (λ b. b.site) a xs
 
 -- The block as an object, if it has the byte.
@@ -35,7 +35,7 @@ slot_in-append (x ∷ xs) ys a =
     ∙ sym (else-cond (range_contains x.addr x.size a) (objects.Slot x.site) (slot_in xs a) (slot_in ys a))
 
 -- The block that has a byte is among the newer blocks, or else it is the oldest one.
-object_in-older : (x : Block) (xs : List Block) (a : ℕ) →
+object_in-older : (x : StackBlock) (xs : List StackBlock) (a : ℕ) →
     object_in (slots_of (x ∷ xs)) a ≡ or_else (object_in (slots_of xs) a) (chosen x.site (range_contains x.addr x.size a))
 object_in-older x xs a =
     ap (λ l. slot_in l a) (reverse-append (slot_of x ∷ []) (slots_of xs)) ∙ slot_in-append (reverse (slots_of xs)) (slot_of x ∷ []) a
@@ -47,7 +47,7 @@ or_else-none (Some o) = refl
 contains-high : (at size a : ℕ) → range_contains at size a ≡ true → a < at + size
 contains-high at size a h = grind (arith, h)
 
-pub first_is_newest : (xs : List Block) (a : ℕ) → AreStacked xs → sited (site_first a xs) ≡ object_in (slots_of xs) a
+pub first_is_newest : (xs : List StackBlock) (a : ℕ) → AreStacked xs → sited (site_first a xs) ≡ object_in (slots_of xs) a
 first_is_newest [] a s = refl
 first_is_newest (x ∷ xs) a s =
     go (range_contains x.addr x.size a) refl (first_is_newest xs a (later (λ b. b.addr) (λ b. b.size) (λ b. b.site) x xs s)) ∙ sym (object_in-older x xs a)
@@ -58,7 +58,7 @@ first_is_newest (x ∷ xs) a s =
         contains-before _ _ a (let high = contains-high x.addr x.size a has in let past = s.order 0 (suc i) d (omega arith) (omega (arith, within)) in omega (arith, high, past))))))
     go false has e = e ∙ sym (or_else-none (object_in (slots_of xs) a))
 
-pub pushed : (xs : List Block) (b : Block) → AreStacked xs → IsPast b.addr (slots_of xs) → AreStacked (xs ++ b ∷ [])
+pub pushed : (xs : List StackBlock) (b : StackBlock) → AreStacked xs → IsPast b.addr (slots_of xs) → AreStacked (xs ++ b ∷ [])
 pushed xs b s past = in_order-pushed (λ x. x.addr) (λ x. x.size) (λ x. x.site) xs b s
     (λ i d within. subst (λ x. x.addr + x.size ≤ b.addr) (get_or-map slot_of xs i d (slot_of d) within) (past i (slot_of d) (omega (arith, length-map xs slot_of, within))))
 

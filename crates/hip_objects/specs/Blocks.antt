@@ -7,14 +7,14 @@ use Rattle.hip_runs.specs.Found.Objects.{slot_in}
 use Rattle.hip_runs.specs.declared.event.Object.{Object}
 use Rattle.hip_runs.specs.declared.event.Object.TheVariants as objects
 use Rattle.hip_objects.specs.Order.{AreInOrder}
-use Rattle.hip_objects.specs.declared.blocks.Block.{Block}
+use Rattle.hip_objects.specs.declared.blocks.StackBlock.{StackBlock}
 
 -- A block of the code as a block of a frame, with the same address, size and site.
-abbrev pub slot_of : Block → Slot
+abbrev pub slot_of : StackBlock → Slot
 slot_of b = record { addr = b.addr; size = b.size; site = b.site }
 
 -- Each block of the code as a block of a frame, in their order.
-abbrev pub slots_of : List Block → List Slot
+abbrev pub slots_of : List StackBlock → List Slot
 slots_of bs = map slot_of bs
 
 -- Those of the blocks that have a byte.
@@ -22,7 +22,7 @@ abbrev pub nonempty : List Slot → List Slot
 nonempty xs = filter (λ x. nat_lt 0 x.size) xs
 
 -- Each block ends before a newer one begins.
-abbrev pub AreStacked : List Block → Type 0
+abbrev pub AreStacked : List StackBlock → Type 0
 AreStacked bs = AreInOrder (λ b. b.addr) (λ b. b.size) bs
 
 -- All these blocks end at or before an address.

@@ -9,7 +9,7 @@ use std::marker::Model;
 
 /// A block on the stack: its address and its size in bytes, and the site of the `alloca` that made it.
 #[derive(Clone, Copy)]
-pub struct Block {
+pub struct StackBlock {
     pub addr: u64,
     pub size: u64,
     pub site: Site,
@@ -18,11 +18,11 @@ pub struct Block {
 /// The blocks on the stack that have at least one byte, the oldest first, each after the ones before it. An empty block
 /// has no byte at any address, so the list does not keep it.
 #[derive(Drop)]
-pub struct Blocks {
-    blocks: Vec<Block>,
+pub struct StackBlocks {
+    blocks: Vec<StackBlock>,
 }
 
-impl Model for Blocks {
+impl Model for StackBlocks {
     ghost use Rattle.std.specs.Prelude.{List};
     ghost use Rattle.hip_runs.specs.State.{Slot};
 
@@ -35,13 +35,13 @@ impl Model for Blocks {
     ghost invariant = { λ b. AreStacked b.blocks.items };
 }
 
-impl Blocks {
+impl StackBlocks {
     ghost use Rattle.hip_objects.specs.Blocks.{slot_of, nonempty};
 
-    pub fn new(alloc: Global) -> Blocks
+    pub fn new(alloc: Global) -> StackBlocks
         ensures { result ≡ [] }
     {
-        Blocks {
+        StackBlocks {
             blocks: Vec::new(alloc),
         }
     }
@@ -54,7 +54,7 @@ impl Blocks {
     }
 
     /// A new block, which begins at the end of the newest one or after it. It is kept if it has a byte.
-    pub fn push(&mut self, block: Block) -> Result<(), NoMemory>
+    pub fn push(&mut self, block: StackBlock) -> Result<(), NoMemory>
         requires { IsPast block.addr self.old }
         ensures ok { OnOk result (self.new ≡ self.old ++ nonempty (slot_of block ∷ [])) }
         ensures err { OnErr result (self.new ≡ self.old) }
@@ -66,7 +66,7 @@ impl Blocks {
     }
 
     // Puts a block after the others.
-    fn keep(&mut self, block: Block) -> Result<(), NoMemory>
+    fn keep(&mut self, block: StackBlock) -> Result<(), NoMemory>
         requires { IsPast block.addr self.old }
         ensures ok { OnOk result (self.new ≡ self.old ++ slot_of block ∷ []) }
         ensures err { OnErr result (self.new ≡ self.old) }
@@ -94,7 +94,7 @@ impl Blocks {
 
 // The site of the block that has the byte at the address. Of the blocks that begin at or before it, only the newest one
 // can have it.
-fn site_in(blocks: &[Block], addr: u64) -> Option<Site>
+fn site_in(blocks: &[StackBlock], addr: u64) -> Option<Site>
     requires { AreStacked blocks.now }
     ensures { sited result ≡ object_in (slots_of blocks.now) addr }
 {
@@ -106,7 +106,7 @@ fn site_in(blocks: &[Block], addr: u64) -> Option<Site>
 }
 
 // The site of the block, if it has the byte at the address.
-fn site_of(block: &Block, addr: u64) -> Option<Site>
+fn site_of(block: &StackBlock, addr: u64) -> Option<Site>
     requires { block.now.addr ≤ addr }
     ensures { result ≡ cond (nat_lt addr (block.now.addr + block.now.size)) (Some block.now.site) None }
 {
@@ -118,13 +118,13 @@ fn site_of(block: &Block, addr: u64) -> Option<Site>
 }
 
 // How many blocks begin at or before the address.
-fn count_upto(blocks: &[Block], addr: u64) -> usize
+fn count_upto(blocks: &[StackBlock], addr: u64) -> usize
     requires { AreStacked blocks.now }
     ensures few { result ≤ length blocks.now }
     ensures split { AreSplit (λ b. b.addr) blocks.now addr result }
 {
     blocks.partition_point(
-        |block: &Block| -> bool
+        |block: &StackBlock| -> bool
             ensures { result ≡ nat_le block.now.addr addr }
         { block.addr <= addr },
     )

@@ -14,7 +14,7 @@ use std::marker::Model;
 
 /// The place of a global: its address and its size in bytes, and its number.
 #[derive(Clone, Copy)]
-pub struct Place {
+pub struct GlobalRange {
     pub start: u64,
     pub size: u64,
     pub number: usize,
@@ -25,8 +25,8 @@ pub struct Place {
 #[derive(Drop)]
 pub struct GlobalTable {
     base: u64,
-    volatile: Vec<Place>,
-    persistent: Vec<Place>,
+    volatile: Vec<GlobalRange>,
+    persistent: Vec<GlobalRange>,
 }
 
 impl Model for GlobalTable {
@@ -34,11 +34,11 @@ impl Model for GlobalTable {
 
     ghost Value = { Laid };
 
-    ghost use Rattle.hip_objects.specs.Globals.{laid_of, IsTable};
+    ghost use Rattle.hip_objects.specs.Globals.{laid_of, IsGlobalTable};
 
     ghost view = { laid_of };
 
-    ghost invariant = { IsTable };
+    ghost invariant = { IsGlobalTable };
 }
 
 impl GlobalTable {
@@ -76,7 +76,7 @@ fn places(
     globals: &[GlobalVar],
     persistent: bool,
     start: u64,
-) -> Result<Vec<Place>, NoMemory>
+) -> Result<Vec<GlobalRange>, NoMemory>
     requires fit { OwnTypesFit globals.now }
     requires end { end_of persistent start globals.now < 2 ^ 64 }
     ensures { IfOk result (λ places. places.items ≡ places_from persistent start 0 globals.now) }
@@ -93,7 +93,12 @@ fn places(
 }
 
 // Lays a global from an address on, and returns the address where it ends.
-fn lay(places: &mut Vec<Place>, at: u64, global: &GlobalVar, number: usize) -> Result<u64, NoMemory>
+fn lay(
+    places: &mut Vec<GlobalRange>,
+    at: u64,
+    global: &GlobalVar,
+    number: usize,
+) -> Result<u64, NoMemory>
     requires fits { Fits global.now.ty }
     requires end { global_start at global.now + size_of global.now.ty < 2 ^ 64 }
     ensures end { IfOk result (λ end. end ≡ global_start at global.now + size_of global.now.ty) }
@@ -104,7 +109,7 @@ fn lay(places: &mut Vec<Place>, at: u64, global: &GlobalVar, number: usize) -> R
         None => unreachable!(),
     };
     let size = size(&global.ty);
-    match places.push(Place {
+    match places.push(GlobalRange {
         start,
         size,
         number,
@@ -116,7 +121,7 @@ fn lay(places: &mut Vec<Place>, at: u64, global: &GlobalVar, number: usize) -> R
 
 // The number of the global that has the byte at the address. Of the globals that begin at or before it, only the last
 // one can have it.
-fn number_in(places: &[Place], addr: u64) -> Option<usize>
+fn number_in(places: &[GlobalRange], addr: u64) -> Option<usize>
     requires { AreLaid places.now }
     ensures { result ≡ number_at addr places.now }
 {
@@ -128,7 +133,7 @@ fn number_in(places: &[Place], addr: u64) -> Option<usize>
 }
 
 // The number of the global, if it has the byte at the address.
-fn number_of(place: &Place, addr: u64) -> Option<usize>
+fn number_of(place: &GlobalRange, addr: u64) -> Option<usize>
     requires { place.now.start ≤ addr }
     ensures { result ≡ cond (nat_lt addr (place.now.start + place.now.size)) (Some place.now.number) None }
 {
@@ -140,13 +145,13 @@ fn number_of(place: &Place, addr: u64) -> Option<usize>
 }
 
 // How many globals begin at or before the address.
-fn count_upto(places: &[Place], addr: u64) -> usize
+fn count_upto(places: &[GlobalRange], addr: u64) -> usize
     requires { AreLaid places.now }
     ensures few { result ≤ length places.now }
     ensures split { AreSplit (λ p. p.start) places.now addr result }
 {
     places.partition_point(
-        |place: &Place| -> bool
+        |place: &GlobalRange| -> bool
             ensures { result ≡ nat_le place.now.start addr }
         { place.start <= addr },
     )

@@ -4,5 +4,5 @@
 mod blocks;
 mod globals;
 
-pub use blocks::{Block, Blocks};
+pub use blocks::{StackBlock, StackBlocks};
 pub use globals::GlobalTable;

@@ -2,10 +2,10 @@
 use Rattle.std.proofs.Common.{◌≡◌, ◌≤◌, ℕ, List, Option, Ok, length}
 use Rattle.hip_tokens.specs.Tokens.{At}
 use Rattle.hip_types.specs.declared.number.BinaryOp.{BinaryOp}
-use Rattle.hip_rules.specs.Laws.Exact.{never}
-use Rattle.hip_rules.specs.Laws.Loops.{TakesSome}
-use Rattle.hip_rules.specs.Part.{one_more_by, token}
-use Rattle.hip_rules.specs.Laws.Parts.{read_takes_some, one_more_read, token_read, read_within}
+use Rattle.hip_grammar.specs.Laws.Exact.{never}
+use Rattle.hip_grammar.specs.Laws.Loops.{TakesSome}
+use Rattle.hip_grammar.specs.Production.{one_more_by, token}
+use Rattle.hip_grammar.specs.Laws.Productions.{read_takes_some, one_more_read, token_read, read_within}
 use Rattle.hip_grammar.specs.Words.{comma, is_local, a_word_of, is_word_of, flag_word}
 use Rattle.hip_grammar.specs.Grammar.{type_within, const_within, typed_const}
 use Rattle.hip_grammar.specs.Laws.Apart.{not_word_of}

@@ -3,8 +3,8 @@ use Rattle.std.specs.Prelude.{◌≡◌, ℕ, List, [], ◌∷◌, Option, Some,
 use Rattle.hip_tokens.specs.declared.lexer.Token.{Token}
 use Rattle.hip_tokens.specs.Tokens.{At, cut}
 use Rattle.hip_tokens.specs.Seen.{seen}
-use Rattle.hip_rules.specs.Reader.{Outcome}
-use Rattle.hip_grammar.specs.declared.fault.Fault.{Fault}
+use Rattle.hip_grammar.specs.Reader.{Outcome}
+use Rattle.hip_grammar.specs.declared.fault.TextFault.{TextFault}
 use Rattle.hip_parse.specs.declared.error.ReadError.{ReadError}
 use Rattle.hip_parse.specs.declared.error.ReadError.TheVariants as errors
 use Rattle.hip_parse.specs.declared.parser.Parser.{Parser}
@@ -25,17 +25,17 @@ tail (t ∷ ts) = ts
 
 -- What a method gave, under `view`, is what the reading gives. After it the parser is at the token after what was read,
 -- or at the refused place.
-abbrev pub Gives : {X Y : Type 0} → (X → Y) → Result X (Option Fault) → Outcome Fault Y → List At → Type 0
+abbrev pub Gives : {X Y : Type 0} → (X → Y) → Result X (Option TextFault) → Outcome TextFault Y → List At → Type 0
 Gives view (Ok x) read after = read ≡ Ok (view x, after)
 Gives view (Err why) read after = read ≡ Err (why, after)
 
 -- The failure of a method that takes memory: a refusal, which is that of the reading, or out of memory, which states
 -- nothing of the reading.
-abbrev pub Fails : {Y : Type 0} → ReadError → Outcome Fault Y → List At → Type 0
+abbrev pub Fails : {Y : Type 0} → ReadError → Outcome TextFault Y → List At → Type 0
 Fails errors.Memory read after = Unit {0}
 Fails (errors.Refused why) read after = read ≡ Err (why, after)
 
 -- The same as `Gives`, for a method that takes memory.
-abbrev pub Takes : {X Y : Type 0} → (X → Y) → Result X ReadError → Outcome Fault Y → List At → Type 0
+abbrev pub Takes : {X Y : Type 0} → (X → Y) → Result X ReadError → Outcome TextFault Y → List At → Type 0
 Takes view (Ok x) read after = read ≡ Ok (view x, after)
 Takes view (Err e) read after = Fails e read after

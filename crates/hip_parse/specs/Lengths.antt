@@ -3,11 +3,11 @@ use Rattle.std.proofs.Common.{◌≡◌, ◌≤◌, List, Ok, length}
 use Rattle.hip_types.specs.declared.number.Scalar.{Scalar}
 use Rattle.hip_types.specs.declared.number.Width.{Width}
 use Rattle.hip_tokens.specs.Tokens.{At}
-use Rattle.hip_rules.specs.Part.{Part}
-use Rattle.hip_rules.specs.Laws.Exact.{never}
-use Rattle.hip_rules.specs.Laws.Loops.{TakesSome}
-use Rattle.hip_rules.specs.Laws.Parts.{read_takes_some, read_within}
-use Rattle.hip_grammar.specs.declared.fault.Fault.{Fault}
+use Rattle.hip_grammar.specs.Production.{Production}
+use Rattle.hip_grammar.specs.Laws.Exact.{never}
+use Rattle.hip_grammar.specs.Laws.Loops.{TakesSome}
+use Rattle.hip_grammar.specs.Laws.Productions.{read_takes_some, read_within}
+use Rattle.hip_grammar.specs.declared.fault.TextFault.{TextFault}
 use Rattle.hip_grammar.specs.Words.{comma, is_label}
 use Rattle.hip_grammar.specs.Grammar.{scalar, is_width, literal_index, arg, index}
 use Rattle.hip_grammar.specs.Bodies.{edge, case, instr, begins_instr, block}
@@ -17,7 +17,7 @@ use Rattle.hip_grammar.specs.Laws.BodiesExact.{edge_read, case_read, instr_read,
 use Rattle.hip_grammar.specs.Laws.TextExact.{scalar_read, param_read}
 
 -- If the part is read, no more tokens are left than before.
-abbrev pub IsWithin : {A : Type 0} → Part Fault A → Type 0
+abbrev pub IsWithin : {A : Type 0} → Production TextFault A → Type 0
 IsWithin {A} p = (ts : List At) (x : A × List At) → p.read ts ≡ Ok x → length x.1 ≤ length ts
 
 pub literal_index_within : IsWithin literal_index

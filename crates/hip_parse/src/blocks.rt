@@ -1,8 +1,8 @@
 //! Blocks.
 
 ghost use Rattle.std.specs.Prelude.{codes};
-ghost use Rattle.hip_rules.specs.Part.{one_more_by, separated};
-ghost use Rattle.hip_rules.specs.Reader.{leaders_at};
+ghost use Rattle.hip_grammar.specs.Production.{one_more_by, separated};
+ghost use Rattle.hip_grammar.specs.Reader.{leaders_at};
 ghost use Rattle.hip_grammar.specs.Words.{comma, is_local, is_word};
 ghost use Rattle.hip_grammar.specs.Grammar.{is_width};
 ghost use Rattle.hip_grammar.specs.Bodies.{assigned, edge_label, edge, phi, instr, begins_instr, target, jump, branch, br, case, cases, switch, ret_void, ret_arg, ret_end, unreachable, end, closing, after_first, after_name, from_effect, after_phis, block};
@@ -11,9 +11,9 @@ ghost use Rattle.hip_parse.specs.Left.{left, Gives, Takes};
 
 use crate::error::ReadError;
 use crate::parser::Parser;
-use crate::parts::{Production, Repeated, fitted};
+use crate::productions::{Production, Repeated, fitted};
 use crate::words::{Scalars, Widths};
-use hip_grammar::{Fault, Keyword};
+use hip_grammar::{Keyword, TextFault};
 use hip_tree::{Block, Case, Edge, End, Instr, Phi};
 use hip_types::{Link, Name, Row, Scalar, Width};
 use std::alloc::Global;
@@ -133,7 +133,7 @@ impl<'a> Parser<'a> {
     // ---- ends of blocks
 
     #[tactic(auto, unfolding(hip_grammar::specs::Bodies::target))]
-    fn target(&mut self) -> Result<&'a [u8], Option<Fault>>
+    fn target(&mut self) -> Result<&'a [u8], Option<TextFault>>
         ensures { Gives (λ x. x.now) result (target.read (left self.old)) (left self.new) }
     {
         self.word(b"label")?;
@@ -150,7 +150,7 @@ impl<'a> Parser<'a> {
     }
 
     /// The label after a comma.
-    #[tactic(auto, unfolding(hip_rules::specs::Part::one_more_by))]
+    #[tactic(auto, unfolding(hip_grammar::specs::Production::one_more_by))]
     fn next_target(&mut self, alloc: Global) -> Result<Name, ReadError>
         ensures { Takes (λ x. x) result ((one_more_by comma target).read (left self.old)) (left self.new) }
     {
@@ -236,7 +236,7 @@ impl<'a> Parser<'a> {
     }
 
     #[tactic(auto, unfolding(hip_grammar::specs::Bodies::unreachable))]
-    fn unreachable(&mut self) -> Result<End, Option<Fault>>
+    fn unreachable(&mut self) -> Result<End, Option<TextFault>>
         ensures { Gives (λ x. x) result (unreachable.read (left self.old)) (left self.new) }
     {
         self.word(b"unreachable")?;

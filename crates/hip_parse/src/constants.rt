@@ -2,8 +2,8 @@
 
 ghost use Rattle.hip_types.specs.declared.number.Scalar.TheVariants.{Ptr};
 ghost use Rattle.hip_tokens.specs.Bytes.{byte};
-ghost use Rattle.hip_rules.specs.Part.{token, either, one_more_by, separated, listed};
-ghost use Rattle.hip_rules.specs.Reader.{many_at, with_front};
+ghost use Rattle.hip_grammar.specs.Production.{token, either, one_more_by, separated, listed};
+ghost use Rattle.hip_grammar.specs.Reader.{many_at, with_front};
 ghost use Rattle.hip_grammar.specs.Words.{is_mark, comma, too_deep};
 ghost use Rattle.hip_grammar.specs.Grammar.{a_pointer, zero_const, literal_index, gep_inside, gep_const, pointer_within, typed_const, const_list, array_const, struct_const, const_within, scalar_const, register, fixed_operand, operand, arg, index};
 ghost use Rattle.hip_parse.specs.Lengths.{literal_index_within, arg_within, index_within};
@@ -11,9 +11,9 @@ ghost use Rattle.hip_parse.specs.Left.{left, Gives, Takes};
 
 use crate::error::ReadError;
 use crate::parser::Parser;
-use crate::parts::Production;
+use crate::productions::Production;
 use crate::words::{Scalars, Widths};
-use hip_grammar::Fault;
+use hip_grammar::TextFault;
 use hip_tokens::Token;
 use hip_tree::{Arg, Const, ConstGep, Operand, TypedConst};
 use hip_types::{Bits, DEEPEST_NESTING, Link, Row, Scalar, Ty};
@@ -72,7 +72,7 @@ impl<'a> Parser<'a> {
     // ---- constants under `ptr`
 
     #[tactic(auto, unfolding(hip_grammar::specs::Grammar::literal_index))]
-    fn literal_index(&mut self) -> Result<Bits, Option<Fault>>
+    fn literal_index(&mut self) -> Result<Bits, Option<TextFault>>
         ensures { Gives (λ x. x) result (literal_index.read (left self.old)) (left self.new) }
     {
         let width = self.keyword(Widths)?;
@@ -106,7 +106,7 @@ impl<'a> Parser<'a> {
 
     /// A `getelementptr` at the greatest depth: it is refused.
     #[tactic(auto, unfolding(crate::specs::Left::left, hip_grammar::specs::Grammar::gep_const))]
-    fn shallow_gep(&mut self) -> Result<Const, Option<Fault>>
+    fn shallow_gep(&mut self) -> Result<Const, Option<TextFault>>
         ensures { Gives (λ x. x) result
             ((gep_const (λ inbounds. token (too_deep (byte "(")))).read (left self.old))
             (left self.new) }
@@ -114,7 +114,7 @@ impl<'a> Parser<'a> {
         self.word(b"getelementptr")?;
         let _inbounds = self.maybe_word(b"inbounds")?;
         if self.at_mark(b'(') {
-            Err(Some(Fault::TooDeep))
+            Err(Some(TextFault::TooDeep))
         } else {
             Err(None)
         }
@@ -175,7 +175,7 @@ impl<'a> Parser<'a> {
     // ---- constants under any type
 
     #[tactic(auto, unfolding(crate::specs::Left::left))]
-    fn zero_const(&mut self) -> Result<Const, Option<Fault>>
+    fn zero_const(&mut self) -> Result<Const, Option<TextFault>>
         ensures { Gives (λ x. x) result ((token zero_const).read (left self.old)) (left self.new) }
     {
         if self.at_word(b"zeroinitializer") {
@@ -188,28 +188,28 @@ impl<'a> Parser<'a> {
 
     /// An aggregate constant with no level left.
     #[tactic(auto, unfolding(crate::specs::Left::left, hip_grammar::specs::Grammar::array_const))]
-    fn shallow_array(&mut self) -> Result<Const, Option<Fault>>
+    fn shallow_array(&mut self) -> Result<Const, Option<TextFault>>
         ensures { Gives (λ x. x) result
             ((either (is_mark (byte "[")) (array_const (token (too_deep (byte "[")))) (token zero_const)).read
             (left self.old))
             (left self.new) }
     {
         if self.at_mark(b'[') {
-            Err(Some(Fault::TooDeep))
+            Err(Some(TextFault::TooDeep))
         } else {
             self.zero_const()
         }
     }
 
     #[tactic(auto, unfolding(crate::specs::Left::left, hip_grammar::specs::Grammar::struct_const))]
-    fn shallow_struct(&mut self) -> Result<Const, Option<Fault>>
+    fn shallow_struct(&mut self) -> Result<Const, Option<TextFault>>
         ensures { Gives (λ x. x) result
             ((either (is_mark (byte "{")) (struct_const (token (too_deep (byte "{")))) (token zero_const)).read
             (left self.old))
             (left self.new) }
     {
         if self.at_mark(b'{') {
-            Err(Some(Fault::TooDeep))
+            Err(Some(TextFault::TooDeep))
         } else {
             self.zero_const()
         }
@@ -300,7 +300,7 @@ impl<'a> Parser<'a> {
 
     /// The constants of a list, between the marks that open and close it.
     #[cycle(constants)]
-    #[tactic(auto, unfolding(hip_grammar::specs::Grammar::const_list, hip_rules::specs::Part::listed, hip_rules::specs::Part::none_up_to, hip_rules::specs::Part::some_up_to))]
+    #[tactic(auto, unfolding(hip_grammar::specs::Grammar::const_list, hip_grammar::specs::Production::listed, hip_grammar::specs::Production::none_up_to, hip_grammar::specs::Production::some_up_to))]
     fn items(
         &mut self,
         alloc: Global,
@@ -333,7 +333,7 @@ impl<'a> Parser<'a> {
     }
 
     #[cycle(constants)]
-    #[tactic(auto, unfolding(hip_rules::specs::Part::separated))]
+    #[tactic(auto, unfolding(hip_grammar::specs::Production::separated))]
     fn some_consts(&mut self, alloc: Global, depth: u64) -> Result<Row<TypedConst>, ReadError>
         ensures { Takes (λ x. x) result
             ((separated comma (typed_const (const_within depth))).read (left self.old))
@@ -346,7 +346,7 @@ impl<'a> Parser<'a> {
     }
 
     #[cycle(constants)]
-    #[tactic(auto, unfolding(hip_rules::specs::Part::one_more_by))]
+    #[tactic(auto, unfolding(hip_grammar::specs::Production::one_more_by))]
     fn next_const(&mut self, alloc: Global, depth: u64) -> Result<TypedConst, ReadError>
         ensures { Takes (λ x. x) result
             ((one_more_by comma (typed_const (const_within depth))).read (left self.old))

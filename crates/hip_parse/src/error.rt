@@ -3,14 +3,14 @@
 ghost use Rattle.std.specs.Prelude.{◌≡◌, Option};
 ghost use Rattle.hip_parse.specs.declared.error.ReadError.TheVariants.{Memory, Refused};
 
-use hip_grammar::Fault;
+use hip_grammar::TextFault;
 use hip_types::NoMemory;
 
 /// Why a method gave nothing: out of memory, or the parser's next token is refused, perhaps for a reason of its place.
 #[derive(Debug, Drop)]
 pub(crate) enum ReadError {
     Memory,
-    Refused(Option<Fault>),
+    Refused(Option<TextFault>),
 }
 
 impl From<NoMemory> for ReadError {
@@ -21,10 +21,10 @@ impl From<NoMemory> for ReadError {
     }
 }
 
-impl From<Option<Fault>> for ReadError {
+impl From<Option<TextFault>> for ReadError {
     ghost from_gives = { λ why e. e ≡ Refused why };
 
-    fn from(why: Option<Fault>) -> ReadError {
+    fn from(why: Option<TextFault>) -> ReadError {
         ReadError::Refused(why)
     }
 }

@@ -1,8 +1,8 @@
 //! Instructions.
 
 ghost use Rattle.std.specs.Prelude.{◌≡◌, None};
-ghost use Rattle.hip_rules.specs.Part.{one_more_by, separated};
-ghost use Rattle.hip_rules.specs.Reader.{next};
+ghost use Rattle.hip_grammar.specs.Production.{one_more_by, separated};
+ghost use Rattle.hip_grammar.specs.Reader.{next};
 ghost use Rattle.hip_grammar.specs.Words.{comma};
 ghost use Rattle.hip_grammar.specs.Grammar.{operand, index};
 ghost use Rattle.hip_grammar.specs.Bodies.{align, maybe_align, assigned, with_flag, flags, binary, compare, next_of_type, alternatives, select, to_int, int_cast, ptrtoint, inttoptr, alloca, next_address, aligned_address, load, gep, plain_call, call, store, memory_instr, cast_instr, value_instr, effect_instr, assigning_instr, instr, begins_effect, begins_instr};
@@ -12,7 +12,7 @@ use crate::constants::{Argument, Index};
 use crate::error::ReadError;
 use crate::parser::Parser;
 use crate::words::{BinaryOps, FlagsAfter, IntCasts, Preds, Results, Scalars, Widths};
-use hip_grammar::{Fault, Keyword};
+use hip_grammar::{Keyword, TextFault};
 use hip_tree::{Arg, Flag, Flags, Instr, Operand};
 use hip_types::{BinaryOp, CastOp, DEEPEST_NESTING, Link, Name, Row, Scalar, Width};
 use std::alloc::Global;
@@ -33,7 +33,7 @@ fn with_flag(flags: Flags, flag: Flag) -> Flags
 
 impl<'a> Parser<'a> {
     #[tactic(auto, unfolding(hip_grammar::specs::Bodies::align))]
-    fn align(&mut self) -> Result<u64, Option<Fault>>
+    fn align(&mut self) -> Result<u64, Option<TextFault>>
         ensures { Gives (λ x. x) result (align.read (left self.old)) (left self.new) }
     {
         self.mark(b',')?;
@@ -41,7 +41,7 @@ impl<'a> Parser<'a> {
         self.alignment()
     }
 
-    pub(crate) fn maybe_align(&mut self) -> Result<Option<u64>, Option<Fault>>
+    pub(crate) fn maybe_align(&mut self) -> Result<Option<u64>, Option<TextFault>>
         ensures { Gives (λ x. x) result (maybe_align.read (left self.old)) (left self.new) }
     {
         if self.at_mark(b',') {
@@ -53,7 +53,7 @@ impl<'a> Parser<'a> {
     }
 
     #[tactic(auto, unfolding(hip_grammar::specs::Bodies::flags))]
-    fn flags(&mut self, op: BinaryOp) -> Result<Flags, Option<Fault>>
+    fn flags(&mut self, op: BinaryOp) -> Result<Flags, Option<TextFault>>
         ensures { Gives (λ x. x) result ((flags op).read (left self.old)) (left self.new) }
     {
         let mut set = Flags {
@@ -69,7 +69,7 @@ impl<'a> Parser<'a> {
     }
 
     /// The operand after a comma.
-    #[tactic(auto, unfolding(hip_rules::specs::Part::one_more_by))]
+    #[tactic(auto, unfolding(hip_grammar::specs::Production::one_more_by))]
     fn next_operand(&mut self, alloc: Global, scalar: Scalar) -> Result<Operand, ReadError>
         ensures { Takes (λ x. x) result ((one_more_by comma (operand scalar)).read (left self.old)) (left self.new) }
     {
@@ -155,7 +155,7 @@ impl<'a> Parser<'a> {
 
     /// The type after `to`.
     #[tactic(auto, unfolding(hip_grammar::specs::Bodies::to_int))]
-    fn to_int(&mut self) -> Result<Width, Option<Fault>>
+    fn to_int(&mut self) -> Result<Width, Option<TextFault>>
         ensures { Gives (λ x. x) result (to_int.read (left self.old)) (left self.new) }
     {
         self.word(b"to")?;
@@ -278,7 +278,7 @@ impl<'a> Parser<'a> {
     }
 
     /// The indices after a comma.
-    #[tactic(auto, unfolding(hip_rules::specs::Part::one_more_by))]
+    #[tactic(auto, unfolding(hip_grammar::specs::Production::one_more_by))]
     fn next_indices(&mut self, alloc: Global) -> Result<Row<Arg>, ReadError>
         ensures { Takes (λ x. x) result
             ((one_more_by comma (separated comma index)).read (left self.old))

@@ -1,8 +1,8 @@
 //! Globals, externs, functions and whole texts.
 
 ghost use Rattle.std.specs.Prelude.{◌≡◌, OnOk, codes};
-ghost use Rattle.hip_rules.specs.Part.{either, listed};
-ghost use Rattle.hip_rules.specs.Reader.{next};
+ghost use Rattle.hip_grammar.specs.Production.{either, listed};
+ghost use Rattle.hip_grammar.specs.Reader.{next};
 ghost use Rattle.hip_grammar.specs.Words.{is_word, is_label};
 ghost use Rattle.hip_grammar.specs.Grammar.{scalar};
 ghost use Rattle.hip_grammar.specs.Bodies.{block};
@@ -13,9 +13,9 @@ ghost use Rattle.hip_parse.specs.Left.{left, Gives, Takes};
 
 use crate::error::ReadError;
 use crate::parser::Parser;
-use crate::parts::{Production, Repeated};
+use crate::productions::{Production, Repeated};
 use crate::words::{Fixed, Linkages, Links, Results, Scalars, TargetWords, Unnamed};
-use hip_grammar::Fault;
+use hip_grammar::TextFault;
 use hip_tree::{Block, Extern, Function, GlobalVar, Param, Program};
 use hip_types::{DEEPEST_NESTING, NoMemory, Row, Scalar};
 use std::alloc::Global;
@@ -98,7 +98,7 @@ impl Repeated for Blocks {
 }
 
 impl<'a> Parser<'a> {
-    fn skip_unnamed(&mut self) -> Result<Option<()>, Option<Fault>>
+    fn skip_unnamed(&mut self) -> Result<Option<()>, Option<TextFault>>
         ensures { Gives (λ x. x) result (maybe_unnamed.read (left self.old)) (left self.new) }
     {
         if self.at_keyword(Unnamed) {
@@ -110,7 +110,7 @@ impl<'a> Parser<'a> {
     }
 
     #[tactic(auto, unfolding(hip_grammar::specs::Text::source_filename))]
-    fn source_filename(&mut self) -> Result<Item, Option<Fault>>
+    fn source_filename(&mut self) -> Result<Item, Option<TextFault>>
         ensures { Gives item_of result (source_filename.read (left self.old)) (left self.new) }
     {
         self.word(b"source_filename")?;
@@ -120,7 +120,7 @@ impl<'a> Parser<'a> {
     }
 
     #[tactic(auto, unfolding(hip_grammar::specs::Text::target_item))]
-    fn target_item(&mut self) -> Result<Item, Option<Fault>>
+    fn target_item(&mut self) -> Result<Item, Option<TextFault>>
         ensures { Gives item_of result (target_item.read (left self.old)) (left self.new) }
     {
         self.word(b"target")?;
@@ -131,7 +131,7 @@ impl<'a> Parser<'a> {
     }
 
     #[tactic(auto, unfolding(hip_grammar::specs::Text::section))]
-    fn section(&mut self) -> Result<(bool, Option<u64>), Option<Fault>>
+    fn section(&mut self) -> Result<(bool, Option<u64>), Option<TextFault>>
         ensures { Gives (λ x. x) result (section.read (left self.old)) (left self.new) }
     {
         self.word(b"section")?;
@@ -141,7 +141,7 @@ impl<'a> Parser<'a> {
     }
 
     #[tactic(auto, unfolding(hip_grammar::specs::Text::only_align))]
-    fn only_align(&mut self) -> Result<(bool, Option<u64>), Option<Fault>>
+    fn only_align(&mut self) -> Result<(bool, Option<u64>), Option<TextFault>>
         ensures { Gives (λ x. x) result (only_align.read (left self.old)) (left self.new) }
     {
         self.word(b"align")?;
@@ -150,7 +150,7 @@ impl<'a> Parser<'a> {
     }
 
     #[tactic(auto, unfolding(hip_grammar::specs::Text::placement))]
-    fn placement(&mut self) -> Result<(bool, Option<u64>), Option<Fault>>
+    fn placement(&mut self) -> Result<(bool, Option<u64>), Option<TextFault>>
         ensures { Gives (λ x. x) result (placement.read (left self.old)) (left self.new) }
     {
         self.mark(b',')?;
@@ -163,7 +163,7 @@ impl<'a> Parser<'a> {
 
     /// Whether a global is persistent, and its alignment.
     #[tactic(auto, unfolding(hip_grammar::specs::Text::place))]
-    fn place(&mut self) -> Result<(bool, Option<u64>), Option<Fault>>
+    fn place(&mut self) -> Result<(bool, Option<u64>), Option<TextFault>>
         ensures { Gives (λ x. x) result (place.read (left self.old)) (left self.new) }
     {
         if self.at_mark(b',') {
@@ -252,7 +252,7 @@ impl<'a> Parser<'a> {
         }))
     }
 
-    fn dropped(&mut self) -> Result<Item, Option<Fault>>
+    fn dropped(&mut self) -> Result<Item, Option<TextFault>>
         ensures { Gives item_of result
             ((either (is_word (codes "source_filename")) source_filename target_item).read (left self.old))
             (left self.new) }

@@ -8,12 +8,12 @@ mod instructions;
 mod items;
 mod numbers;
 mod parser;
-mod parts;
-mod reading;
+mod productions;
 mod tokens;
 mod types;
 mod unsupported;
+mod whole_text;
 mod words;
 
 pub use hip_grammar::ParseRefusal;
-pub use reading::parse;
+pub use whole_text::parse;

@@ -2,13 +2,13 @@
 
 ghost use Rattle.std.specs.Prelude.{◌≡◌};
 ghost use Rattle.hip_tokens.specs.Tokens.{tokens};
-ghost use Rattle.hip_rules.specs.Reader.{next};
-ghost use Rattle.hip_rules.specs.Part.{token};
+ghost use Rattle.hip_grammar.specs.Reader.{next};
+ghost use Rattle.hip_grammar.specs.Production.{token};
 ghost use Rattle.hip_grammar.specs.Grammar.{word, mark, maybe_word};
 ghost use Rattle.hip_grammar.specs.Words.{is_word, is_mark, is_local, is_global, is_label, a_local, a_global, a_label, a_string, a_section};
 ghost use Rattle.hip_parse.specs.Left.{left, tail, Gives};
 
-use hip_grammar::Fault;
+use hip_grammar::TextFault;
 use hip_tokens::{Lexer, Token};
 
 #[derive(Drop)]
@@ -41,7 +41,7 @@ impl<'a> Parser<'a> {
         ensures { result ≡ next (is_mark b) (left self.now) }
     {
         match self.token {
-            Some((Token::Mark(c), _)) => c == b,
+            Some((Token::Punctuation(c), _)) => c == b,
             _ => false,
         }
     }
@@ -78,7 +78,7 @@ impl<'a> Parser<'a> {
     }
 
     #[tactic(auto, unfolding(crate::specs::Left::left))]
-    pub(crate) fn mark(&mut self, b: u8) -> Result<(), Option<Fault>>
+    pub(crate) fn mark(&mut self, b: u8) -> Result<(), Option<TextFault>>
         ensures { Gives (λ x. x) result ((mark b).read (left self.old)) (left self.new) }
     {
         if !self.at_mark(b) {
@@ -89,7 +89,7 @@ impl<'a> Parser<'a> {
     }
 
     #[tactic(auto, unfolding(crate::specs::Left::left))]
-    pub(crate) fn word(&mut self, w: &[u8]) -> Result<(), Option<Fault>>
+    pub(crate) fn word(&mut self, w: &[u8]) -> Result<(), Option<TextFault>>
         ensures { Gives (λ x. x) result ((word w.now).read (left self.old)) (left self.new) }
     {
         if !self.at_word(w) {
@@ -101,7 +101,7 @@ impl<'a> Parser<'a> {
 
     /// Whether the word was here.
     #[tactic(auto, unfolding(hip_grammar::specs::Grammar::maybe_word))]
-    pub(crate) fn maybe_word(&mut self, w: &[u8]) -> Result<bool, Option<Fault>>
+    pub(crate) fn maybe_word(&mut self, w: &[u8]) -> Result<bool, Option<TextFault>>
         ensures { Gives (λ x. x) result ((maybe_word w.now).read (left self.old)) (left self.new) }
     {
         if self.at_word(w) {
@@ -113,7 +113,7 @@ impl<'a> Parser<'a> {
     }
 
     #[tactic(auto, unfolding(crate::specs::Left::left))]
-    pub(crate) fn local(&mut self) -> Result<&'a [u8], Option<Fault>>
+    pub(crate) fn local(&mut self) -> Result<&'a [u8], Option<TextFault>>
         ensures { Gives (λ x. x.now) result ((token a_local).read (left self.old)) (left self.new) }
     {
         match self.token {
@@ -126,7 +126,7 @@ impl<'a> Parser<'a> {
     }
 
     #[tactic(auto, unfolding(crate::specs::Left::left))]
-    pub(crate) fn global_name(&mut self) -> Result<&'a [u8], Option<Fault>>
+    pub(crate) fn global_name(&mut self) -> Result<&'a [u8], Option<TextFault>>
         ensures { Gives (λ x. x.now) result ((token a_global).read (left self.old)) (left self.new) }
     {
         match self.token {
@@ -139,7 +139,7 @@ impl<'a> Parser<'a> {
     }
 
     #[tactic(auto, unfolding(crate::specs::Left::left))]
-    pub(crate) fn label(&mut self) -> Result<&'a [u8], Option<Fault>>
+    pub(crate) fn label(&mut self) -> Result<&'a [u8], Option<TextFault>>
         ensures { Gives (λ x. x.now) result ((token a_label).read (left self.old)) (left self.new) }
     {
         match self.token {
@@ -152,7 +152,7 @@ impl<'a> Parser<'a> {
     }
 
     #[tactic(auto, unfolding(crate::specs::Left::left))]
-    pub(crate) fn string(&mut self) -> Result<&'a [u8], Option<Fault>>
+    pub(crate) fn string(&mut self) -> Result<&'a [u8], Option<TextFault>>
         ensures { Gives (λ x. x.now) result ((token a_string).read (left self.old)) (left self.new) }
     {
         match self.token {
@@ -166,7 +166,7 @@ impl<'a> Parser<'a> {
 
     /// The string after `section`.
     #[tactic(auto, unfolding(crate::specs::Left::left))]
-    pub(crate) fn section_name(&mut self) -> Result<(), Option<Fault>>
+    pub(crate) fn section_name(&mut self) -> Result<(), Option<TextFault>>
         ensures { Gives (λ x. x) result ((token a_section).read (left self.old)) (left self.new) }
     {
         match self.token {
@@ -175,7 +175,7 @@ impl<'a> Parser<'a> {
                     self.advance();
                     Ok(())
                 } else {
-                    Err(Some(Fault::Unsupported))
+                    Err(Some(TextFault::Unsupported))
                 }
             }
             _ => Err(None),

@@ -1,13 +1,13 @@
 //! The values of the numbers in a text, which depend on their places.
 
 ghost use Rattle.std.specs.Prelude.{◌≡◌};
-ghost use Rattle.hip_rules.specs.Part.{token};
+ghost use Rattle.hip_grammar.specs.Production.{token};
 ghost use Rattle.hip_grammar.specs.Numbers.{a_literal, an_int_const, a_count, an_alignment, truth_word};
 ghost use Rattle.hip_parse.specs.Left.{left, Gives};
 
 use crate::numbers::{alignment_of, count_of, value_of};
 use crate::parser::Parser;
-use hip_grammar::Fault;
+use hip_grammar::TextFault;
 use hip_tokens::Token;
 use hip_tree::Const;
 use hip_types::{Bits, Width};
@@ -34,7 +34,7 @@ fn truth_word(width: Width, t: &[u8]) -> Option<Bits>
 
 impl<'a> Parser<'a> {
     #[tactic(auto, unfolding(crate::specs::Left::left))]
-    pub(crate) fn count(&mut self) -> Result<u64, Option<Fault>>
+    pub(crate) fn count(&mut self) -> Result<u64, Option<TextFault>>
         ensures { Gives (λ x. x) result ((token a_count).read (left self.old)) (left self.new) }
     {
         match self.token {
@@ -43,14 +43,14 @@ impl<'a> Parser<'a> {
                     self.advance();
                     Ok(n)
                 }
-                None => Err(Some(Fault::Range)),
+                None => Err(Some(TextFault::Range)),
             },
             _ => Err(None),
         }
     }
 
     #[tactic(auto, unfolding(crate::specs::Left::left))]
-    pub(crate) fn alignment(&mut self) -> Result<u64, Option<Fault>>
+    pub(crate) fn alignment(&mut self) -> Result<u64, Option<TextFault>>
         ensures { Gives (λ x. x) result ((token an_alignment).read (left self.old)) (left self.new) }
     {
         match self.token {
@@ -59,7 +59,7 @@ impl<'a> Parser<'a> {
                     self.advance();
                     Ok(n)
                 }
-                None => Err(Some(Fault::Range)),
+                None => Err(Some(TextFault::Range)),
             },
             _ => Err(None),
         }
@@ -67,7 +67,7 @@ impl<'a> Parser<'a> {
 
     /// A number, or `true` or `false` of one bit.
     #[tactic(auto, unfolding(crate::specs::Left::left))]
-    pub(crate) fn literal(&mut self, width: Width) -> Result<Bits, Option<Fault>>
+    pub(crate) fn literal(&mut self, width: Width) -> Result<Bits, Option<TextFault>>
         ensures { Gives (λ x. x) result ((token (a_literal width)).read (left self.old)) (left self.new) }
     {
         match self.token {
@@ -76,7 +76,7 @@ impl<'a> Parser<'a> {
                     self.advance();
                     Ok(Bits::new(width, n))
                 }
-                None => Err(Some(Fault::Range)),
+                None => Err(Some(TextFault::Range)),
             },
             Some((Token::Word(t), _)) => match truth_word(width, t) {
                 Some(bits) => {
@@ -91,7 +91,7 @@ impl<'a> Parser<'a> {
 
     /// A constant under an integer type.
     #[tactic(auto, using(crate::proofs::Consts::zero_here, crate::proofs::Consts::literal_here, crate::proofs::Consts::refused_here))]
-    pub(crate) fn int_const(&mut self, width: Width) -> Result<Const, Option<Fault>>
+    pub(crate) fn int_const(&mut self, width: Width) -> Result<Const, Option<TextFault>>
         ensures { Gives (λ x. x) result ((token (an_int_const width)).read (left self.old)) (left self.new) }
     {
         if self.at_word(b"zeroinitializer") {

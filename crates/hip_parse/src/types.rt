@@ -1,8 +1,8 @@
 //! Types, which nest.
 
 ghost use Rattle.hip_tokens.specs.Bytes.{byte};
-ghost use Rattle.hip_rules.specs.Part.{one_more_by, separated, listed};
-ghost use Rattle.hip_rules.specs.Reader.{many_at, with_front};
+ghost use Rattle.hip_grammar.specs.Production.{one_more_by, separated, listed};
+ghost use Rattle.hip_grammar.specs.Reader.{many_at, with_front};
 ghost use Rattle.hip_grammar.specs.Words.{is_mark, comma};
 ghost use Rattle.hip_grammar.specs.Grammar.{array_type, struct_type, type_within};
 ghost use Rattle.hip_parse.specs.Left.{left, Gives, Takes};
@@ -10,18 +10,18 @@ ghost use Rattle.hip_parse.specs.Left.{left, Gives, Takes};
 use crate::error::ReadError;
 use crate::parser::Parser;
 use crate::words::TypeWords;
-use hip_grammar::Fault;
+use hip_grammar::TextFault;
 use hip_types::{Link, Row, Ty};
 use std::alloc::Global;
 
 impl<'a> Parser<'a> {
     /// A type with no level left.
     #[tactic(auto, unfolding(crate::specs::Left::left, hip_grammar::specs::Grammar::type_within, hip_grammar::specs::Grammar::type_by))]
-    fn shallow_type(&mut self) -> Result<Ty, Option<Fault>>
+    fn shallow_type(&mut self) -> Result<Ty, Option<TextFault>>
         ensures { Gives (λ x. x) result ((type_within 0).read (left self.old)) (left self.new) }
     {
         if self.at_mark(b'[') || self.at_mark(b'{') {
-            Err(Some(Fault::TooDeep))
+            Err(Some(TextFault::TooDeep))
         } else {
             self.keyword(TypeWords)
         }
@@ -70,7 +70,7 @@ impl<'a> Parser<'a> {
     }
 
     #[cycle(types)]
-    #[tactic(auto, unfolding(hip_rules::specs::Part::listed, hip_rules::specs::Part::none_up_to, hip_rules::specs::Part::some_up_to))]
+    #[tactic(auto, unfolding(hip_grammar::specs::Production::listed, hip_grammar::specs::Production::none_up_to, hip_grammar::specs::Production::some_up_to))]
     fn fields(&mut self, alloc: Global, depth: u64) -> Result<Row<Ty>, ReadError>
         ensures { Takes (λ x. x) result
             ((listed comma (is_mark (byte "}")) (type_within depth)).read (left self.old))
@@ -86,7 +86,7 @@ impl<'a> Parser<'a> {
     }
 
     #[cycle(types)]
-    #[tactic(auto, unfolding(hip_rules::specs::Part::separated))]
+    #[tactic(auto, unfolding(hip_grammar::specs::Production::separated))]
     fn some_fields(&mut self, alloc: Global, depth: u64) -> Result<Row<Ty>, ReadError>
         ensures { Takes (λ x. x) result ((separated comma (type_within depth)).read (left self.old)) (left self.new) }
     {
@@ -97,7 +97,7 @@ impl<'a> Parser<'a> {
     }
 
     #[cycle(types)]
-    #[tactic(auto, unfolding(hip_rules::specs::Part::one_more_by))]
+    #[tactic(auto, unfolding(hip_grammar::specs::Production::one_more_by))]
     fn next_field(&mut self, alloc: Global, depth: u64) -> Result<Ty, ReadError>
         ensures { Takes (λ x. x) result ((one_more_by comma (type_within depth)).read (left self.old))
             (left self.new) }

@@ -1,14 +1,14 @@
 //! The meanings of words, which depend on their places.
 
 ghost use Rattle.std.specs.Prelude.{◌≡◌, ℕ, List, Option};
-ghost use Rattle.hip_rules.specs.Reader.{next};
-ghost use Rattle.hip_rules.specs.Part.{token, skipped};
+ghost use Rattle.hip_grammar.specs.Reader.{next};
+ghost use Rattle.hip_grammar.specs.Production.{token, skipped};
 ghost use Rattle.hip_grammar.specs.Words.{a_word_of, is_word_of, width_word, scalar_word, ret_word, type_word, binary_word, pred_word, int_cast_word, flag_word, link_word, unnamed_word, linkage_word, target_word, fixed_word};
 ghost use Rattle.hip_parse.specs.Left.{left, Gives};
 
 use crate::parser::Parser;
 use hip_grammar::{
-    Fault, binary_word, flag_word, int_cast_word, pred_word, ret_word, scalar_word, type_word,
+    TextFault, binary_word, flag_word, int_cast_word, pred_word, ret_word, scalar_word, type_word,
     width_word,
 };
 use hip_tokens::Token;
@@ -29,7 +29,7 @@ pub(crate) trait Words: Copy {
 impl<'a> Parser<'a> {
     /// Takes a word with a meaning.
     #[tactic(auto, unfolding(crate::specs::Left::left))]
-    pub(crate) fn keyword<W: Words>(&mut self, words: W) -> Result<W::Meaning, Option<Fault>>
+    pub(crate) fn keyword<W: Words>(&mut self, words: W) -> Result<W::Meaning, Option<TextFault>>
         ensures { Gives (λ x. x) result ((token (a_word_of (W.meaning words))).read (left self.old)) (left self.new) }
     {
         match self.token {
@@ -55,8 +55,8 @@ impl<'a> Parser<'a> {
     }
 
     /// Takes all words with a meaning here, and keeps nothing of them.
-    #[tactic(auto, unfolding(hip_rules::specs::Part::skipped))]
-    pub(crate) fn skip_keywords<W: Words>(&mut self, words: W) -> Result<(), Option<Fault>>
+    #[tactic(auto, unfolding(hip_grammar::specs::Production::skipped))]
+    pub(crate) fn skip_keywords<W: Words>(&mut self, words: W) -> Result<(), Option<TextFault>>
         ensures { Gives (λ x. x) result
             ((skipped (is_word_of (W.meaning words)) (token (a_word_of (W.meaning words)))).read (left self.old))
             (left self.new) }

@@ -19,7 +19,7 @@ use Rattle.hip_tree.specs.declared.site.Site.{Site}
 use Rattle.hip_sound.specs.Given.{CallsAgree, CallsExtern, CallsFunction}
 use Rattle.hip_sound.specs.Laws.Decided.{all-at}
 use Rattle.hip_sound.specs.Laws.NumberingLaws.{function_number-there}
-use Rattle.hip_sound.specs.Numbering.{function_number}
+use Rattle.hip_sound.specs.NumberedNames.{function_number}
 use Rattle.hip_sound.specs.Sound.{IsBlockAt, IsFree, IsSound}
 use Rattle.hip_runs.specs.Found.Marks.{pointer_arg}
 use Rattle.hip_runs.specs.Found.Scores.{operands_at}

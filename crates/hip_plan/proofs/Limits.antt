@@ -13,7 +13,7 @@ use Rattle.hip_runs.specs.Found.Scores.{greater, greatest_worth, operands_at, sc
 use Rattle.hip_runs.specs.declared.report.Findings.{Findings}
 use Rattle.hip_runs.specs.declared.report.Marks.{Marks}
 use Rattle.hip_repairs.specs.Choice.{Candidate, best_of, better, is_better}
-use Rattle.hip_plan.specs.Worths.{IsBound, IsGreatest, IsLimit, IsTable, OperandKey, greater_one, is_at_limit, same_operand}
+use Rattle.hip_plan.specs.Worths.{IsBound, IsGreatest, IsLimit, IsWorthTable, OperandKey, greater_one, is_at_limit, same_operand}
 use Rattle.hip_plan.proofs.Sums.{IsWithin, worth_within}
 
 -- ---- no score is above the limit
@@ -82,7 +82,7 @@ found_at_most n (e ∷ es) key h all =
     by false here later = later
 
 -- No worth exceeds the greatest worth in the table.
-pub table_limit : (entries : List (OperandKey × ℤ)) (greatest : ℤ) (marks : Marks) → IsTable entries greatest marks → IsLimit marks greatest
+pub table_limit : (entries : List (OperandKey × ℤ)) (greatest : ℤ) (marks : Marks) → IsWorthTable entries greatest marks → IsLimit marks greatest
 table_limit entries greatest marks table site operand =
     let bounds = table.is_greatest.bounds in
     subst (λ (z : ℤ). z ≤ℤ greatest) (table.worths.worth site operand)

@@ -47,7 +47,7 @@ abbrev pub puts : Program → Option Site → List Site → List Site → Type 0
 puts P asked old new = (s : Site) → has_site new s ≡ ((is_site asked s && is_there P s) || has_site old s)
 
 -- The sites of a plan after those that a report needs, at its level, were put in.
-pub record HasPut (P : Program) (r : Report) (level : ℕ) (old new : PlanSites) : Type 0 where
+pub record HasPutAsked (P : Program) (r : Report) (level : ℕ) (old new : PlanSites) : Type 0 where
   pub flushes : puts P (flush_asked r.kind level r.path) old.flush_after new.flush_after
   pub fences : puts P (fence_asked r.kind level r.flush_site r.path) old.fence_after new.fence_after
   pub hoists : puts P (hoist_asked r.kind level r.path) old.hoist new.hoist

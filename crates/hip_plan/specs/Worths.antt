@@ -74,7 +74,7 @@ pub record IsGreatest (entries : List (OperandKey × ℤ)) (greatest : ℤ) : Ty
   pub least : (n : ℤ) → IsBound entries n → greatest ≤ℤ n
 
 -- The table has the worths by these marks. The greatest of them and of 0 is this number, which fits 128 bits.
-pub record IsTable (entries : List (OperandKey × ℤ)) (greatest : ℤ) (marks : Marks) : Type 0 where
+pub record IsWorthTable (entries : List (OperandKey × ℤ)) (greatest : ℤ) (marks : Marks) : Type 0 where
   pub worths : HasWorths entries marks.hit marks.pointed
   pub is_greatest : IsGreatest entries greatest
   pub fits : FitsSigned w128 greatest

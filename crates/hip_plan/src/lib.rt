@@ -2,13 +2,13 @@
 #![tactic(auto)]
 
 mod choice;
-mod making;
+mod findings_plan;
 mod plan_sites;
 mod scores;
 mod worth_table;
 mod worths;
 
 pub use choice::choose;
-pub use making::plan;
+pub use findings_plan::plan;
 pub use plan_sites::PlanSites;
 pub use scores::score;

@@ -36,13 +36,13 @@ impl Drop for WorthTable<'_> {
 
 impl<'a> Model for WorthTable<'a> {
     ghost use Rattle.hip_runs.specs.declared.report.Findings.{Findings};
-    ghost use Rattle.hip_plan.specs.Worths.{IsTable};
+    ghost use Rattle.hip_plan.specs.Worths.{IsWorthTable};
 
     ghost Value = { Findings };
 
     ghost view = { λ t. t.found.now };
 
-    ghost invariant = { λ t. IsTable t.worths.entries t.greatest t.found.now.marks };
+    ghost invariant = { λ t. IsWorthTable t.worths.entries t.greatest t.found.now.marks };
 }
 
 fn set_of(alloc: Global, numbers: &[usize]) -> Result<BTreeSet<usize>, NoMemory>

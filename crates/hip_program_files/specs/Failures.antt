@@ -24,7 +24,7 @@ abbrev pub failure_of_fault : TypeFault → Place → Failure ProgramRefusal
 failure_of_fault faults.NoMemory place = failures.NoMemory
 failure_of_fault fault place = failures.Refused (refusals.Form (record { fault = fault; place = place }))
 
--- A refusal of the checker.
+-- A refusal of the verifier.
 abbrev pub failure_of_form : TypeRefusal → Failure ProgramRefusal
 failure_of_form why = failure_of_fault why.fault why.place
 

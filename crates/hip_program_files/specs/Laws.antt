@@ -3,13 +3,13 @@ pub mod FormRefusals
 pub mod OneAnswer
 pub mod TextRefusals
 use Rattle.std.specs.Prelude.{ℕ, ◌+◌, ◌-◌, ◌^◌, ◌≡◌, min, Bool, true, false, List, [], Some}
-use Rattle.std.proofs.Common.{◌∙◌, ap, subst, arith}
+use Rattle.std.proofs.Common.{◌∙◌, ap, subst, arith, inl, inr}
 use Rattle.hip_io.specs.Cabinets.{CabinetState}
 use Rattle.hip_io.specs.Counts.{Rose}
 use Rattle.hip_io.specs.declared.cabinet.NamedFile.{NamedFile}
 use Rattle.hip_tree.specs.declared.program.Program.{Program}
-use Rattle.hip_program_files.specs.Loading.{HasNoProgram, IsProgramOf}
-use Rattle.hip_program_files.specs.Outside.{CountsFetches, CountsUp, HasMet}
+use Rattle.hip_program_files.specs.LoadedPrograms.{HasNoProgram, IsProgramOf}
+use Rattle.hip_program_files.specs.Outside.{CountsFetches, CountsUp, HasMet, MakesFetches}
 use Rattle.hip_program_files.specs.declared.refusal.LoadRefusal.{LoadRefusal}
 use Rattle.hip_program_files.specs.declared.refusal.LoadRefusal.TheVariants as loads
 use Rattle.hip_program_files.specs.declared.refusal.ProgramRefusal.TheVariants as refusals
@@ -34,6 +34,9 @@ met_then {missed} {failed} {old} {mid} {new} first second = record {
 min_then : (a m n most : ℕ) → min (min (a + m) most + n) most ≡ min (a + (m + n)) most
 min_then a m n most = omega arith
 
+none_then : (a m n : ℕ) → m ≡ 0 → min (a + n) (2 ^ 64 - 1) ≡ min (a + (m + n)) (2 ^ 64 - 1)
+none_then a m n none = omega (arith, none)
+
 -- The numbers of fetches of two calls add up.
 pub fetches_then : (m n : ℕ) {old mid new : CabinetState} → CountsFetches m old mid → CountsFetches n mid new
     → CountsFetches (m + n) old new
@@ -43,6 +46,13 @@ fetches_then m n {old} {mid} {new} first second =
           second.count ∙ ap (λ k. min (k + n) (2 ^ 64 - 1)) first.count
           ∙ min_then old.fetches m n (2 ^ 64 - 1);
     }
+
+-- The same where the first call may have made none.
+pub makes_then : (m n : ℕ) {old mid new : CabinetState} → MakesFetches m old mid → CountsFetches n mid new
+    → CountsFetches (m + n) old new
+makes_then m n {old} {mid} {new} (inl none) second =
+    record { count = second.count ∙ ap (λ k. min (k + n) (2 ^ 64 - 1)) none.1 ∙ none_then old.fetches m n none.0 }
+makes_then m n {old} {mid} {new} (inr first) second = fetches_then m n first second
 
 -- ---- one answer
 

@@ -1,4 +1,4 @@
 pub mod Failures
 pub mod Laws
-pub mod Loading
+pub mod LoadedPrograms
 pub mod Outside

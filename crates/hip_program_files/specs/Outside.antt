@@ -1,5 +1,5 @@
 -- What a call has met in its files.
-use Rattle.std.specs.Prelude.{ℕ, ◌+◌, ◌-◌, ◌^◌, ◌≡◌, ◌≤◌, min, Bool, true, false}
+use Rattle.std.specs.Prelude.{ℕ, ◌+◌, ◌-◌, ◌^◌, ◌≡◌, ◌≤◌, ◌⊎◌, min, Bool, true, false}
 use Rattle.hip_io.specs.Cabinets.{CabinetState}
 use Rattle.hip_io.specs.Counts.{Rose}
 
@@ -18,3 +18,7 @@ pub record HasMet (missed failed : Bool) (old new : CabinetState) : Type 0 where
 -- The call made exactly n fetches. A count that has reached its greatest value stays there.
 pub record CountsFetches (n : ℕ) (old new : CabinetState) : Type 0 where
   pub count : new.fetches ≡ min (old.fetches + n) (2 ^ 64 - 1)
+
+-- The call made exactly n fetches; where that is none, the count is as it was.
+abbrev pub MakesFetches : ℕ → CabinetState → CabinetState → Type 0
+MakesFetches n old new = ((n ≡ 0) × (new.fetches ≡ old.fetches)) ⊎ CountsFetches n old new

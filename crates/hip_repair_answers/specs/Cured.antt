@@ -1,6 +1,6 @@
 -- What a repair for a run is, and what it does.
 use Rattle.std.specs.Prelude.{Bool}
-use Rattle.hip_grammar.specs.Reading.{Reads}
+use Rattle.hip_grammar.specs.ReadTexts.{Reads}
 use Rattle.hip_grammar.specs.Show.{show}
 use Rattle.hip_tree.specs.declared.program.Program.{Program}
 use Rattle.hip_tree.specs.declared.site.Site.{Site}

@@ -8,7 +8,7 @@ ghost use Rattle.hip_repair_answers.specs.Cured.{IsCured, IsCuredBy};
 ghost use Rattle.hip_repair_answers.specs.Laws.{NothingToRepair, RerunsAreTraces, SecondRepair};
 ghost use Rattle.hip_answers.specs.RunLaws.{AnswersRuns, FaultsHideNone, GivesOne};
 ghost use Rattle.hip_repairs.specs.Choice.{Contains, plan_for};
-ghost use Rattle.hip_repairs.specs.Quiet.{IsQuiet};
+ghost use Rattle.hip_repairs.specs.StayOutside.{StayOutside};
 ghost use Rattle.hip_repairs.specs.declared.plan.Plan.{Plan};
 ghost use Rattle.hip_runs.specs.Found.Marks.{IsFound};
 ghost use Rattle.hip_runs.specs.Validity.{IsValid};
@@ -29,7 +29,7 @@ pub fn repairs_cure()
 pub fn plans_cure()
     ensures { (P : Program) → (I : Input) → (plan : Plan) → (skip : Site → Bool) → (found : Findings)
         → IsSound P →
-        IsValid P I → IsQuiet P skip → IsFound P I found → Contains plan (plan_for P found) →
+        IsValid P I → StayOutside P skip → IsFound P I found → Contains plan (plan_for P found) →
         IsCuredBy P I plan skip }
 {}
 

@@ -1,5 +1,5 @@
 -- What was written of the reports, as an answer of `check`.
-use Rattle.std.proofs.Common.{false, length, refl}
+use Rattle.std.proofs.Common.{◌≡◌, false, length, refl, sym, ap, ◌∙◌}
 use Rattle.hip_answers.specs.Answers.{Answer, AnswersOnRun, Finishes, PutsLine, Sinks}
 use Rattle.hip_answers.specs.Laws.{cut_out, finished}
 use Rattle.hip_answers.specs.declared.status.Status.{Status}
@@ -13,6 +13,15 @@ use Rattle.hip_report_lines.specs.Counts.{check_counts}
 use Rattle.hip_report_lines.specs.Reports.{report_lines}
 use Rattle.hip_runs.specs.declared.input.Input.{Input}
 use Rattle.hip_runs.specs.declared.report.Findings.{Findings}
+
+-- What `check` answers depends on the reports alone.
+pub reported_alike : (P : Program) (I : Input) (f found : Findings) → found.reports ≡ f.reports → (a : Answer)
+    → HasChecked P I f a → HasChecked P I found a
+reported_alike P I f found same a h = record {
+  status_is = h.status_is;
+  out_is = h.out_is ∙ ap (report_lines P) (sym same);
+  notes_is = h.notes_is ∙ ap (λ rs. check_counts (length rs)) (sym same);
+}
 
 module _ (P : Program) (I : Input) (found : Findings) (s : Sinks) where
   -- The answer of `check`: the reports, and on notes how many they are.

@@ -1,3 +1,11 @@
+pub mod Answered
+pub mod Cures
+pub mod Faults
+pub mod Loads
+pub mod Longer
+pub mod OneMany
+pub mod SomeMany
 pub mod Checks
 pub mod Repairs
 pub mod Reruns
+pub mod Thins

@@ -11,8 +11,8 @@ use Rattle.hip_grammar.specs.Show.{show}
 use Rattle.hip_tree.specs.declared.program.Program.{Program}
 use Rattle.hip_repair_answers.specs.Answers.{HasRepaired}
 use Rattle.hip_repair_answers.specs.Cured.{IsCured}
-use Rattle.hip_repairing.specs.Making.{IsRepairFor}
-use Rattle.hip_repairing.specs.declared.one_run.Repair.{Repair}
+use Rattle.hip_run_repairs.specs.RunRepairs.{IsRepairFor}
+use Rattle.hip_run_repairs.specs.declared.one_run.Repair.{Repair}
 use Rattle.hip_repairs.specs.Choice.{plan_for}
 use Rattle.hip_repairs.specs.CloneNumbers.{clone_numbers}
 use Rattle.hip_repairs.specs.declared.plan.CloneOf.{CloneOf}

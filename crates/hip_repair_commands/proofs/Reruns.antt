@@ -11,8 +11,8 @@ use Rattle.hip_io.specs.declared.sink.Put.TheVariants as puts
 use Rattle.hip_tree.specs.declared.program.Program.{Program}
 use Rattle.hip_repair_answers.specs.Answers.{HasRerun}
 use Rattle.hip_repair_answers.specs.Cured.{IsCured, repaired_for}
-use Rattle.hip_recording.specs.Recording.{HasFailedRecording, HasRecorded, HasStoppedRecording}
-use Rattle.hip_recording.specs.declared.record.Recorded.{Recorded}
+use Rattle.hip_replay.specs.RecordedTrace.{HasFailedRecording, HasRecorded, HasStoppedRecording}
+use Rattle.hip_replay.specs.declared.record.Recorded.{Recorded}
 use Rattle.hip_report_lines.specs.Counts.{rerun_counts}
 use Rattle.hip_run_traces.specs.Traces.{IsTrace}
 use Rattle.hip_runs.specs.Found.Marks.{IsFound}

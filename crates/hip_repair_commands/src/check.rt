@@ -2,13 +2,14 @@
 
 ghost use Rattle.std.specs.Prelude.{◌≡◌, false};
 ghost use Rattle.hip_answers.specs.Answers.{AnswersOnRun, HasAnswered, IsDelivered, sinks};
+ghost use Rattle.hip_answers.specs.Fetches.{FetchesFiles};
 ghost use Rattle.hip_repair_answers.specs.Answers.{CheckAnswers, HasChecked};
 
 use hip_answers::{Status, finish, refuse};
+use hip_command_io::{Replayed, Sought, load_run};
 use hip_io::{Cabinet, Put, Sink};
 use hip_report_lines::{put_check_counts, put_reports};
 use hip_sound::Checked;
-use hip_trace_loading::{Replayed, load_run};
 use std::alloc::Global;
 
 /// Writes a line for each report of a run, and then their number to notes.
@@ -47,9 +48,10 @@ pub fn check_file<C: Cabinet, S: Sink, N: Sink>(
         (CheckAnswers (C.state cabinet.old) (C.state cabinet.new) program.now trace.now) false
         (C.state cabinet.old) (C.state cabinet.new)
         (sinks (S.state out.old) (S.state out.new) (N.state notes.old) (N.state notes.new)) result }
+    ensures fetches { FetchesFiles 2 result (C.state cabinet.old) (C.state cabinet.new) }
     ensures delivered { S.held out.old ≡ 0 → IsDelivered result (S.held out.new) }
 {
-    match load_run(alloc, program, trace, cabinet, notes) {
+    match load_run(alloc, program, trace, Sought::Reports, cabinet, notes) {
         Ok(loaded) => report_findings(&loaded.checked, &loaded.replayed, out, notes),
         Err(status) => status,
     }

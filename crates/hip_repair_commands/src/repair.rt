@@ -2,18 +2,19 @@
 
 ghost use Rattle.std.specs.Prelude.{◌≡◌, false};
 ghost use Rattle.hip_answers.specs.Answers.{AnswersOnRun, HasAnswered, IsDelivered, sinks};
+ghost use Rattle.hip_answers.specs.Fetches.{FetchesFiles};
 ghost use Rattle.hip_repair_answers.specs.Answers.{HasRepaired, RepairAnswers};
-ghost use Rattle.hip_repairing.specs.Making.{IsRepairFor};
+ghost use Rattle.hip_run_repairs.specs.RunRepairs.{IsRepairFor};
 ghost use Rattle.hip_runs.specs.Found.Marks.{IsFound};
 ghost use Rattle.hip_runs.specs.Validity.{IsValid};
 
 use hip_answers::{Status, finish, refuse};
+use hip_command_io::{Replayed, Sought, load_run};
 use hip_io::{Cabinet, Sink, WriteFault};
 use hip_repair_answers::repairs_cure;
-use hip_repairing::{Repair, repair_for};
 use hip_report_lines::put_repair_counts;
+use hip_run_repairs::{Repair, repair_for};
 use hip_sound::Checked;
-use hip_trace_loading::{Replayed, load_run};
 use hip_types::NoMemory;
 use hip_write::write;
 use std::alloc::Global;
@@ -81,9 +82,10 @@ pub fn repair_file<C: Cabinet, S: Sink, N: Sink>(
         (RepairAnswers (C.state cabinet.old) (C.state cabinet.new) program.now trace.now) false
         (C.state cabinet.old) (C.state cabinet.new)
         (sinks (S.state out.old) (S.state out.new) (N.state notes.old) (N.state notes.new)) result }
+    ensures fetches { FetchesFiles 2 result (C.state cabinet.old) (C.state cabinet.new) }
     ensures delivered { S.held out.old ≡ 0 → IsDelivered result (S.held out.new) }
 {
-    match load_run(alloc, program, trace, cabinet, notes) {
+    match load_run(alloc, program, trace, Sought::Findings, cabinet, notes) {
         Ok(loaded) => repair_findings(alloc, &loaded.checked, &loaded.replayed, out, notes),
         Err(status) => status,
     }

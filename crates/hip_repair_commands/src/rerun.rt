@@ -2,19 +2,20 @@
 
 ghost use Rattle.std.specs.Prelude.{◌≡◌, true};
 ghost use Rattle.hip_answers.specs.Answers.{AnswersOnRun, HasAnswered, IsDelivered, sinks};
+ghost use Rattle.hip_answers.specs.Fetches.{FetchesFiles};
 ghost use Rattle.hip_repair_answers.specs.Answers.{HasRerun, RerunAnswers};
-ghost use Rattle.hip_repairing.specs.Making.{IsRepairFor};
+ghost use Rattle.hip_run_repairs.specs.RunRepairs.{IsRepairFor};
 ghost use Rattle.hip_runs.specs.Found.Marks.{IsFound};
 ghost use Rattle.hip_runs.specs.Validity.{IsValid};
 
 use hip_answers::{Status, finish, refuse};
+use hip_command_io::{Replayed, Sought, load_run};
 use hip_io::{Cabinet, Sink};
-use hip_recording::{RecordRefusal, record_run};
 use hip_repair_answers::repairs_cure;
-use hip_repairing::{Repair, repair_for};
+use hip_replay::{RecordRefusal, record_run};
 use hip_report_lines::put_rerun_counts;
+use hip_run_repairs::{Repair, repair_for};
 use hip_sound::Checked;
-use hip_trace_loading::{Replayed, load_run};
 use hip_types::NoMemory;
 use std::alloc::Global;
 
@@ -83,9 +84,10 @@ pub fn rerun_file<C: Cabinet, S: Sink, N: Sink>(
     ensures answered { HasAnswered (RerunAnswers (C.state cabinet.old) (C.state cabinet.new) program.now trace.now) true
         (C.state cabinet.old) (C.state cabinet.new)
         (sinks (S.state out.old) (S.state out.new) (N.state notes.old) (N.state notes.new)) result }
+    ensures fetches { FetchesFiles 2 result (C.state cabinet.old) (C.state cabinet.new) }
     ensures delivered { S.held out.old ≡ 0 → IsDelivered result (S.held out.new) }
 {
-    match load_run(alloc, program, trace, cabinet, notes) {
+    match load_run(alloc, program, trace, Sought::Findings, cabinet, notes) {
         Ok(loaded) => rerun_findings(alloc, &loaded.checked, &loaded.replayed, out, notes),
         Err(status) => status,
     }

@@ -4,7 +4,9 @@ use crate::programs::{Place, checked, path, site, sites};
 use hip_examples::{AMPLE, ASSERT_INSIDE_CALLEE, COPY, EVEN_AND_ODD, KEY_VALUE_LOG};
 use hip_findings::{SharedFindings, SharedReport, SharedReports, StoreReport};
 use hip_fix::suits;
+use hip_many::mends_all;
 use hip_plan::{choose, plan, score};
+use hip_repairs::Plan;
 use hip_runs::{Kind, Mark, Marks, Object};
 use hip_sound::Checked;
 use hip_types::Row;
@@ -12,6 +14,7 @@ use std::alloc::Global;
 use std::process::Abort;
 
 /// A report of a store, the calls that it was made in, and how many of them had returned.
+#[derive(Drop)]
 struct Found {
     kind: Kind,
     entries: (u128, u128),
@@ -377,6 +380,80 @@ fn assert_case(rt: &impl Abort, alloc: Global, case: &Case) {
 fn plans_of_findings(rt: HostRuntime) {
     for case in CASES {
         assert_case(&rt, rt.alloc(), case);
+    }
+}
+
+/// A plan, how many calls had returned at the check of a store that lacks a flush and a fence, and whether the plan mends
+/// the report of it.
+struct Tried {
+    flushes: &'static [Place],
+    fences: &'static [Place],
+    hoists: &'static [Place],
+    closed: usize,
+    mends: bool,
+}
+
+const TRIED: &[Tried] = &[
+    Tried {
+        flushes: &[(0, 0, 1)],
+        fences: &[(0, 0, 1)],
+        hoists: &[],
+        closed: 1,
+        mends: true,
+    },
+    Tried {
+        flushes: &[(0, 0, 1)],
+        fences: &[(1, 0, 4)],
+        hoists: &[],
+        closed: 1,
+        mends: false,
+    },
+    Tried {
+        flushes: &[],
+        fences: &[(0, 0, 1)],
+        hoists: &[],
+        closed: 1,
+        mends: false,
+    },
+    Tried {
+        flushes: &[],
+        fences: &[],
+        hoists: &[(1, 0, 3), (1, 0, 4)],
+        closed: 1,
+        mends: true,
+    },
+    Tried {
+        flushes: &[],
+        fences: &[],
+        hoists: &[(1, 0, 4)],
+        closed: 0,
+        mends: false,
+    },
+];
+
+fn assert_tried(rt: &impl Abort, alloc: Global, tried: &Tried) {
+    let found = Found {
+        kind: Kind::MissingBoth,
+        entries: (3, 4),
+        store: (0, 0, 1),
+        calls: &[(1, 0, 4)],
+        closed: tried.closed,
+        level: 0,
+    };
+    let findings = SharedFindings::new(reports(rt, alloc, &[found]), marks(rt, alloc, &[], &[]));
+    let plan = Plan {
+        flush_after: sites(rt, alloc, tried.flushes),
+        fence_after: sites(rt, alloc, tried.fences),
+        hoist: sites(rt, alloc, tried.hoists),
+    };
+    let mends = mends_all(alloc, &plan, &findings).expect(rt, AMPLE);
+    assert!(rt; mends == tried.mends);
+}
+
+#[test]
+fn plans_that_mend(rt: HostRuntime) {
+    for tried in TRIED {
+        assert_tried(&rt, rt.alloc(), tried);
     }
 }
 

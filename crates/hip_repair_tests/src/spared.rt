@@ -1,9 +1,9 @@
 //! Clones without the flushes of stores that are never in the region.
 
 use crate::programs::{assert_written, checked, sites};
-use hip_copies::same;
 use hip_examples::{AMPLE, NOTES, NOTES_THIN};
 use hip_fix::{CloneOf, Plan, apply, apply_skipping, suits};
+use hip_ir::same;
 use hip_sound::Checked;
 use hip_types::Row;
 use hip_vol::{apply_quiet, quiet_stores};

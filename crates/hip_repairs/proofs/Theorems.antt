@@ -13,10 +13,11 @@ use Rattle.hip_repairs.specs.Clean.{IsClean}
 use Rattle.hip_repairs.specs.Covered.{AreHoistsFenced, IsCovered}
 use Rattle.hip_repairs.specs.Direct.{direct}
 use Rattle.hip_repairs.specs.Harmless.{IsHarmless}
-use Rattle.hip_repairs.specs.Quiet.{IsQuiet}
+use Rattle.hip_repairs.specs.Mending.{MendsAll}
+use Rattle.hip_repairs.specs.StayOutside.{StayOutside}
 use Rattle.hip_repairs.specs.Repaired.{repaired}
 use Rattle.hip_repairs.specs.declared.plan.Plan.{Plan}
-use Rattle.hip_repairs.proofs.clean.Cured.{clean}
+use Rattle.hip_repairs.proofs.clean.Cured.{clean, mended_clean}
 use Rattle.hip_repairs.proofs.covered.FencedCalls.{covered}
 use Rattle.hip_repairs.proofs.covered.HoistsFenced.{hoists_fenced}
 use Rattle.hip_repairs.proofs.quiet.QuietStores.{quiet_stores}
@@ -31,11 +32,15 @@ pub repairs_do_no_harm : (P : Program) (plan : Plan) (skip : Site → Bool) → 
 repairs_do_no_harm P plan skip sound = harmless P plan skip (sound-passes P sound)
 
 pub repairs_are_clean : (P : Program) (plan : Plan) (skip : Site → Bool) (I : Input) (found : Findings) → IsSound P →
-    IsValid P I → IsQuiet P skip → IsFound P I found → Contains plan (plan_for P found) →
+    IsValid P I → StayOutside P skip → IsFound P I found → Contains plan (plan_for P found) →
     IsClean (repaired P plan skip) I
 repairs_are_clean P plan skip I found sound = clean P plan skip I found (sound-passes P sound)
 
-pub hoisted_calls_are_covered : (P : Program) (plan : Plan) (skip : Site → Bool) → IsSound P → IsQuiet P skip →
+pub mending_plans_are_clean : (P : Program) (plan : Plan) (skip : Site → Bool) (I : Input) (found : Findings) → IsSound P →
+    IsValid P I → StayOutside P skip → IsFound P I found → MendsAll plan found → IsClean (repaired P plan skip) I
+mending_plans_are_clean P plan skip I found sound = mended_clean P plan skip I found (sound-passes P sound)
+
+pub hoisted_calls_are_covered : (P : Program) (plan : Plan) (skip : Site → Bool) → IsSound P → StayOutside P skip →
     IsCovered P (repaired P plan skip)
 hoisted_calls_are_covered P plan skip sound = covered P plan skip (sound-passes P sound)
 
@@ -43,5 +48,5 @@ pub hoisted_calls_are_fenced : (P : Program) (plan : Plan) (skip : Site → Bool
     AreHoistsFenced P plan skip
 hoisted_calls_are_fenced P plan skip sound = hoists_fenced P plan skip (sound-passes P sound)
 
-pub direct_stores_are_quiet : (P : Program) → IsSound P → IsQuiet P (direct P)
-direct_stores_are_quiet P sound = quiet_stores P (sound-passes P sound)
+pub direct_stores_stay_outside : (P : Program) → IsSound P → StayOutside P (direct P)
+direct_stores_stay_outside P sound = quiet_stores P (sound-passes P sound)

@@ -9,7 +9,7 @@ use Rattle.hip_tree.specs.declared.program.Program.{Program}
 use Rattle.hip_tree.specs.declared.site.Site.{Site}
 use Rattle.hip_lines.specs.Line.{Line}
 use Rattle.hip_externs.specs.Externs.{call_of}
-use Rattle.hip_sound.specs.Numbering.{function_number}
+use Rattle.hip_sound.specs.NumberedNames.{function_number}
 use Rattle.hip_externs.specs.declared.call.ExternCall.{ExternCall}
 use Rattle.hip_externs.specs.declared.call.ExternCall.TheVariants as calls
 use Rattle.hip_runs.specs.declared.input.Input.{Input}

@@ -2,8 +2,9 @@ pub mod Suits
 pub mod Repaired
 pub mod Direct
 pub mod Harmless
-pub mod Quiet
+pub mod StayOutside
 pub mod Choice
+pub mod Mending
 pub mod Planned
 pub mod CloneNumbers
 pub mod Clean

@@ -34,7 +34,7 @@ union P a b =
     }
 
 -- The plan names only sites of the program.
-pub record IsWithin (P : Program) (plan : Plan) : Type 0 where
+pub record PlanIsWithin (P : Program) (plan : Plan) : Type 0 where
   pub flush_after : (s : Site) → has_site plan.flush_after s ≡ true → has_site (sites_of P) s ≡ true
   pub fence_after : (s : Site) → has_site plan.fence_after s ≡ true → has_site (sites_of P) s ≡ true
   pub hoist : (s : Site) → has_site plan.hoist s ≡ true → has_site (sites_of P) s ≡ true

@@ -8,7 +8,7 @@ ghost use Rattle.hip_repairs.specs.examples.MutualRecursion.{mutual_recursion, m
 ghost use Rattle.hip_repairs.specs.examples.OneStore.{one_store, one_store_repaired, one_store_report};
 ghost use Rattle.hip_repairs.specs.examples.OverwrittenStore.{overwritten_store, overwritten_store_repaired, overwritten_store_report};
 ghost use Rattle.hip_repairs.specs.examples.StoreInTwoLines.{store_in_two_lines, store_in_two_lines_repaired, store_in_two_lines_report};
-ghost use Rattle.hip_repairs.specs.examples.Words.{IsHoisted, IsWorked, zeroed};
+ghost use Rattle.hip_repairs.specs.examples.Words.{ExampleIsHoisted, IsWorked, zeroed};
 ghost use Rattle.std.specs.Prelude.{[], ◌∷◌};
 
 /// A store that is neither flushed nor fenced: a flush and a fence follow it, and both are declared.
@@ -41,17 +41,17 @@ pub fn store_in_two_lines_is_repaired()
 /// A function that is called once for the stack and once for a persistent global: the second call goes to a clone that
 /// flushes what it stores, with a fence after the call.
 pub fn copy_is_hoisted()
-    ensures { IsHoisted copy_hoisted (zeroed 1) 12 (copy_hoisted_report ∷ []) copy_hoisted_repaired }
+    ensures { ExampleIsHoisted copy_hoisted (zeroed 1) 12 (copy_hoisted_report ∷ []) copy_hoisted_repaired }
 {}
 
 /// A function that asserts what it stored: the store is reported at the assert and at the end, and a flush and a fence
 /// follow the store, before the assert.
 pub fn assert_inside_callee_is_repaired()
-    ensures { IsHoisted assert_inside_callee (zeroed 1) 6 assert_inside_callee_reports assert_inside_callee_repaired }
+    ensures { ExampleIsHoisted assert_inside_callee (zeroed 1) 6 assert_inside_callee_reports assert_inside_callee_repaired }
 {}
 
 /// Two functions that call one another, first for the stack and then for a persistent global: the second call from
 /// `main` goes to a clone, and the clones call one another.
 pub fn mutual_recursion_is_hoisted()
-    ensures { IsHoisted mutual_recursion (zeroed 1) 38 (mutual_recursion_report ∷ []) mutual_recursion_repaired }
+    ensures { ExampleIsHoisted mutual_recursion (zeroed 1) 38 (mutual_recursion_report ∷ []) mutual_recursion_repaired }
 {}

@@ -13,7 +13,8 @@ ghost use Rattle.hip_repairs.specs.Clean.{IsClean};
 ghost use Rattle.hip_repairs.specs.Covered.{AreHoistsFenced, IsCovered};
 ghost use Rattle.hip_repairs.specs.Direct.{direct};
 ghost use Rattle.hip_repairs.specs.Harmless.{IsHarmless};
-ghost use Rattle.hip_repairs.specs.Quiet.{IsQuiet};
+ghost use Rattle.hip_repairs.specs.Mending.{MendsAll};
+ghost use Rattle.hip_repairs.specs.StayOutside.{StayOutside};
 ghost use Rattle.hip_repairs.specs.Repaired.{repaired};
 ghost use Rattle.hip_repairs.specs.declared.plan.Plan.{Plan};
 ghost use Rattle.std.specs.Prelude.{Bool, ℕ, ◌≡◌};
@@ -27,8 +28,19 @@ pub fn repairs_do_no_harm()
 /// clones do not flush never write to the region.
 pub fn repairs_are_clean()
     ensures { (P : Program) → (plan : Plan) → (skip : Site → Bool) → (I : Input) → (found : Findings) →
-        IsSound P → IsValid P I → IsQuiet P skip → IsFound P I found → Contains plan (plan_for P found) →
+        IsSound P → IsValid P I → StayOutside P skip → IsFound P I found → Contains plan (plan_for P found) →
         IsClean (repaired P plan skip) I }
+{}
+
+/// A repair by a plan that mends each report of a run leaves nothing to report on that run's input. A plan may mend a
+/// report at any level: by a fence after the flush that the report names, by a flush after its store, or by hoisting any
+/// call of its path that had returned. A plan that has what the run found mends each of its reports.
+pub fn mending_plans_are_clean()
+    ensures clean { (P : Program) → (plan : Plan) → (skip : Site → Bool) → (I : Input) → (found : Findings) →
+        IsSound P → IsValid P I → StayOutside P skip → IsFound P I found → MendsAll plan found →
+        IsClean (repaired P plan skip) I }
+    ensures contained { (P : Program) → (I : Input) → (plan : Plan) → (found : Findings) → IsFound P I found →
+        Contains plan (plan_for P found) → MendsAll plan found }
 {}
 
 /// The repaired program is sound again, whatever the plan is. The region's size and all addresses stay the same.
@@ -46,7 +58,7 @@ pub fn repaired_is_sound()
 /// call, everything that was stored under the call is durable, if the stores that the clones do not flush never write
 /// to the region.
 pub fn hoisted_calls_are_covered()
-    ensures { (P : Program) → (plan : Plan) → (skip : Site → Bool) → IsSound P → IsQuiet P skip →
+    ensures { (P : Program) → (plan : Plan) → (skip : Site → Bool) → IsSound P → StayOutside P skip →
         IsCovered P (repaired P plan skip) }
 {}
 
@@ -57,6 +69,6 @@ pub fn hoisted_calls_are_fenced()
 
 /// The stores whose address is a register assigned by `alloca`, or the name of a volatile global, never write to the
 /// region.
-pub fn direct_stores_are_quiet()
-    ensures { (P : Program) → IsSound P → IsQuiet P (direct P) }
+pub fn direct_stores_stay_outside()
+    ensures { (P : Program) → IsSound P → StayOutside P (direct P) }
 {}

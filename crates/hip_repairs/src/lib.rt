@@ -13,8 +13,8 @@ pub use examples::{
     overwritten_store_is_repaired, store_in_two_lines_is_repaired,
 };
 pub use laws::{
-    direct_stores_are_quiet, hoisted_calls_are_covered, hoisted_calls_are_fenced,
-    repaired_is_sound, repairs_are_clean, repairs_do_no_harm,
+    direct_stores_stay_outside, hoisted_calls_are_covered, hoisted_calls_are_fenced,
+    mending_plans_are_clean, repaired_is_sound, repairs_are_clean, repairs_do_no_harm,
 };
 pub use plan::{CloneOf, Plan};
 pub use plans::{

@@ -10,7 +10,7 @@ ghost use Rattle.hip_runs.specs.declared.input.Input.{Input};
 ghost use Rattle.hip_runs.specs.declared.report.Findings.{Findings};
 ghost use Rattle.hip_repairs.specs.Choice.{Contains, plan_for};
 ghost use Rattle.hip_repairs.specs.CloneNumbers.{IsCloneOf, clone_numbers};
-ghost use Rattle.hip_repairs.specs.Planned.{IsAsked, IsWithin, union};
+ghost use Rattle.hip_repairs.specs.Planned.{IsAsked, PlanIsWithin, union};
 ghost use Rattle.hip_repairs.specs.Repaired.{cloned, repaired};
 ghost use Rattle.hip_repairs.specs.Suits.{IsStrictOrder, IsSuiting, is_ascending, no_repairs};
 ghost use Rattle.hip_repairs.specs.declared.plan.CloneOf.{CloneOf};
@@ -41,9 +41,9 @@ pub fn plans_suit()
 /// The union of two plans contains each plan that names only sites of the program, as a plan that suits it does; and it
 /// suits the program if both do.
 pub fn plans_unite()
-    ensures first { (P : Program) → (a b : Plan) → IsWithin P a → Contains (union P a b) a }
-    ensures second { (P : Program) → (a b : Plan) → IsWithin P b → Contains (union P a b) b }
-    ensures within { (P : Program) → (plan : Plan) → IsSuiting P plan → IsWithin P plan }
+    ensures first { (P : Program) → (a b : Plan) → PlanIsWithin P a → Contains (union P a b) a }
+    ensures second { (P : Program) → (a b : Plan) → PlanIsWithin P b → Contains (union P a b) b }
+    ensures within { (P : Program) → (plan : Plan) → IsSuiting P plan → PlanIsWithin P plan }
     ensures suits { (P : Program) → (a b : Plan) → IsSuiting P a → IsSuiting P b → IsSuiting P (union P a b) }
 {}
 

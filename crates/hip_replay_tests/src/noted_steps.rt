@@ -1,7 +1,7 @@
 //! A tracker that notes a run step by step, and what it has found at the end of the run.
 
 ghost use Rattle.std.specs.Prelude.{◌≡◌, ◌+◌, ◌<◌, ◌≤◌, ◌^◌, true};
-ghost use Rattle.hip_report.specs.Tracking.{HasNoted};
+ghost use Rattle.hip_report.specs.TrackerView.{HasNoted};
 ghost use Rattle.hip_runs.specs.Seen.{state_of};
 ghost use Rattle.hip_runs.specs.Step.{has_ended, header_entries};
 ghost use Rattle.hip_runs.specs.Validity.{IsValid};
@@ -11,7 +11,7 @@ use hip_examples::{AMPLE, COPY};
 use hip_invariants::runs_are_bounded;
 use hip_io::MemSink;
 use hip_lockstep::put_header;
-use hip_report::{Mark, SharedFindings, Tracker};
+use hip_report::{Mark, SharedFindings, Sought, Tracker};
 use hip_run_traces::traces_follow_the_run;
 use hip_sound::Checked;
 use hip_step::{Begin, Ending, Event, Input, Machine, Object, why_not};
@@ -365,18 +365,19 @@ fn note_steps<'a>(
     assert!(rt; machine.ending().is_some(), "{}", case.name);
 }
 
-/// What a tracker that notes a run from its first step to its end finds.
+/// What a tracker that notes a run from its first step to its end finds of what is sought.
 fn found(
     rt: &impl Abort,
     alloc: Global,
     checked: &Checked,
     input: &Input,
+    sought: Sought,
     case: &Noted,
 ) -> SharedFindings {
     assert!(rt; why_not(checked, input).is_none(), "the input is valid");
     let header = entries_before(rt, alloc, checked, input);
     let mut machine = Machine::new(alloc, checked, input).expect(rt, AMPLE);
-    let mut tracker = Tracker::new(alloc, header).expect(rt, AMPLE);
+    let mut tracker = Tracker::new(alloc, header, sought).expect(rt, AMPLE);
     note_steps(rt, &mut tracker, &mut machine, case);
     tracker.close(&machine).expect(rt, AMPLE)
 }
@@ -402,7 +403,23 @@ fn marks_and_hits(rt: HostRuntime) {
     for case in CASES {
         let checked = checked(&rt, rt.alloc(), case.program);
         let input = input(&rt, rt.alloc(), &checked, &[], 1_000);
-        let found = found(&rt, rt.alloc(), &checked, &input, case);
+        let found = found(&rt, rt.alloc(), &checked, &input, Sought::Findings, case);
         assert_found(&rt, rt.alloc(), &checked, &found, case);
+    }
+}
+
+#[test]
+fn reports_alone(rt: HostRuntime) {
+    for case in CASES {
+        let checked = checked(&rt, rt.alloc(), case.program);
+        let input = input(&rt, rt.alloc(), &checked, &[], 1_000);
+        let found = found(&rt, rt.alloc(), &checked, &input, Sought::Reports, case);
+        let marks = found.marks();
+        assert!(rt;
+            marks.pointed.is_empty() && marks.hit.is_empty(),
+            "{}",
+            case.name
+        );
+        assert_reports(&rt, rt.alloc(), &checked, found.reports(), case.reports);
     }
 }

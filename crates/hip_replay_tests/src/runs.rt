@@ -5,7 +5,7 @@ ghost use Rattle.std.specs.Prelude.{◌≤◌};
 use hip_examples::AMPLE;
 use hip_io::{Cabinet, Fetched, MemCabinet, MemSink, NamedFile};
 use hip_parse::parse;
-use hip_replay::{Recorded, ReplayRefusal, Replayed, record_run, replay};
+use hip_replay::{Recorded, ReplayRefusal, Replayed, Sought, record_run, replay};
 use hip_report::SharedReports;
 use hip_report_lines::put_reports;
 use hip_sound::Checked;
@@ -76,7 +76,7 @@ pub fn replayed<C: Cabinet>(
     match cabinet.fetch("trace") {
         Fetched::Ready => {
             let mut reader = Reader::new();
-            replay(alloc, checked, &mut reader, cabinet)
+            replay(alloc, checked, Sought::Findings, &mut reader, cabinet)
         }
         _ => Err(ReplayRefusal::ReadFault),
     }

@@ -1,4 +1,5 @@
 pub mod Blank
+pub mod Found
 pub mod Noted
 pub mod Stepping
 pub mod Outermost

@@ -6,8 +6,8 @@ use Rattle.hip_tree.specs.declared.program.Program.{Program}
 use Rattle.hip_runs.specs.State.{Level, levels_of}
 use Rattle.hip_runs.specs.Step.{run}
 use Rattle.hip_runs.specs.declared.input.Input.{Input}
-use Rattle.hip_notes.specs.Noted.{Stood}
-use Rattle.hip_notes.proofs.noting.StandingCalls.{same_birth}
+use Rattle.hip_ledger.specs.Noted.{Stood}
+use Rattle.hip_ledger.proofs.noting.StandingCalls.{same_birth}
 use Rattle.hip_report.specs.StandingCalls.{AreOutermost, StoodOutermost}
 
 -- ---- lists without their first elements

@@ -6,16 +6,17 @@ use Rattle.hip_invariants.specs.Bounds.{IsBounded}
 use Rattle.hip_runs.specs.Ends.{longest}
 use Rattle.hip_runs.specs.Seen.{Seen, after_step, state_of}
 use Rattle.hip_runs.specs.State.{State}
-use Rattle.hip_runs.specs.Step.{event, event_on_ending, has_ended}
+use Rattle.hip_runs.specs.Step.{event, event_on_ending, has_ended, run}
 use Rattle.hip_runs.specs.declared.event.Ending.{Ending}
 use Rattle.hip_runs.specs.declared.event.Event.TheVariants as events
 use Rattle.hip_runs.specs.declared.input.Input.{Input}
-use Rattle.hip_engine.specs.PlainSteps.{PassesPlainly}
-use Rattle.hip_engine.specs.Quiet.{GoesQuietly, next_event}
-use Rattle.hip_engine.proofs.Quietly.{one_step, steps_then}
-use Rattle.hip_notes.specs.Noted.{AreNoted}
-use Rattle.hip_notes.specs.declared.notes.Notes.{Notes}
-use Rattle.hip_notes.proofs.noting.Still.{IsPlainAt, plain_steps_few, plain_steps_noted}
+use Rattle.hip_runner.specs.PlainSteps.{PassesPlainly}
+use Rattle.hip_runner.specs.Quiet.{GoesQuietly, next_event}
+use Rattle.hip_runner.proofs.Quietly.{one_step, steps_then}
+use Rattle.hip_ledger.specs.Noted.{IsLedger}
+use Rattle.hip_ledger.specs.declared.ledger.Ledger.{Ledger}
+use Rattle.hip_ledger.specs.declared.sought.Sought.TheVariants.{Reports}
+use Rattle.hip_ledger.proofs.noting.Still.{IsPlainAt, IsQuietAt, plain_steps_few, plain_steps_noted, quiet_steps_noted}
 
 -- ---- steps
 
@@ -33,17 +34,30 @@ module _ (m m' : Seen) (k : ℕ) (p : PassesPlainly m k m') where
   plain_at : (j : ℕ) → j < k → IsPlainAt m.program m.input (m.taken + j)
   plain_at j lt = let h = p.plain j lt in record { going = h.going; quiet = h.quiet; pointer = h.pointer }
 
-  -- The notes after plain steps.
-  pub noted_passed : (c : Notes) → AreNoted m.program m.input m.taken c → AreNoted m'.program m'.input m'.taken (record c { steps = c.steps + k })
-  noted_passed c t = subst (λ (x : Seen). AreNoted x.program x.input x.taken (record c { steps = c.steps + k })) (sym p.is) (plain_steps_noted m.program m.input m.taken k plain_at c t)
+  -- The ledger after plain steps.
+  pub noted_passed : (c : Ledger) → IsLedger m.program m.input m.taken c → IsLedger m'.program m'.input m'.taken (record c { steps = c.steps + k })
+  noted_passed c t = subst (λ (x : Seen). IsLedger x.program x.input x.taken (record c { steps = c.steps + k })) (sym p.is) (plain_steps_noted m.program m.input m.taken k plain_at c t)
 
   -- The count of steps after plain steps fits 128 bits.
-  pub passed_few : (c : Notes) → AreNoted m.program m.input m.taken c → IsBounded m.program m.input (m.taken + k) → m.input.limit ≤ 2 ^ 40 → longest m.program < 2 ^ 64 → c.steps + k < 2 ^ 128
+  pub passed_few : (c : Ledger) → IsLedger m.program m.input m.taken c → IsBounded m.program m.input (m.taken + k) → m.input.limit ≤ 2 ^ 40 → longest m.program < 2 ^ 64 → c.steps + k < 2 ^ 128
   passed_few c t bounded limit short = plain_steps_few m.program m.input m.taken k plain_at c t bounded limit short
 
   -- Plain steps have no event.
   pub plainly_quiet : GoesQuietly m m'
   plainly_quiet = record { steps = k; is = p.is; quiet = λ n lt. (p.plain n lt).quiet }
+
+-- ---- steps without an event, where no marks are sought
+
+module _ (m m' : Seen) (q : GoesQuietly m m') where
+  quiet_at : (j : ℕ) → j < q.steps → IsQuietAt m.program m.input (m.taken + j)
+  quiet_at j lt = let e = q.quiet j lt in record { going = goes_on m.program m.input (run m.program m.input (m.taken + j)) e; quiet = e }
+
+  -- The ledger after steps without an event, with the steps that were taken.
+  pub noted_quietly : (c : Ledger) → c.sought ≡ Reports → IsLedger m.program m.input m.taken c → IsLedger m'.program m'.input m'.taken (record c { steps = m'.taken })
+  noted_quietly c none t =
+      let taken : c.steps + q.steps ≡ m'.taken = ap (λ k. k + q.steps) t.steps ∙ sym (ap (λ (x : Seen). x.taken) q.is) in
+      subst (λ k. IsLedger m'.program m'.input m'.taken (record c { steps = k })) taken
+      (subst (λ (x : Seen). IsLedger x.program x.input x.taken (record c { steps = c.steps + q.steps })) (sym q.is) (quiet_steps_noted m.program m.input m.taken q.steps quiet_at c none t))
 
 -- ---- up to an event
 

@@ -10,11 +10,11 @@ use Rattle.hip_runs.specs.declared.event.Event.{Event}
 use Rattle.hip_runs.specs.declared.event.Event.TheVariants as events
 use Rattle.hip_runs.specs.declared.input.Input.{Input}
 use Rattle.hip_runs.specs.declared.report.Mark.{Mark}
-use Rattle.hip_engine.specs.OpsAhead.{PointsTo, goes_on}
-use Rattle.hip_engine.specs.Quiet.{next_event}
-use Rattle.hip_notes.specs.Sights.{AddAlike, AddUnlessEnded, mark_at, mark_by, marks_ahead, marks_to}
-use Rattle.hip_notes.proofs.MarksAhead.{all_before, next_is, next_to}
-use Rattle.hip_notes.proofs.MarksAtHand.{more_alike}
+use Rattle.hip_runner.specs.OpsAhead.{PointsTo, goes_on}
+use Rattle.hip_runner.specs.Quiet.{next_event}
+use Rattle.hip_ledger.specs.Sights.{AddAlike, AddUnlessEnded, mark_at, mark_by, marks_ahead, marks_to}
+use Rattle.hip_ledger.proofs.MarksAhead.{all_before, next_is, next_to}
+use Rattle.hip_ledger.proofs.MarksAtHand.{more_alike}
 
 module _ (P : Program) (I : Input) (s : State) (site : Site) where
   -- Where no pointer is left, the marks are those of the next instruction.

@@ -9,12 +9,12 @@ use Rattle.hip_runs.specs.Step.{has_ended}
 use Rattle.hip_runs.specs.declared.event.Event.{Event}
 use Rattle.hip_runs.specs.declared.event.Object.{Object}
 use Rattle.hip_runs.specs.declared.event.Object.TheVariants as objects
-use Rattle.hip_notes.specs.declared.notes.Notes.{Notes}
-use Rattle.hip_report.specs.Stepping.{HasStepped, HasTaken, StandsBefore, global_of}
-use Rattle.hip_notes.specs.Noted.{AreNoted}
+use Rattle.hip_ledger.specs.declared.ledger.Ledger.{Ledger}
+use Rattle.hip_report.specs.BeforeStep.{HasStepped, HasTaken, StandsBefore, global_of}
+use Rattle.hip_ledger.specs.Noted.{IsLedger}
 use Rattle.hip_report.specs.declared.sight.Sight.{Sight}
 
-pub has_taken : (m m' : Seen) (e : Event) (c : Notes) (sight : Sight) → m' ≡ after_step m → has_ended (state_of m) ≡ false
+pub has_taken : (m m' : Seen) (e : Event) (c : Ledger) (sight : Sight) → m' ≡ after_step m → has_ended (state_of m) ≡ false
     → StandsBefore m.program m.input m.taken e c sight → HasTaken m' e c sight
 has_taken m m' e c sight step going h =
     let back : suc m.taken - 1 ≡ m.taken = omega arith in
@@ -23,7 +23,7 @@ has_taken m m' e c sight step going h =
     (omega arith, subst (λ i. StandsBefore m.program m.input i e c sight) (sym back) h))
 
 -- Where the run goes on, the machine has taken a step.
-pub taken_by : (m : Seen) (e : Event) (c : Notes) (sight : Sight) → HasStepped m e c sight → sight.ended ≡ false → HasTaken m e c sight
+pub taken_by : (m : Seen) (e : Event) (c : Ledger) (sight : Sight) → HasStepped m e c sight → sight.ended ≡ false → HasTaken m e c sight
 taken_by m e c sight h on =
     let going = sym h.sees.ended ∙ on in
     has_taken h.before m e c sight h.takes.step going (record {
@@ -34,12 +34,12 @@ taken_by m e c sight h on =
       sees = h.sees;
     })
 
--- Where the run has ended, the notes stay.
-pub stays_noted : (m : Seen) (e : Event) (c : Notes) (sight : Sight) → HasStepped m e c sight → sight.ended ≡ true → AreNoted m.program m.input m.taken c
+-- Where the run has ended, the ledger stay.
+pub stays_noted : (m : Seen) (e : Event) (c : Ledger) (sight : Sight) → HasStepped m e c sight → sight.ended ≡ true → IsLedger m.program m.input m.taken c
 stays_noted m e c sight h off =
     let ended = sym h.sees.ended ∙ off in
     let same : m ≡ h.before = h.takes.step ∙ ap (λ t. record h.before { taken = cond t h.before.taken (suc h.before.taken) }) ended in
-    subst (λ (x : Seen). AreNoted x.program x.input x.taken c) (sym same) h.tracks.noted
+    subst (λ (x : Seen). IsLedger x.program x.input x.taken c) (sym same) h.tracks.noted
 
 -- ---- the global that an object is
 

@@ -1,5 +1,5 @@
-pub mod Tracking
-pub mod Noting
-pub mod Stepping
-pub mod Passing
+pub mod TrackerView
+pub mod EndOfRun
+pub mod BeforeStep
+pub mod StepsToEvent
 pub mod StandingCalls

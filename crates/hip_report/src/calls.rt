@@ -1,11 +1,11 @@
 ghost use Rattle.std.specs.Prelude.{◌≡◌, ◌↔◌, ◌<◌, ◌∷◌, false, length, option_map, slice_get, IfNone, IfSome, IsTrue, OnOk};
-ghost use Rattle.hip_notes.specs.Noted.{Stood};
+ghost use Rattle.hip_ledger.specs.Noted.{Stood};
 ghost use Rattle.hip_report.specs.StandingCalls.{AreOutermost, StoodOutermost, standing};
 
-use hip_cache::Machine;
-use hip_engine::StandingCall;
 use hip_invariants::stack_keeps_its_shape;
-use hip_notes::Calls;
+use hip_ledger::Calls;
+use hip_runner::StandingCall;
+use hip_step::Machine;
 use hip_types::NoMemory;
 use std::alloc::Global;
 

@@ -5,39 +5,61 @@ ghost use Rattle.hip_runs.specs.Found.Marks.{event_hits};
 ghost use Rattle.hip_runs.specs.Found.Objects.{global_at};
 ghost use Rattle.hip_runs.specs.Seen.{state_of};
 ghost use Rattle.hip_runs.specs.StoredParts.Shown.{shown};
-ghost use Rattle.hip_notes.specs.MetMarks.{WereHit};
-ghost use Rattle.hip_notes.specs.Noted.{AreNoted, Stood};
-ghost use Rattle.hip_notes.specs.Sights.{is_still, needs_calls};
+ghost use Rattle.hip_ledger.specs.MetMarks.{WereHit};
+ghost use Rattle.hip_ledger.specs.Noted.{IsLedger, Stood};
+ghost use Rattle.hip_ledger.specs.Sights.{is_still, needs_calls};
 ghost use Rattle.hip_report.specs.StandingCalls.{LooksAt};
-ghost use Rattle.hip_report.specs.Stepping.{HasStepped, TellsGlobal, global_of};
+ghost use Rattle.hip_report.specs.BeforeStep.{HasStepped, TellsGlobal, global_of};
 
 use crate::calls::look_at_calls;
 use crate::sight::{Sight, Target, target_at};
-use hip_cache::Machine;
 use hip_invariants::{runs_are_bounded, stack_keeps_its_shape};
-use hip_notes::{Moment, Notes, Region, meet_global};
+use hip_ledger::{Ledger, Moment, Region, Sought, meet_global};
 use hip_runs::{Event, Mark, Object};
+use hip_step::Machine;
 use hip_types::{NoMemory, Row};
 use std::alloc::Global;
 
-// The persistent global that a step with this event stores into, where this is the target of its last operand.
+// Notes the persistent global that a step with this event stores into, if marks are sought, where this is the target of
+// its last operand.
 #[inline(always)]
 fn note_hit(
-    notes: &mut Notes,
+    ledger: &mut Ledger,
     event: Event,
     last: Option<Target>,
     machine: &Machine<'_>,
 ) -> Result<(), NoMemory>
-    requires known { WereHit notes.old.hit.keys notes.old.flags.items }
+    requires known { WereHit ledger.old.hit.keys ledger.old.flags.items }
     requires last { TellsGlobal machine.now.program machine.now.input last }
-    ensures hit { OnOk result (notes.new.hit.keys ≡ met nat_eq notes.old.hit.keys
+    ensures hit { OnOk result (ledger.old.sought ≡ Sought.Findings → ledger.new.hit.keys ≡ met nat_eq ledger.old.hit.keys
         (event_hits machine.now.program machine.now.input event)) }
-    ensures known { OnOk result (WereHit notes.new.hit.keys notes.new.flags.items) }
-    ensures rest { OnOk result (notes.new ≡ record notes.old { hit = notes.new.hit; flags = notes.new.flags }) }
+    ensures known { OnOk result (WereHit ledger.new.hit.keys ledger.new.flags.items) }
+    ensures rest { OnOk result (ledger.new ≡ record ledger.old { hit = ledger.new.hit; flags = ledger.new.flags }) }
+{
+    match ledger.sought {
+        Sought::Reports => Ok(()),
+        Sought::Findings => meet_hit(ledger, event, last, machine),
+    }
+}
+
+// Notes the persistent global that a step with this event stores into, where this is the target of its last operand.
+#[inline(always)]
+fn meet_hit(
+    ledger: &mut Ledger,
+    event: Event,
+    last: Option<Target>,
+    machine: &Machine<'_>,
+) -> Result<(), NoMemory>
+    requires known { WereHit ledger.old.hit.keys ledger.old.flags.items }
+    requires last { TellsGlobal machine.now.program machine.now.input last }
+    ensures hit { OnOk result (ledger.new.hit.keys ≡ met nat_eq ledger.old.hit.keys
+        (event_hits machine.now.program machine.now.input event)) }
+    ensures known { OnOk result (WereHit ledger.new.hit.keys ledger.new.flags.items) }
+    ensures rest { OnOk result (ledger.new ≡ record ledger.old { hit = ledger.new.hit; flags = ledger.new.flags }) }
 {
     match event {
         Event::Store { addr, .. } => match global_at(machine, last, addr) {
-            Some(number) => meet_global(&mut notes.hit, &mut notes.flags, number),
+            Some(number) => meet_global(&mut ledger.hit, &mut ledger.flags, number),
             None => Ok(()),
         },
         _ => Ok(()),
@@ -117,29 +139,30 @@ fn needs_calls(event: Event) -> bool
 #[inline(always)]
 fn note_calls(
     alloc: Global,
-    notes: &mut Notes,
+    ledger: &mut Ledger,
     event: Event,
     machine: &Machine<'_>,
 ) -> Result<(), NoMemory>
-    requires { Stood machine.now.program machine.now.input machine.now.taken notes.old.calls }
-    ensures { OnOk result (LooksAt event machine.now notes.old notes.new) }
+    requires { Stood machine.now.program machine.now.input machine.now.taken ledger.old.calls }
+    ensures { OnOk result (LooksAt event machine.now ledger.old ledger.new) }
 {
     if needs_calls(event) {
-        look_at_calls(alloc, &mut notes.calls, machine)
+        look_at_calls(alloc, &mut ledger.calls, machine)
     } else {
         Ok(())
     }
 }
 
-// Drops the notes that no later check needs, if there are many notes. The last step of the machine was noted.
+// Drops the ledger that no later check needs, if there are many notes. The last step of the machine was noted.
 #[inline(always)]
-fn forget(alloc: Global, notes: &mut Notes, machine: &Machine<'_>)
-    requires noted { AreNoted machine.now.program machine.now.input machine.now.taken notes.old }
+fn forget(alloc: Global, ledger: &mut Ledger, machine: &Machine<'_>)
+    requires noted { IsLedger machine.now.program machine.now.input machine.now.taken ledger.old }
     requires short { longest machine.now.program < 2 ^ 64 }
-    ensures noted { AreNoted machine.now.program machine.now.input machine.now.taken notes.new }
-    ensures header { notes.new.header ≡ notes.old.header }
+    ensures noted { IsLedger machine.now.program machine.now.input machine.now.taken ledger.new }
+    ensures header { ledger.new.header ≡ ledger.old.header }
+    ensures sought { ledger.new.sought ≡ ledger.old.sought }
 {
-    if !notes.are_many() {
+    if !ledger.are_many() {
         return;
     }
     // Lemmas: runs are bounded, the input is valid.
@@ -147,21 +170,22 @@ fn forget(alloc: Global, notes: &mut Notes, machine: &Machine<'_>)
     let _input = machine.input();
 
     let region = region_of(machine);
-    notes.forget(alloc, &region);
+    ledger.forget(alloc, &region);
 }
 
 /// Notes the step that a machine has taken.
 #[inline(always)]
 pub fn note_step(
     alloc: Global,
-    notes: &mut Notes,
+    ledger: &mut Ledger,
     sight: &Sight,
     seen: Event,
     machine: &Machine<'_>,
 ) -> Result<(), NoMemory>
-    requires { HasStepped machine.now seen notes.old sight.now }
-    ensures noted { OnOk result (AreNoted machine.now.program machine.now.input machine.now.taken notes.new) }
-    ensures header { OnOk result (notes.new.header ≡ notes.old.header) }
+    requires { HasStepped machine.now seen ledger.old sight.now }
+    ensures noted { OnOk result (IsLedger machine.now.program machine.now.input machine.now.taken ledger.new) }
+    ensures header { OnOk result (ledger.new.header ≡ ledger.old.header) }
+    ensures sought { OnOk result (ledger.new.sought ≡ ledger.old.sought) }
 {
     if sight.ended {
         return Ok(());
@@ -173,22 +197,22 @@ pub fn note_step(
     let _program = checked.program();
     let _input = machine.input();
     if has_nothing_to_note(seen, &sight.pointed.marks) {
-        notes.steps += 1;
+        ledger.steps += 1;
         return Ok(());
     }
 
-    note_calls(alloc, notes, seen, machine)?;
+    note_calls(alloc, ledger, seen, machine)?;
     let region = region_of(machine);
     let moment = Moment {
         site: sight.site,
-        step: notes.steps,
-        entry: notes.entries + 1,
+        step: ledger.steps,
+        entry: ledger.entries + 1,
     };
-    notes.note_check(alloc, seen, moment.entry, &region)?;
-    notes.note_memory(alloc, seen, moment, &region)?;
-    notes.note_marks(seen, sight.pointed.marks.as_slice())?;
-    note_hit(notes, seen, sight.pointed.last, machine)?;
-    notes.count(seen);
-    forget(alloc, notes, machine);
+    ledger.note_check(alloc, seen, moment.entry, &region)?;
+    ledger.note_memory(alloc, seen, moment, &region)?;
+    ledger.note_marks(seen, sight.pointed.marks.as_slice())?;
+    note_hit(ledger, seen, sight.pointed.last, machine)?;
+    ledger.count(seen);
+    forget(alloc, ledger, machine);
     Ok(())
 }

@@ -5,7 +5,7 @@ use Rattle.std.specs.List.{flat_map}
 use Rattle.hip_tree.specs.Sites.{block_of}
 use Rattle.hip_tree.specs.declared.program.Program.{Program}
 use Rattle.hip_tree.specs.declared.site.Site.{Site}
-use Rattle.hip_sound.specs.Numbering.{name_in}
+use Rattle.hip_sound.specs.NumberedNames.{name_in}
 use Rattle.hip_runs.specs.Places.{label_of}
 use Rattle.hip_runs.specs.declared.report.Kind.{Kind}
 use Rattle.hip_runs.specs.declared.report.Kind.TheVariants.{MissingFlush, MissingFence, MissingBoth}

@@ -3,7 +3,7 @@ ghost use Rattle.hip_io.specs.Sinks.{Writes};
 ghost use Rattle.hip_tree.specs.Sites.{block_of};
 ghost use Rattle.hip_report_lines.specs.Reports.{site_text};
 ghost use Rattle.hip_runs.specs.Places.{label_of};
-ghost use Rattle.hip_sound.specs.Numbering.{name_in};
+ghost use Rattle.hip_sound.specs.NumberedNames.{name_in};
 
 use hip_answers::put_number;
 use hip_io::{Put, Sink, put_after};

@@ -13,7 +13,7 @@ use Rattle.hip_code.specs.declared.op.Control.TheVariants as controls
 use Rattle.hip_code.specs.declared.op.Op.{Op}
 use Rattle.hip_code.specs.declared.op.Op.TheVariants as ops
 use Rattle.hip_scope.specs.Known.{InstrKnown}
-use Rattle.hip_scope.specs.Scopes.{Describes, Does, names_of}
+use Rattle.hip_scope.specs.Scopes.{DescribesScope, DoesInstr, names_of}
 use Rattle.hip_scope.specs.declared.scope.Scope.{Scope}
 use Rattle.hip_end_ops.proofs.EdgeOps.{is_at}
 use Rattle.hip_resolve.specs.Extents.{with_frame}
@@ -22,13 +22,13 @@ use Rattle.hip_scope.proofs.Sound.{instr_known}
 
 -- ---- what is known of a block's instructions
 
-pub known_at : (s : Scope) → Describes s → (b : ℕ) (block : Block) → block_at s.program.now s.number b ≡ Some block → (k : ℕ) (i : Instr) → slice_get block.body k ≡ Some i → InstrKnown s.program.now (names_of s) i
+pub known_at : (s : Scope) → DescribesScope s → (b : ℕ) (block : Block) → block_at s.program.now s.number b ≡ Some block → (k : ℕ) (i : Instr) → slice_get block.body k ≡ Some i → InstrKnown s.program.now (names_of s) i
 known_at s d b block h k i e = instr_known s.program.now d.sound s.number b s.function.now block (is_at s d b block h) k i e
 
 -- ---- places
 
 -- A block begins after the end of the one before it.
-pub next_block : (s : Scope) → Describes s → (b : ℕ) (block : Block) → block_at s.program.now s.number b ≡ Some block → entry s.program.now s.number (b + 1) ≡ entry s.program.now s.number b + length block.body + 1
+pub next_block : (s : Scope) → DescribesScope s → (b : ℕ) (block : Block) → block_at s.program.now s.number b ≡ Some block → entry s.program.now s.number (b + 1) ≡ entry s.program.now s.number b + length block.body + 1
 next_block s d b block h =
     let at = is_at s d b block h in
     let p = entry_at s.program.now s.number b s.function.now d.function in
@@ -40,7 +40,7 @@ next_block s d b block h =
 -- ---- the slots that calls keep
 
 -- A call that keeps another number of slots does the same, as long as the function has these slots.
-pub does_kept : (P : Program) (base f : ℕ) (t : Tables) (frame : ℕ) (o : Op) (i : Instr) → frame ≤ length (names_at P f) → Does P base f t o i → Does P base f t (with_frame frame o) i
+pub does_kept : (P : Program) (base f : ℕ) (t : Tables) (frame : ℕ) (o : Op) (i : Instr) → frame ≤ length (names_at P f) → DoesInstr P base f t o i → DoesInstr P base f t (with_frame frame o) i
 does_kept P base f t frame (ops.Value dest value) i few d = d
 does_kept P base f t frame (ops.Memory memory) i few d = d
 does_kept P base f t frame (ops.Control (controls.Go go)) i few d = d

@@ -14,9 +14,9 @@ use Rattle.hip_code.specs.Numbers.{Tables}
 use Rattle.hip_code.specs.Ops.{is_end}
 use Rattle.hip_code.specs.Whole.{IsCodeOf}
 use Rattle.hip_code.specs.declared.op.Op.{Op}
-use Rattle.hip_scope.specs.Growth.{Grows}
+use Rattle.hip_scope.specs.Growth.{TablesGrow}
 use Rattle.hip_resolve.specs.Made.{HasMade, HasMadeEnd, IsFront}
-use Rattle.hip_scope.specs.Scopes.{Does, Ends}
+use Rattle.hip_scope.specs.Scopes.{DoesInstr, DoesEnd}
 use Rattle.hip_scope.proofs.Growth.{grows_same, grows_on, get_last}
 use Rattle.hip_scope.proofs.Places.{one_place, place_within}
 
@@ -24,7 +24,7 @@ module _ (P : Program) (base : ℕ) where
   pub front_none : (t : Tables) → IsFront P base [] t
   front_none t = record { body = λ f b k block i h g lt. absurd (let q : ⊥ = omega (arith, lt) in q); last = λ f b block h lt. absurd (let q : ⊥ = omega (arith, lt) in q) }
 
-  pub front_grows : (ops : List Op) (t u : Tables) → IsFront P base ops t → Grows t u → IsFront P base ops u
+  pub front_grows : (ops : List Op) (t u : Tables) → IsFront P base ops t → TablesGrow t u → IsFront P base ops u
   front_grows ops t u front g = record {
     body = λ f b k block i h e lt. let m = front.body f b k block i h e lt in record { op = m.op; here = m.here; does = λ v more. m.does v (grows_on g more); extent = m.extent };
     last = λ f b block h lt. let m = front.last f b block h lt in record { op = m.op; here = m.here; end_is = m.end_is; ends = λ v more. m.ends v (grows_on g more) };
@@ -45,7 +45,7 @@ module _ (P : Program) (base : ℕ) where
 
   -- The front with the op of an instruction.
   pub front_op : (ops : List Op) (t : Tables) (o : Op) (f b k : ℕ) (block : Block) (i : Instr) → IsFront P base ops t → block_at P f b ≡ Some block → slice_get block.body k ≡ Some i → length ops ≡ entry P f b + k →
-      ((u : Tables) → Grows t u → Does P base f u o i) → keeps_extent P f b o → IsFront P base (ops ++ o ∷ []) t
+      ((u : Tables) → TablesGrow t u → DoesInstr P base f u o i) → keeps_extent P f b o → IsFront P base (ops ++ o ∷ []) t
   front_op ops t o f b k block i front at is long does extent = record { body = body; last = last }
     where
       body : (g c j : ℕ) (x : Block) (d : Instr) → block_at P g c ≡ Some x → slice_get x.body j ≡ Some d → entry P g c + j < length (ops ++ o ∷ []) → HasMade P base (ops ++ o ∷ []) t g c j d
@@ -61,7 +61,7 @@ module _ (P : Program) (base : ℕ) where
               record {
                 op = o;
                 here = here_is ops o _ q;
-                does = λ u more. subst (λ z. Does P base z u o d) s.function (subst (Does P base f u o) item (does u more));
+                does = λ u more. subst (λ z. DoesInstr P base z u o d) s.function (subst (DoesInstr P base f u o) item (does u more));
                 extent = subst (λ z. keeps_extent P z c o) s.function (subst (λ z. keeps_extent P f z o) s.block extent);
               }
 
@@ -79,7 +79,7 @@ module _ (P : Program) (base : ℕ) where
 
   -- The front with the op of a block's end.
   pub front_end : (ops : List Op) (t : Tables) (o : Op) (f b : ℕ) (block : Block) → IsFront P base ops t → block_at P f b ≡ Some block → length ops ≡ entry P f b + length block.body →
-      is_end o ≡ true → ((u : Tables) → Grows t u → Ends P base f b u o block.end) → IsFront P base (ops ++ o ∷ []) t
+      is_end o ≡ true → ((u : Tables) → TablesGrow t u → DoesEnd P base f b u o block.end) → IsFront P base (ops ++ o ∷ []) t
   front_end ops t o f b block front at long is ends = record { body = body; last = last }
     where
       body : (g c j : ℕ) (x : Block) (d : Instr) → block_at P g c ≡ Some x → slice_get x.body j ≡ Some d → entry P g c + j < length (ops ++ o ∷ []) → HasMade P base (ops ++ o ∷ []) t g c j d
@@ -105,7 +105,7 @@ module _ (P : Program) (base : ℕ) where
                 op = o;
                 here = here_is ops o _ q;
                 end_is = is;
-                ends = λ u more. subst (λ z. Ends P base z c u o x.end) s.function (subst (λ z. Ends P base f z u o x.end) s.block (subst (λ (z : Block). Ends P base f b u o z.end) same (ends u more)));
+                ends = λ u more. subst (λ z. DoesEnd P base z c u o x.end) s.function (subst (λ z. DoesEnd P base f z u o x.end) s.block (subst (λ (z : Block). DoesEnd P base f b u o z.end) same (ends u more)));
               }
 
   -- If there are as many ops as places, the front is the code of the program.

@@ -18,7 +18,7 @@ use Rattle.std.proofs.lemmas.Option.{same_Some, slice_get-get_or, slice_get_with
 use Rattle.hip_names.specs.Names.{AllDiffer, IsAmong, is_among}
 use Rattle.hip_names.specs.Laws.NameLaws.{among-sound, among-right}
 use Rattle.hip_names.specs.Laws.DifferLaws.{differ_apart, differ_second}
-use Rattle.hip_sound.specs.Numbering.{function_names}
+use Rattle.hip_sound.specs.NumberedNames.{function_names}
 use Rattle.hip_sound.specs.Laws.Decided.{all-at}
 use Rattle.hip_sound.specs.Paths.{names_of}
 use Rattle.hip_sound.specs.Registers.{Register, assigned_by, body_registers, block_registers, parameter_registers, phi_registers}

@@ -15,7 +15,7 @@ use Rattle.hip_types.specs.Laws.DistinctLaws.{get_kept}
 use Rattle.hip_names.specs.Names.{IsAmong, number_of}
 use Rattle.hip_names.specs.Laws.NameLaws.{among-left, among-right, among-either}
 use Rattle.hip_names.specs.Laws.NumberLaws.{number_of-known, number_of-least}
-use Rattle.hip_sound.specs.Paths.{IsChain, LeadsTo, label_at, names_of, whole_block_names}
+use Rattle.hip_sound.specs.Paths.{IsChain, BlockLeadsTo, label_at, names_of, whole_block_names}
 use Rattle.hip_sound.specs.Registers.{Register, assigned_by, block_registers, body_registers, end_labels, parameter_registers}
 use Rattle.hip_sound.specs.Sound.{register_names}
 use Rattle.hip_runs.specs.Places.{blocks_in}
@@ -124,8 +124,8 @@ module _ (fn : Function) where
     pub own : (b : ℕ) → at ≤ b → b < length fn.blocks → slots_to fn (suc b) ≤ slice_index extents b
     pub few : (b : ℕ) → at ≤ b → b < length fn.blocks → slice_index extents b ≤ slots_to fn (length fn.blocks)
     pub least : (b : ℕ) → at ≤ b → b < length fn.blocks → extent ≤ slice_index extents b
-    pub rise : (b c : ℕ) → at ≤ b → at ≤ c → LeadsTo fn b c → slice_index extents b ≤ slice_index extents c
-    pub ahead : (b c : ℕ) → at ≤ b → c < at → LeadsTo fn b c → (lowest ≤ c) × (slice_index extents b ≤ extent)
+    pub rise : (b c : ℕ) → at ≤ b → at ≤ c → BlockLeadsTo fn b c → slice_index extents b ≤ slice_index extents c
+    pub ahead : (b c : ℕ) → at ≤ b → c < at → BlockLeadsTo fn b c → (lowest ≤ c) × (slice_index extents b ≤ extent)
     pub reach : lowest < at → slots_to fn at ≤ extent
     pub bounded : extent ≤ slots_to fn (length fn.blocks)
 
@@ -136,7 +136,7 @@ module _ (fn : Function) where
       go None q e = cc
       go (Some block) q e = slice_get_within fn.blocks c block q
 
-  leads_from : (b c : ℕ) → LeadsTo fn b c → b < length fn.blocks
+  leads_from : (b c : ℕ) → BlockLeadsTo fn b c → b < length fn.blocks
   leads_from b c l = go (slice_get fn.blocks b) refl l.named
     where
       go : (o : Option Block) → slice_get fn.blocks b ≡ o → IsAmong (unwrap_or (option_map (λ (x : Block). end_labels x.end) o) []) l.label → b < length fn.blocks
@@ -155,7 +155,7 @@ module _ (fn : Function) where
   }
 
   -- No block to which a block leads is below the lowest one that its end names.
-  pub leads_no_lower : (labels : List (List ℕ)) (d c low : ℕ) (block : Block) → labels ≡ map (λ b. b.label) fn.blocks → slice_get fn.blocks d ≡ Some block → LeadsNoLower labels (end_labels block.end) low → LeadsTo fn d c → low ≤ c
+  pub leads_no_lower : (labels : List (List ℕ)) (d c low : ℕ) (block : Block) → labels ≡ map (λ b. b.label) fn.blocks → slice_get fn.blocks d ≡ Some block → LeadsNoLower labels (end_labels block.end) low → BlockLeadsTo fn d c → low ≤ c
   leads_no_lower labels d c low block e here n l =
       let named : IsAmong (end_labels block.end) l.label = subst (λ ls. IsAmong ls l.label) (ap (λ (o : Option Block). unwrap_or (option_map (λ (x : Block). end_labels x.end) o) []) here) l.named in
       let there : slice_get labels c ≡ Some l.label = subst (λ ls. slice_get ls c ≡ Some l.label) (sym e) (slice_get-map (λ (b : Block). b.label) fn.blocks c ∙ l.here) in
@@ -165,13 +165,13 @@ module _ (fn : Function) where
       omega (arith, least, bound)
 
   module _ (extents : List ℕ) (at lowest extent : ℕ) (w : Walked extents at lowest extent) (d : ℕ) (block : Block) (here : slice_get fn.blocks d ≡ Some block) (next : at ≡ suc d) (long : length extents ≡ length fn.blocks) (low chosen : ℕ)
-      (is : chosen ≡ cond (nat_lt d lowest) (slots_to fn at) extent) (below : low ≤ lowest) (leads : (c : ℕ) → LeadsTo fn d c → low ≤ c) where
+      (is : chosen ≡ cond (nat_lt d lowest) (slots_to fn at) extent) (below : low ≤ lowest) (leads : (c : ℕ) → BlockLeadsTo fn d c → low ≤ c) where
     -- What the extent of the block has to be.
     record Fits (e : ℕ) : Type 0 where
       pub own : slots_to fn at ≤ e
       pub least : (b : ℕ) → at ≤ b → b < length fn.blocks → e ≤ slice_index extents b
       pub bounded : e ≤ slots_to fn (length fn.blocks)
-      pub ahead : (b c : ℕ) → at ≤ b → c < at → LeadsTo fn b c → (low ≤ c) × (slice_index extents b ≤ e)
+      pub ahead : (b c : ℕ) → at ≤ b → c < at → BlockLeadsTo fn b c → (low ≤ c) × (slice_index extents b ≤ e)
 
     within : d < length fn.blocks
     within = slice_get_within fn.blocks d block here
@@ -220,12 +220,12 @@ module _ (fn : Function) where
           few = on_each (λ b v. b < n → v ≤ slots_to fn n) (λ lt. fit.bounded) w.few;
           least = on_each (λ b v. b < n → chosen ≤ v) (λ lt. omega arith) fit.least;
           rise = λ b c le more l.
-              on_each (λ b v. LeadsTo fn b c → v ≤ slice_index new c)
-              (λ l. on_each (λ c v. LeadsTo fn d c → chosen ≤ v) (λ l. omega arith) (λ c le l. fit.least c le (block_led c l.label l.here)) c more l)
-              (λ b le l. on_each (λ c v. LeadsTo fn b c → slice_index extents b ≤ v) (λ l. (fit.ahead b d le (omega (arith, next)) l).1) (λ c more l. w.rise b c le more l) c more l)
+              on_each (λ b v. BlockLeadsTo fn b c → v ≤ slice_index new c)
+              (λ l. on_each (λ c v. BlockLeadsTo fn d c → chosen ≤ v) (λ l. omega arith) (λ c le l. fit.least c le (block_led c l.label l.here)) c more l)
+              (λ b le l. on_each (λ c v. BlockLeadsTo fn b c → slice_index extents b ≤ v) (λ l. (fit.ahead b d le (omega (arith, next)) l).1) (λ c more l. w.rise b c le more l) c more l)
               b le l;
           ahead = λ b c le lt l.
-              on_each (λ b v. LeadsTo fn b c → (low ≤ c) × (v ≤ chosen)) (λ l. (leads c l, omega arith)) (λ b le l. fit.ahead b c le (omega (arith, lt, next)) l) b le l;
+              on_each (λ b v. BlockLeadsTo fn b c → (low ≤ c) × (v ≤ chosen)) (λ l. (leads c l, omega arith)) (λ b le l. fit.ahead b c le (omega (arith, lt, next)) l) b le l;
           reach = λ lt. let m = slots_more d (suc d) (omega arith) in omega (arith, m, own);
           bounded = fit.bounded;
         }

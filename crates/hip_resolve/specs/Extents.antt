@@ -3,7 +3,7 @@ use Rattle.std.specs.Prelude.{ℕ, suc, ◌+◌, ◌<◌, ◌≤◌, ◌≡◌, 
 use Rattle.std.specs.List.{flat_map}
 use Rattle.hip_tree.specs.declared.program.Function.{Function}
 use Rattle.hip_names.specs.Names.{IsAmong, number_of}
-use Rattle.hip_sound.specs.Paths.{LeadsTo}
+use Rattle.hip_sound.specs.Paths.{BlockLeadsTo}
 use Rattle.hip_sound.specs.Registers.{block_registers, parameter_registers}
 use Rattle.hip_code.specs.declared.op.Control.TheVariants as controls
 use Rattle.hip_code.specs.declared.op.Op.{Op}
@@ -23,7 +23,7 @@ pub record AreExtents (fn : Function) (extents : List ℕ) : Type 0 where
   pub as_long : length extents ≡ length fn.blocks
   pub own : (b : ℕ) → b < length fn.blocks → slots_to fn (suc b) ≤ slice_index extents b
   pub few : (b : ℕ) → b < length fn.blocks → slice_index extents b ≤ slots_to fn (length fn.blocks)
-  pub rise : (b c : ℕ) → LeadsTo fn b c → slice_index extents b ≤ slice_index extents c
+  pub rise : (b c : ℕ) → BlockLeadsTo fn b c → slice_index extents b ≤ slice_index extents c
 
 -- The op with that number of slots that a call keeps; an op of another kind stays as it is.
 abbrev pub with_frame : ℕ → Op → Op

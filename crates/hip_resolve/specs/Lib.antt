@@ -1,3 +1,3 @@
 pub mod Extents
 pub mod Made
-pub mod Resolving
+pub mod ResolvedProgram

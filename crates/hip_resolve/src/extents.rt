@@ -86,7 +86,7 @@ fn lowest(labels: &NameSet<'_>, end: &End, low: usize) -> usize
 /// of the blocks that are left take; the lowest block to which a passed block leads; and the extent of the block passed
 /// last.
 #[derive(Drop)]
-struct Walk {
+struct ExtentWalk {
     slots: usize,
     lowest: usize,
     extent: u32,
@@ -94,7 +94,12 @@ struct Walk {
 
 /// Passes a block. If a passed block leads to this block or to an earlier one, its extent is that of the block passed
 /// last; otherwise its extent is the number of slots up to its end.
-fn pass(walk: &mut Walk, labels: &NameSet<'_>, block: &Block, number: usize) -> Result<(), NoMemory>
+fn pass(
+    walk: &mut ExtentWalk,
+    labels: &NameSet<'_>,
+    block: &Block,
+    number: usize,
+) -> Result<(), NoMemory>
     requires { length (block_registers block.now) ≤ walk.old.slots }
     ensures extent { OnOk result (walk.new.extent
         ≡ (if nat_lt number walk.old.lowest then walk.old.slots else walk.old.extent)) }
@@ -125,7 +130,7 @@ pub fn extents(
 {
     let blocks = function.blocks.as_slice();
     let mut extents = Row::from_vec(vec![in alloc; 0u32; blocks.len()]?);
-    let mut walk = Walk {
+    let mut walk = ExtentWalk {
         slots: registers,
         lowest: blocks.len(),
         extent: 0,

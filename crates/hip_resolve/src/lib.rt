@@ -1,11 +1,11 @@
-//! The code of a checked program: names, labels, callees, sizes and offsets become numbers.
+//! The code of a sound program: names, labels, callees, sizes and offsets become numbers.
 #![tactic(auto)]
 
 mod extents;
 mod name_sets;
 mod phi_numbers;
 mod program;
-mod resolving;
+mod resolver;
 mod scopes;
 
-pub use resolving::resolve;
+pub use resolver::resolve;

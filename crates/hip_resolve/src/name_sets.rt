@@ -6,7 +6,7 @@ ghost use Rattle.hip_globals.specs.Addresses.{IsBase};
 ghost use Rattle.hip_globals.specs.AddressesSeen.{address_beside};
 ghost use Rattle.hip_globals.specs.Values.{global_address};
 ghost use Rattle.hip_names.specs.Names.{AllDiffer};
-ghost use Rattle.hip_sound.specs.Numbering.{function_names};
+ghost use Rattle.hip_sound.specs.NumberedNames.{function_names};
 ghost use Rattle.hip_sound.specs.Paths.{names_of};
 ghost use Rattle.hip_sound.specs.Registers.{assigned_by, block_registers};
 ghost use Rattle.hip_sound.specs.Sound.{IsSound, register_names};

@@ -1,5 +1,5 @@
 ghost use Rattle.std.specs.Prelude.{map, IfOk};
-ghost use Rattle.hip_names.specs.Numbered.{Numbers};
+ghost use Rattle.hip_names.specs.Numbered.{NumbersNames};
 ghost use Rattle.hip_scope.specs.PhiNumbers.{NumbersPhis};
 
 use hip_names::NameTable;
@@ -9,7 +9,7 @@ use hip_types::{NoMemory, Row};
 use std::alloc::Global;
 
 fn edge_numbers(alloc: Global, edges: &[Edge]) -> Result<EdgeNumbers<'_>, NoMemory>
-    ensures { IfOk result (λ table. Numbers table.names table.values (map (λ e. e.label) edges.now)) }
+    ensures { IfOk result (λ table. NumbersNames table.names table.values (map (λ e. e.label) edges.now)) }
 {
     let mut numbers = NameTable::new(alloc);
     'each: for number in 0..edges.len() {

@@ -4,10 +4,10 @@ ghost use Rattle.hip_runs.specs.Places.{block_at};
 ghost use Rattle.hip_scope.specs.Grown.{grown};
 ghost use Rattle.hip_resolve.specs.Extents.{with_frame};
 ghost use Rattle.hip_resolve.specs.Made.{IsFront};
-ghost use Rattle.hip_scope.specs.Scopes.{Describes};
+ghost use Rattle.hip_scope.specs.Scopes.{DescribesScope};
 
 use hip_code::{Call, Control, Op};
-use hip_end_ops::{Source, end_op};
+use hip_end_ops::{EdgeSource, end_op};
 use hip_instr_ops::instr_op;
 use hip_scope::{Growing, Scope, number_at};
 use hip_tree::Block;
@@ -31,7 +31,7 @@ fn body_ops(
     number: usize,
     block: &Block,
 ) -> Result<(), NoMemory>
-    requires scope { Describes scope.now }
+    requires scope { DescribesScope scope.now }
     requires block { block_at scope.now.program.now scope.now.number number ≡ Some block.now }
     requires front { IsFront scope.now.program.now scope.now.base ops.old (grown tables.old) }
     requires place { length ops.old ≡ entry scope.now.program.now scope.now.number number }
@@ -58,7 +58,7 @@ fn block_ops(
     number: usize,
     block: &Block,
 ) -> Result<(), NoMemory>
-    requires scope { Describes scope.now }
+    requires scope { DescribesScope scope.now }
     requires block { block_at scope.now.program.now scope.now.number number ≡ Some block.now }
     requires front { IsFront scope.now.program.now scope.now.base ops.old (grown tables.old) }
     requires place { length ops.old ≡ entry scope.now.program.now scope.now.number number }
@@ -66,7 +66,7 @@ fn block_ops(
     ensures place { IfOk result (λ _. length ops.new ≡ entry scope.now.program.now scope.now.number (number + 1)) }
 {
     body_ops(scope, tables, ops, number, block)?;
-    let source = Source {
+    let source = EdgeSource {
         block,
         number,
         first: tables.edges.len(),
@@ -82,7 +82,7 @@ pub fn resolve_function(
     tables: &mut Growing,
     ops: &mut Row<Op>,
 ) -> Result<(), NoMemory>
-    requires scope { Describes scope.now }
+    requires scope { DescribesScope scope.now }
     requires front { IsFront scope.now.program.now scope.now.base ops.old (grown tables.old) }
     requires place { length ops.old ≡ entry scope.now.program.now scope.now.number 0 }
     ensures front { IfOk result (λ _. IsFront scope.now.program.now scope.now.base ops.new (grown tables.new)) }

@@ -4,7 +4,7 @@ ghost use Rattle.hip_names.specs.Names.{AllDiffer};
 ghost use Rattle.hip_code.specs.Entries.{entry, entry_in, entry_of};
 ghost use Rattle.hip_code.specs.Frames.{names_at, names_in};
 ghost use Rattle.hip_scope.specs.Listed.{Lists, RegistersDiffer, SourcesOf};
-ghost use Rattle.hip_scope.specs.Scopes.{Describes, IsKnown, OfFunctions};
+ghost use Rattle.hip_scope.specs.Scopes.{DescribesScope, IsKnown, OfFunctions};
 
 use crate::extents::extents;
 use crate::name_sets::{label_names, register_names};
@@ -116,7 +116,7 @@ fn phi_sources(alloc: Global, blocks: &[Block]) -> Result<Row<Row<EdgeNumbers<'_
 pub fn scope_of<'p, 'a>(known: &Known<'p, 'a>, number: usize) -> Result<Scope<'p, 'a>, NoMemory>
     requires known { IsKnown known.now }
     requires number { number < length known.now.program.now.functions }
-    ensures describes { IfOk result (λ s. Describes s) }
+    ensures describes { IfOk result (λ s. DescribesScope s) }
     ensures program { IfOk result (λ s. s.program.now ≡ known.now.program.now) }
     ensures base { IfOk result (λ s. s.base ≡ known.now.base) }
     ensures number { IfOk result (λ s. s.number ≡ number) }

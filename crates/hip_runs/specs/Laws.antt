@@ -17,7 +17,7 @@ pub mod OutputLaws
 pub mod PartLaws
 pub mod SinceLaws
 pub mod SiteLaws
-pub mod Standing
+pub mod Represented
 pub mod StepLaws
 pub mod StoreLaws
 pub mod Opened

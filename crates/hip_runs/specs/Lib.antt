@@ -12,7 +12,7 @@ pub mod Entry
 pub mod Seen
 pub mod Ends
 pub mod Outputs
-pub mod Standing
+pub mod Represented
 pub mod Found
 pub mod StoredParts
 pub mod Laws

@@ -6,7 +6,7 @@ use Rattle.hip_tree.specs.declared.instr.Instr.TheVariants.{Store, Call}
 use Rattle.hip_tree.specs.declared.program.Program.{Program}
 use Rattle.hip_lines.specs.Line.{Line}
 use Rattle.hip_externs.specs.Externs.{call_of, is_flush, is_fence}
-use Rattle.hip_sound.specs.Numbering.{function_number}
+use Rattle.hip_sound.specs.NumberedNames.{function_number}
 use Rattle.hip_externs.specs.declared.call.ExternCall.{ExternCall}
 use Rattle.hip_runs.specs.StoredParts.Parts.{In, PartOf}
 use Rattle.hip_runs.specs.State.{Level, Flush, StorePart, State, levels_of}

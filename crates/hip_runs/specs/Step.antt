@@ -7,7 +7,7 @@ use Rattle.hip_tree.specs.declared.program.Program.{Program}
 use Rattle.hip_lines.specs.Line.{Line, fresh_lines}
 use Rattle.hip_types.specs.Bytes.{little_endian, zeros}
 use Rattle.hip_types.specs.Areas.{stack_start}
-use Rattle.hip_sound.specs.Numbering.{function_number}
+use Rattle.hip_sound.specs.NumberedNames.{function_number}
 use Rattle.hip_runs.specs.declared.event.Ending.{Ending}
 use Rattle.hip_runs.specs.declared.event.Ending.TheVariants.{Stop, Trap, Cut}
 use Rattle.hip_runs.specs.declared.event.Event.{Event}

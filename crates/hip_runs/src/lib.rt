@@ -13,7 +13,7 @@ mod limits;
 mod loose;
 mod order;
 mod report;
-mod standing;
+mod representation;
 
 pub use bodies::longest;
 pub use event::{Ending, Event, Object, TrapKind};
@@ -43,4 +43,4 @@ pub use order::{
     steps_are_counted, the_last_fence_tells,
 };
 pub use report::{Findings, Kind, Mark, Marks, Report};
-pub use standing::{shown_lines_follow_the_run, valid_bytes_are_those_of_the_run};
+pub use representation::{shown_lines_follow_the_run, valid_bytes_are_those_of_the_run};

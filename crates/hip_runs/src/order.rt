@@ -3,7 +3,7 @@
 
 ghost use Rattle.hip_tree.specs.declared.program.Program.{Program};
 ghost use Rattle.hip_runs.specs.StoredParts.After.{lines_after};
-ghost use Rattle.hip_runs.specs.Frames.{Moves};
+ghost use Rattle.hip_runs.specs.Frames.{FramesMove};
 ghost use Rattle.hip_runs.specs.Outputs.{ending_by, printed_by};
 ghost use Rattle.hip_runs.specs.StoredParts.Order.{HasCalls, HasOrder, is_before, last_fence};
 ghost use Rattle.hip_runs.specs.StoredParts.Parts.{PartOf};
@@ -29,7 +29,7 @@ pub fn the_last_fence_tells()
 /// A step leaves the frames below the top one, or below the one that it returns to, as they were. The top frame stays,
 /// or it calls a function whose frame is put on top, or it returns. A run that has ended stays as it is.
 pub fn a_step_moves_the_top()
-    ensures { (P : Program) → (I : Input) → (n : ℕ) → Moves P (run P I n) (run P I (suc n)) }
+    ensures { (P : Program) → (I : Input) → (n : ℕ) → FramesMove P (run P I n) (run P I (suc n)) }
 {}
 
 /// The calls that have not returned were made one after another, and so were the calls of each part, before its store.

@@ -4,7 +4,7 @@ use Rattle.std.specs.Prelude.{slice_range}
 use Rattle.std.proofs.lemmas.List.{append-nil, drop-append-le, length-append, length-drop, take-append-le, take_rest}
 use Rattle.hip_code.specs.Numbers.{Tables}
 use Rattle.hip_types.specs.Laws.DistinctLaws.{get_kept}
-use Rattle.hip_scope.specs.Growth.{Extends, Grows, Makes}
+use Rattle.hip_scope.specs.Growth.{Extends, TablesGrow, Makes}
 use Rattle.hip_code.specs.declared.op.Move.{Move}
 
 pub extends_same : {A : Type 0} (xs : List A) → Extends xs xs
@@ -16,7 +16,7 @@ extends_on {xs = xs} a b = record { rest = a.rest ++ b.rest; is = b.is ∙ ap (�
 pub extends_by : {A : Type 0} {xs ys : List A} (rest : List A) → ys ≡ xs ++ rest → Extends xs ys
 extends_by rest e = record { rest = rest; is = e }
 
-pub grows_same : (t : Tables) → Grows t t
+pub grows_same : (t : Tables) → TablesGrow t t
 grows_same t = record {
   constants = extends_same t.constants;
   terms = extends_same t.terms;
@@ -25,7 +25,7 @@ grows_same t = record {
   cases = extends_same t.cases;
 }
 
-pub grows_on : {t u v : Tables} → Grows t u → Grows u v → Grows t v
+pub grows_on : {t u v : Tables} → TablesGrow t u → TablesGrow u v → TablesGrow t v
 grows_on a b = record {
   constants = extends_on a.constants b.constants;
   terms = extends_on a.terms b.terms;
@@ -101,7 +101,7 @@ pub span_within : {A : Type 0} {xs ys : List A} (from count : ℕ) → Extends x
 span_within {A} {xs} {ys} from count e long = let l = ap length e.is in let m = length-append xs e.rest in omega (arith, l, m, long)
 
 -- A move is put into the table.
-pub grows_moves : (t : Tables) (more moves : List Move) → moves ≡ t.moves ++ more → Grows t (record t { moves = moves })
+pub grows_moves : (t : Tables) (more moves : List Move) → moves ≡ t.moves ++ more → TablesGrow t (record t { moves = moves })
 grows_moves t more moves e = record {
   constants = extends_same t.constants;
   terms = extends_same t.terms;

@@ -1,6 +1,6 @@
 -- The tables that the code has made so far.
 use Rattle.hip_code.specs.Numbers.{Tables}
-use Rattle.hip_scope.specs.declared.growing.Growing.{Growing}
+use Rattle.hip_scope.specs.declared.tables.Growing.{Growing}
 
 -- The entries that the tables have so far.
 abbrev pub grown : Growing → Tables

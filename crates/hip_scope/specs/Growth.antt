@@ -8,7 +8,7 @@ pub record Extends {A : Type 0} (xs ys : List A) : Type 0 where
   pub is : ys ≡ xs ++ rest
 
 -- Each table is as it was, with more after it.
-pub record Grows (t u : Tables) : Type 0 where
+pub record TablesGrow (t u : Tables) : Type 0 where
   pub constants : Extends t.constants u.constants
   pub terms : Extends t.terms u.terms
   pub moves : Extends t.moves u.moves
@@ -18,8 +18,8 @@ pub record Grows (t u : Tables) : Type 0 where
 -- The first tables grow to the second, and the fact holds of the second tables and of all tables to which the second
 -- grow.
 pub record Makes (t u : Tables) (Fact : Tables → Type 0) : Type 0 where
-  pub grows : Grows t u
-  pub lasts : (v : Tables) → Grows u v → Fact v
+  pub grows : TablesGrow t u
+  pub lasts : (v : Tables) → TablesGrow u v → Fact v
 
 -- Only constants are put into the tables.
 pub record OnlyConstants (t u : Tables) : Type 0 where

@@ -14,8 +14,8 @@ use Rattle.hip_names.specs.Names.{IsAmong}
 use Rattle.hip_sound.specs.Given.{CallsFunction, CallsExtern}
 use Rattle.hip_sound.specs.Places.{gep_agrees}
 use Rattle.hip_runs.specs.Operands.{access_align}
-use Rattle.hip_code.specs.declared.op.Operand.{Operand}
-use Rattle.hip_code.specs.declared.op.Operand.TheVariants.{Constant, Register}
+use Rattle.hip_code.specs.declared.op.OpOperand.{OpOperand}
+use Rattle.hip_code.specs.declared.op.OpOperand.TheVariants.{Constant, Register}
 use Rattle.std.specs.Prelude.{ℕ, ◌≡◌, List, All, Some, map, slice_get}
 use Rattle.hip_tree.specs.declared.block.Phi.{Phi}
 use Rattle.std.specs.Prelude.{ℕ, ◌≡◌, true, List, Some, None, slice_get}
@@ -75,6 +75,6 @@ pub record PhisKnown (names : List (List ℕ)) (from : List ℕ) (ps : List Phi)
   pub at : (k : ℕ) (p : Phi) → slice_get ps k ≡ Some p → PhiKnown names from p
 
 -- The operand is a place in the table of constants, which has this number there.
-abbrev pub IsConstant : List ℕ → Operand → ℕ → Type 0
+abbrev pub IsConstant : List ℕ → OpOperand → ℕ → Type 0
 IsConstant constants (Constant place) value = slice_get constants place ≡ Some value
 IsConstant constants (Register slot) value = ⊥

@@ -8,7 +8,7 @@ use Rattle.hip_tree.specs.declared.program.Program.{Program}
 use Rattle.hip_globals.specs.AddressesSeen.{address_beside}
 use Rattle.hip_globals.specs.Values.{global_address}
 use Rattle.hip_runs.specs.declared.input.Input.{Input}
-use Rattle.hip_sound.specs.Numbering.{function_names}
+use Rattle.hip_sound.specs.NumberedNames.{function_names}
 use Rattle.hip_sound.specs.Sound.{IsSound}
 use Rattle.hip_runs.specs.Places.{block_at, blocks_of}
 use Rattle.hip_code.specs.Entries.{entry}
@@ -16,7 +16,7 @@ use Rattle.hip_code.specs.Frames.{names_at}
 use Rattle.hip_code.specs.Numbers.{Tables}
 use Rattle.hip_code.specs.Resolved.{IsOperandIn, Resolves, EndResolves}
 use Rattle.hip_code.specs.declared.op.Op.{Op}
-use Rattle.hip_code.specs.declared.op.Operand.{Operand}
+use Rattle.hip_code.specs.declared.op.OpOperand.{OpOperand}
 use Rattle.hip_scope.specs.Listed.{HasExtents, Lists}
 use Rattle.hip_scope.specs.PhiNumbers.{HasTables}
 use Rattle.hip_scope.specs.declared.scope.Known.{Known}
@@ -39,7 +39,7 @@ pub record IsKnown (k : Known) : Type 0 where
   pub sizes : OfFunctions k.program.now k.sizes.now (λ g. length (names_at k.program.now g))
 
 -- The program is sound, and the tables of names, addresses and places are those of the program and of the function.
-pub record Describes (s : Scope) : Type 0 where
+pub record DescribesScope (s : Scope) : Type 0 where
   pub sound : IsSound s.program.now
   pub addresses : address_beside s.addresses.now ≡ global_address s.program.now.globals s.base
   pub functions : s.functions.now ≡ function_names s.program.now.functions
@@ -55,17 +55,17 @@ pub record Describes (s : Scope) : Type 0 where
   pub extents : HasExtents s.program.now s.number s.extents
 
 -- The operand resolves an operand of the function.
-abbrev pub StandsFor : Scope → Tables → Operand → named.Operand → Type 0
-StandsFor s t o x = IsOperandIn s.program.now s.base s.number t o x
+abbrev pub OperandStandsFor : Scope → Tables → OpOperand → named.Operand → Type 0
+OperandStandsFor s t o x = IsOperandIn s.program.now s.base s.number t o x
 
 -- The op does what the instruction does, on each input whose region begins at the base.
-pub record Does (P : Program) (base f : ℕ) (t : Tables) (o : Op) (i : Instr) : Type 0 where
+pub record DoesInstr (P : Program) (base f : ℕ) (t : Tables) (o : Op) (i : Instr) : Type 0 where
   pub on : (I : Input) → I.base ≡ base → Resolves P I f t o i
 
 -- The op does what the end of block b does, on each input whose region begins at the base.
-pub record Ends (P : Program) (base f b : ℕ) (t : Tables) (o : Op) (e : End) : Type 0 where
+pub record DoesEnd (P : Program) (base f b : ℕ) (t : Tables) (o : Op) (e : End) : Type 0 where
   pub on : (I : Input) → I.base ≡ base → EndResolves P I f b t o e
 
 -- The op does what an instruction of the function does, on each input whose region begins at the base.
 abbrev pub DoesHere : Scope → Tables → Op → Instr → Type 0
-DoesHere s t o i = Does s.program.now s.base s.number t o i
+DoesHere s t o i = DoesInstr s.program.now s.base s.number t o i

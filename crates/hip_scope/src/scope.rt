@@ -3,10 +3,10 @@ ghost use Rattle.hip_names.specs.Names.{IsAmong, number_of};
 ghost use Rattle.hip_scope.specs.Grown.{grown};
 ghost use Rattle.hip_scope.specs.Growth.{Makes, OnlyConstants};
 ghost use Rattle.hip_scope.specs.Known.{OperandKnown};
-ghost use Rattle.hip_scope.specs.Scopes.{Describes, StandsFor, names_of};
+ghost use Rattle.hip_scope.specs.Scopes.{DescribesScope, OperandStandsFor, names_of};
 
-use crate::growing::{Growing, place};
-use hip_code::Operand;
+use crate::tables::{Growing, place};
+use hip_code::OpOperand;
 use hip_globals::GlobalAddresses;
 use hip_names::{NameSet, NameTable};
 use hip_tree::{Function, Program};
@@ -54,7 +54,7 @@ pub struct Scope<'p, 'a> {
 
 /// The slot of a register.
 pub fn slot(scope: &Scope<'_, '_>, name: &Name) -> Result<u32, NoMemory>
-    requires scope { Describes scope.now }
+    requires scope { DescribesScope scope.now }
     requires known { IsAmong (names_of scope.now) name.now }
     ensures { IfOk result (λ slot. number_of (names_of scope.now) name.now ≡ Some slot) }
 {
@@ -69,15 +69,15 @@ pub fn operand(
     scope: &Scope<'_, '_>,
     tables: &mut Growing,
     operand: &hip_tree::Operand,
-) -> Result<Operand, NoMemory>
-    requires scope { Describes scope.now }
+) -> Result<OpOperand, NoMemory>
+    requires scope { DescribesScope scope.now }
     requires known { OperandKnown (names_of scope.now) operand.now }
     ensures stands { IfOk result (λ o. Makes (grown tables.old) (grown tables.new)
-        (λ t. StandsFor scope.now t o operand.now)) }
+        (λ t. OperandStandsFor scope.now t o operand.now)) }
     ensures others { OnOk result (OnlyConstants (grown tables.old) (grown tables.new)) }
 {
     match operand {
-        hip_tree::Operand::Reg(name) => Ok(Operand::Register(slot(scope, name)?)),
+        hip_tree::Operand::Reg(name) => Ok(OpOperand::Register(slot(scope, name)?)),
         hip_tree::Operand::Fixed(value) => {
             let number = scope.addresses.value(scope.alloc, value)?;
             let constant = tables.constant(number)?;

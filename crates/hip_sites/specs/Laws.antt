@@ -1,2 +1,2 @@
 -- Laws of the definitions.
-pub mod PassingLaws
+pub mod SiteWalkLaws

@@ -1,8 +1,8 @@
 //! Sites of a program: sets of them, and those of the instructions that pass a test.
 #![tactic(auto)]
 
-mod passing;
 mod site_set;
+mod site_walk;
 
-pub use passing::{InstrTest, add_passing};
 pub use site_set::SiteSet;
+pub use site_walk::{InstrTest, add_passing};

@@ -6,7 +6,7 @@ use Rattle.std.proofs.lemmas.List.{at_drop_more}
 use Rattle.hip_tree.specs.declared.program.Function.{Function}
 use Rattle.hip_names.specs.Laws.NameLaws.{bytes_eq-sym}
 use Rattle.hip_names.specs.Names.{number_of}
-use Rattle.hip_sound.specs.Numbering.{function_names}
+use Rattle.hip_sound.specs.NumberedNames.{function_names}
 use Rattle.hip_names.specs.Laws.NumberLaws.{number_of-cons}
 
 module _ (fs : List Function) (i : ℕ) (f : Function) (name : List ℕ) (within : i < length fs) (is : f ≡ get_or fs i f) where

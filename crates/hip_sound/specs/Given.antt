@@ -10,7 +10,7 @@ use Rattle.hip_tree.specs.declared.program.Function.{Function}
 use Rattle.hip_tree.specs.declared.program.Program.{Program}
 use Rattle.hip_externs.specs.Externs.{Signature, known_signature}
 use Rattle.hip_names.specs.Names.{IsAmong}
-use Rattle.hip_sound.specs.Numbering.{function_number}
+use Rattle.hip_sound.specs.NumberedNames.{function_number}
 use Rattle.hip_sound.specs.Places.{edge_labels}
 use Rattle.hip_sound.specs.Registers.{instr_uses, end_uses, end_labels, phi_uses}
 use Rattle.hip_sound.specs.Sound.{IsBlockAt, IsTyped}

@@ -1,4 +1,4 @@
-pub mod Check
+pub mod Requirement
 pub mod Constants
 pub mod Equal
 pub mod Names
@@ -6,7 +6,7 @@ pub mod Paths
 pub mod Places
 pub mod Registers
 pub mod Declarations
-pub mod Numbering
+pub mod NumberedNames
 pub mod Given
 pub mod Sound
 pub mod Rules

@@ -17,7 +17,7 @@ abbrev pub labels_named_at : Function → ℕ → List (List ℕ)
 labels_named_at f b = unwrap_or (option_map (λ block. end_labels block.end) (slice_get f.blocks b)) []
 
 -- The end of block b names the label of block c.
-pub record LeadsTo (f : Function) (b c : ℕ) : Type 0 where
+pub record BlockLeadsTo (f : Function) (b c : ℕ) : Type 0 where
   pub label : List ℕ
   pub here : label_at f c ≡ Some label
   pub named : IsAmong (labels_named_at f b) label
@@ -25,7 +25,7 @@ pub record LeadsTo (f : Function) (b c : ℕ) : Type 0 where
 -- Block b leads to the first block of the list, and each block of the list leads to the next.
 abbrev pub IsChain : Function → ℕ → List ℕ → Type 0
 IsChain f b [] = Unit {0}
-IsChain f b (c ∷ cs) = LeadsTo f b c × IsChain f c cs
+IsChain f b (c ∷ cs) = BlockLeadsTo f b c × IsChain f c cs
 
 -- A path starts with the entry block, and the end of each of its blocks names the next.
 pub record IsPathTo (f : Function) (path : List ℕ) (last : ℕ) : Type 0 where

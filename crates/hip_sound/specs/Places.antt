@@ -30,14 +30,14 @@ use Rattle.hip_tree.specs.declared.block.Phi.{Phi}
 use Rattle.hip_tree.specs.declared.program.Extern.{Extern}
 use Rattle.hip_tree.specs.declared.program.Function.{Function}
 use Rattle.hip_tree.specs.declared.program.Program.{Program}
-use Rattle.hip_sound.specs.Check.{Check, asks, asks_true, and_then}
+use Rattle.hip_sound.specs.Requirement.{Requirement, asks, asks_true, and_then}
 use Rattle.hip_sound.specs.Constants.{goes_in, has_shape}
 use Rattle.hip_globals.specs.Constants.{index_of}
 use Rattle.hip_sound.specs.Equal.{same_bits, same_operand}
 use Rattle.hip_externs.specs.Externs.{Signature}
 use Rattle.hip_sound.specs.declared.fault.Fault.TheVariants as breaks
 use Rattle.hip_names.specs.Names.{is_among}
-use Rattle.hip_sound.specs.Numbering.{global_names, label_names}
+use Rattle.hip_sound.specs.NumberedNames.{global_names, label_names}
 use Rattle.hip_sound.specs.Registers.{Register, Use, find_register, registers_of, instr_uses, end_uses, phi_uses, end_labels, used_registers, used_globals, used_constant_types}
 use Rattle.hip_sound.specs.Types.{same_scalar, same_result, all_pass}
 use Rattle.hip_sound.specs.declared.fault.Place.{Place}
@@ -92,8 +92,8 @@ uses_known s us =
 abbrev pub fits_test : Ty → Bool
 fits_test t = nat_le (shape t).largest LARGEST_TYPE && nat_le (shape t).depth DEEPEST_NESTING
 
--- The check that all of these types fit: TooLarge at the place if one does not.
-abbrev pub types_fit : List Ty → Place → Check
+-- The requirement that all of these types fit: TooLarge at the place if one does not.
+abbrev pub types_fit : List Ty → Place → Requirement
 types_fit ts place = asks (All Fits ts) (list_all fits_test ts) breaks.TooLarge place
 
 -- The register that was found has that type; false if none was found, or if it is that of a void call.
@@ -192,8 +192,8 @@ written_types _ = []
 
 -- The rules of an instruction, in this order: registers, globals and a callee that it names exist (Unknown), types
 -- that are written in it, in constants too, fit (TooLarge), and types agree (Mismatch).
-abbrev pub instr_check : Scope → Instr → Place → Check
-instr_check s i place =
+abbrev pub instr_required : Scope → Instr → Place → Requirement
+instr_required s i place =
     and_then (asks_true (uses_known s (instr_uses i) && callee_known s i) breaks.Unknown place)
     (and_then (types_fit (written_types i ++ used_constant_types (instr_uses i)) place)
     (asks_true (uses_agree s (instr_uses i) && instr_agrees s i) breaks.Mismatch place))
@@ -241,8 +241,8 @@ is_entry (b ∷ bs) label = bytes_eq b.label label
 -- The rules of a block's end, in this order: registers, globals and labels that it names exist (Unknown), types that
 -- are written in it fit (TooLarge), types agree (Mismatch), values of a switch's cases differ (Duplicate), and it
 -- does not name the entry block (BadEdge; LLVM, "Functions": the entry block has no predecessors).
-abbrev pub end_check : Scope → End → Place → Check
-end_check s e place =
+abbrev pub end_required : Scope → End → Place → Requirement
+end_required s e place =
     and_then
     (asks_true (uses_known s (end_uses e) && are_among (label_names s.function) (end_labels e)) breaks.Unknown place)
     (and_then (types_fit (used_constant_types (end_uses e)) place)
@@ -283,8 +283,8 @@ edges_agree before edges =
 -- The rules of a phi of the block of that label, in this order: registers, globals and labels that it names exist
 -- (Unknown), types that are written in it fit (TooLarge), operands have its type (Mismatch), and its edges agree with
 -- the predecessors of the block (BadEdge).
-abbrev pub phi_check : Scope → List ℕ → Phi → Place → Check
-phi_check s label p place =
+abbrev pub phi_required : Scope → List ℕ → Phi → Place → Requirement
+phi_required s label p place =
     and_then
     (asks_true (uses_known s (phi_uses p) && are_among (label_names s.function) (edge_labels p.edges)) breaks.Unknown
     place)

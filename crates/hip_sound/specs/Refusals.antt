@@ -8,7 +8,7 @@ use Rattle.hip_sound.specs.declared.fault.TypeFault.{TypeFault}
 use Rattle.hip_sound.specs.declared.fault.TypeFault.TheVariants as faults
 use Rattle.hip_sound.specs.declared.fault.TypeRefusal.{TypeRefusal}
 
--- A check's fault among the faults of a program; those of spelling, of paths and of memory come from no check.
+-- A requirement's fault among the faults of a program; those of spelling, of paths and of memory come from no requirement.
 abbrev pub fault_of : Fault → TypeFault
 fault_of breaks.Duplicate = faults.Duplicate
 fault_of breaks.Unknown = faults.Unknown

@@ -1,4 +1,4 @@
--- The rules as checks, in their order, and the first rule that a program breaks.
+-- The rules as requirements, in their order, and the first rule that a program breaks.
 use Rattle.std.specs.Prelude.{ℕ, ◌+◌, ◌≡◌, ◌<◌, ◌&&◌, nat_le, Bool, true, false, List, [], ◌∷◌, ◌++◌, map, All, Option, Some, None, is_none, slice_get, codes, if◌then◌else◌}
 use Rattle.std.specs.List.{flat_map, list_all}
 use Rattle.std.specs.Str.{bytes_eq}
@@ -17,10 +17,10 @@ use Rattle.hip_tree.specs.declared.program.Param.{Param}
 use Rattle.hip_tree.specs.declared.program.Program.{Program}
 use Rattle.hip_types.specs.declared.limits.TheConstants.{LARGEST_REGION, LARGEST_VOLATILE}
 use Rattle.hip_tree.specs.declared.site.Site.{Site}
-use Rattle.hip_grammar.specs.Reading.{IsSpelled}
+use Rattle.hip_grammar.specs.ReadTexts.{IsSpelled}
 use Rattle.hip_types.specs.Areas.{volatile_start}
 use Rattle.hip_globals.specs.Addresses.{region_size, volatile_end}
-use Rattle.hip_sound.specs.Check.{Check, asks_true, and_then, each}
+use Rattle.hip_sound.specs.Requirement.{Requirement, asks_true, and_then, each}
 use Rattle.hip_sound.specs.Constants.{has_shape, names_in}
 use Rattle.hip_globals.specs.Constants.{joined, types_in}
 use Rattle.hip_externs.specs.Externs.{Signature, known_signature, call_of}
@@ -28,11 +28,11 @@ use Rattle.hip_sound.specs.declared.fault.Fault.{Fault}
 use Rattle.hip_sound.specs.declared.fault.Fault.TheVariants as breaks
 use Rattle.hip_names.specs.Names.{is_among}
 use Rattle.hip_sound.specs.Names.{Named, all_differ, numbered}
-use Rattle.hip_sound.specs.Numbering.{global_names}
+use Rattle.hip_sound.specs.NumberedNames.{global_names}
 use Rattle.hip_sound.specs.Paths.{IsAssigned, IsUnassigned}
 use Rattle.hip_sound.specs.declared.point.Point.{Point}
 use Rattle.hip_sound.specs.declared.point.Point.TheVariants.{Before, AtEnd}
-use Rattle.hip_sound.specs.Places.{Scope, scope_of, types_fit, instr_check, end_check, phi_check}
+use Rattle.hip_sound.specs.Places.{Scope, scope_of, types_fit, instr_required, end_required, phi_required}
 use Rattle.hip_sound.specs.Registers.{instr_uses, end_uses, used_registers}
 use Rattle.hip_sound.specs.Declarations.{Declares, declared_by}
 use Rattle.hip_sound.specs.Types.{same_scalar, same_result, all_pass}
@@ -64,23 +64,23 @@ function_declarations functions = numbered (λ n f. named f.name (places.Head n)
 abbrev pub declarations : Program → List Named
 declarations P = global_declarations P.globals ++ extern_declarations P.externs ++ function_declarations P.functions
 
--- The check that the names at the top of a program differ: Duplicate at the first one that is equal to an earlier one.
-abbrev pub names_check : Program → Check
-names_check P = all_differ (declarations P)
+-- The requirement that the names at the top of a program differ: Duplicate at the first one that is equal to an earlier one.
+abbrev pub names_required : Program → Requirement
+names_required P = all_differ (declarations P)
 
 -- ---- globals: their types fit, their initialisers have their types' shape and name globals
 
 -- The rules of the global of number n, in this order: its type and those in its initialiser fit (TooLarge), and the
 -- initialiser has the shape of the type (BadGlobal) and names only globals that are known (Unknown).
-abbrev pub global_check : List (List ℕ) → ℕ → GlobalVar → Check
-global_check known n g =
+abbrev pub global_required : List (List ℕ) → ℕ → GlobalVar → Requirement
+global_required known n g =
     and_then (types_fit (g.ty ∷ types_in g.init) (places.Global n))
     (and_then (asks_true (has_shape g.init g.ty) breaks.BadGlobal (places.Global n))
     (asks_true (list_all (is_among known) (names_in g.init)) breaks.Unknown (places.Global n)))
 
 -- The rules of each global, in order; an initialiser may name every global, its own and later ones too.
-abbrev pub globals_check : Program → Check
-globals_check P = each (global_check (global_names P)) P.globals
+abbrev pub globals_required : Program → Requirement
+globals_required P = each (global_required (global_names P)) P.globals
 
 -- ---- the table has each external function, and nothing else has a name of the table
 
@@ -93,30 +93,30 @@ abbrev pub is_of : Extern → Option Signature → Bool
 is_of e None = false
 is_of e (Some s) = same_result e.ret s.ret && all_pass (map same_scalar s.params) e.params
 
--- The check that the name of global n is not in the table: BadExtern at the global.
-abbrev pub free_global : ℕ → GlobalVar → Check
+-- The requirement that the name of global n is not in the table: BadExtern at the global.
+abbrev pub free_global : ℕ → GlobalVar → Requirement
 free_global n g = asks_true (is_free g.name) breaks.BadExtern (places.Global n)
 
--- The check that the name of external declaration n is in the table, with the same signature: BadExtern at the
+-- The requirement that the name of external declaration n is in the table, with the same signature: BadExtern at the
 -- declaration.
-abbrev pub declared : ℕ → Extern → Check
+abbrev pub declared : ℕ → Extern → Requirement
 declared n e = asks_true (is_of e (known_signature e.name)) breaks.BadExtern (places.Extern n)
 
--- The check that the name of function n is not in the table: BadExtern at the head of the function.
-abbrev pub free_function : ℕ → Function → Check
+-- The requirement that the name of function n is not in the table: BadExtern at the head of the function.
+abbrev pub free_function : ℕ → Function → Requirement
 free_function n f = asks_true (is_free f.name) breaks.BadExtern (places.Head n)
 
--- The checks by the table of external functions, in this order: globals, declarations, functions.
-abbrev pub externs_check : Program → Check
-externs_check P =
+-- The requirements by the table of external functions, in this order: globals, declarations, functions.
+abbrev pub externs_required : Program → Requirement
+externs_required P =
     and_then (each free_global P.globals) (and_then (each declared P.externs) (each free_function P.functions))
 
 -- ---- the region and the volatile globals are not too large
 
 -- The region has at most 67,108,864 bytes, and the volatile globals end at most 16,777,216 bytes after their start:
 -- TooLarge, placed at the whole program. (This project's own limits.)
-abbrev pub sizes_check : Program → Check
-sizes_check P =
+abbrev pub sizes_required : Program → Requirement
+sizes_required P =
     asks_true
     (nat_le (region_size P) LARGEST_REGION && nat_le (volatile_end P) (volatile_start + LARGEST_VOLATILE))
     breaks.TooLarge places.Whole
@@ -142,9 +142,9 @@ abbrev pub has_main : List Function → Bool
 has_main [] = false
 has_main (f ∷ fs) = if bytes_eq f.name (codes "main") then is_main f else has_main fs
 
--- The check that there is such a `main`: NoMain, placed at the whole program.
-abbrev pub main_check : Program → Check
-main_check P = asks_true (has_main P.functions) breaks.NoMain places.Whole
+-- The requirement that there is such a `main`: NoMain, placed at the whole program.
+abbrev pub main_required : Program → Requirement
+main_required P = asks_true (has_main P.functions) breaks.NoMain places.Whole
 
 -- ---- parameters, labels and registers of a function differ
 
@@ -165,37 +165,37 @@ named_in f = record {
 abbrev pub inner_names : ℕ → Function → List Named
 inner_names f fn = declared_by (named_in f) fn
 
--- The check that the names inside function f differ: Duplicate at the first one that is equal to an earlier one.
-abbrev pub inner_check : ℕ → Function → Check
-inner_check f fn = all_differ (inner_names f fn)
+-- The requirement that the names inside function f differ: Duplicate at the first one that is equal to an earlier one.
+abbrev pub inner_required : ℕ → Function → Requirement
+inner_required f fn = all_differ (inner_names f fn)
 
 -- Parameters, labels and registers differ in each function; two functions may share them.
-abbrev pub inner_names_check : Program → Check
-inner_names_check P = each inner_check P.functions
+abbrev pub inner_names_required : Program → Requirement
+inner_names_required P = each inner_required P.functions
 
 -- ---- each place of each function
 
 -- The rules of phi i of block b of function f; `label` is that block's label.
-abbrev pub phi_at : Scope → List ℕ → ℕ → ℕ → ℕ → Phi → Check
-phi_at s label f b i p = phi_check s label p (places.Phi (site f b i))
+abbrev pub phi_at : Scope → List ℕ → ℕ → ℕ → ℕ → Phi → Requirement
+phi_at s label f b i p = phi_required s label p (places.Phi (site f b i))
 
 -- The rules of instruction i in the body of block b of function f.
-abbrev pub instr_at : Scope → ℕ → ℕ → ℕ → Instr → Check
-instr_at s f b i instr = instr_check s instr (places.Body (site f b i))
+abbrev pub instr_at : Scope → ℕ → ℕ → ℕ → Instr → Requirement
+instr_at s f b i instr = instr_required s instr (places.Body (site f b i))
 
 -- The rules of the places of block b of function f, in order: its phis, its body, its end.
-abbrev pub block_check : Scope → ℕ → ℕ → Block → Check
-block_check s f b block =
+abbrev pub block_required : Scope → ℕ → ℕ → Block → Requirement
+block_required s f b block =
     and_then (each (phi_at s block.label f b) block.phis)
-    (and_then (each (instr_at s f b) block.body) (end_check s block.end (places.End f b)))
+    (and_then (each (instr_at s f b) block.body) (end_required s block.end (places.End f b)))
 
 -- The rules of the places of the function of number f, block by block.
-abbrev pub function_check : Program → ℕ → Function → Check
-function_check P f fn = each (block_check (scope_of P fn) f) fn.blocks
+abbrev pub function_required : Program → ℕ → Function → Requirement
+function_required P f fn = each (block_required (scope_of P fn) f) fn.blocks
 
 -- The rules of all places, function by function.
-abbrev pub places_check : Program → Check
-places_check P = each (function_check P) P.functions
+abbrev pub places_required : Program → Requirement
+places_required P = each (function_required P) P.functions
 
 -- ---- every path to a use of a register assigns the register
 
@@ -253,27 +253,27 @@ UseIsAssigned fn u = IsAssigned fn u.block u.point u.name
 abbrev pub AllAssigned : Function → ℕ → Type 0
 AllAssigned fn f = All (UseIsAssigned fn) (register_uses f fn)
 
--- ---- what passes the checks
+-- ---- what meets the requirements
 
--- A program that is spelled, that passes each check, and whose uses are assigned on every path.
-pub record Passes (P : Program) : Type 0 where
+-- A program that is spelled, that meets each requirement, and whose uses are assigned on every path.
+pub record PassesVerifier (P : Program) : Type 0 where
   pub spelled : IsSpelled P
-  pub names : (names_check P).Holds
-  pub globals : (globals_check P).Holds
-  pub externs : (externs_check P).Holds
-  pub sizes : (sizes_check P).Holds
-  pub main : (main_check P).Holds
-  pub registers : (inner_names_check P).Holds
-  pub places : (places_check P).Holds
+  pub names : (names_required P).Holds
+  pub globals : (globals_required P).Holds
+  pub externs : (externs_required P).Holds
+  pub sizes : (sizes_required P).Holds
+  pub main : (main_required P).Holds
+  pub registers : (inner_names_required P).Holds
+  pub places : (places_required P).Holds
   pub assigned : (f : ℕ) (fn : Function) → slice_get P.functions f ≡ Some fn → AllAssigned fn f
 
 -- The rules between spelling and paths, in order.
-abbrev pub rules_check : Program → Check
-rules_check P =
-    and_then (names_check P)
-    (and_then (globals_check P)
-    (and_then (externs_check P)
-    (and_then (sizes_check P) (and_then (main_check P) (and_then (inner_names_check P) (places_check P))))))
+abbrev pub rules_required : Program → Requirement
+rules_required P =
+    and_then (names_required P)
+    (and_then (globals_required P)
+    (and_then (externs_required P)
+    (and_then (sizes_required P) (and_then (main_required P) (and_then (inner_names_required P) (places_required P))))))
 
 -- A use of a register has this place, and the path to it does not assign the register. For every use before it, every
 -- path assigns the register.
@@ -292,7 +292,7 @@ pub record IsFirstUnassigned (P : Program) (place : Place) (path : List ℕ) : T
 
 -- The program is spelled, and the first of the rules that it breaks has this fault at this place.
 abbrev BreaksFirst : Program → Fault → Place → Type 0
-BreaksFirst P fault place = IsSpelled P × ((rules_check P).found ≡ Some (record { fault = fault; place = place }))
+BreaksFirst P fault place = IsSpelled P × ((rules_required P).found ≡ Some (record { fault = fault; place = place }))
 
 -- The fault and the place are those of the first rule that fails, at the first place, in the order of the rules above.
 abbrev is_first : Program → Place → TypeFault → Type 0
@@ -302,7 +302,7 @@ is_first P place faults.Unknown = BreaksFirst P breaks.Unknown place
 is_first P place faults.Mismatch = BreaksFirst P breaks.Mismatch place
 is_first P place faults.NoMain = BreaksFirst P breaks.NoMain place
 is_first P place (faults.Unassigned path) =
-    IsSpelled P × ((rules_check P).found ≡ None) × IsFirstUnassigned P place path
+    IsSpelled P × ((rules_required P).found ≡ None) × IsFirstUnassigned P place path
 is_first P place faults.BadExtern = BreaksFirst P breaks.BadExtern place
 is_first P place faults.BadGlobal = BreaksFirst P breaks.BadGlobal place
 is_first P place faults.BadEdge = BreaksFirst P breaks.BadEdge place

@@ -23,14 +23,14 @@ use Rattle.hip_tree.specs.declared.program.Extern.{Extern}
 use Rattle.hip_tree.specs.declared.program.Function.{Function}
 use Rattle.hip_tree.specs.declared.program.GlobalVar.{GlobalVar}
 use Rattle.hip_tree.specs.declared.program.Program.{Program}
-use Rattle.hip_grammar.specs.Reading.{IsSpelled}
+use Rattle.hip_grammar.specs.ReadTexts.{IsSpelled}
 use Rattle.hip_types.specs.Areas.{volatile_start}
 use Rattle.hip_globals.specs.Addresses.{region_size, volatile_end}
 use Rattle.hip_globals.specs.Addresses.{TypesFitIn}
 use Rattle.hip_sound.specs.Constants.{has_shape, names_in}
 use Rattle.hip_externs.specs.Externs.{known_signature, call_of}
 use Rattle.hip_names.specs.Names.{IsAmong, number_of, AllDiffer}
-use Rattle.hip_sound.specs.Numbering.{function_number, global_names, label_names}
+use Rattle.hip_sound.specs.NumberedNames.{function_number, global_names, label_names}
 use Rattle.hip_sound.specs.Paths.{IsAssigned, label_at, names_of}
 use Rattle.hip_grammar.specs.Words.{type_of}
 use Rattle.hip_sound.specs.Places.{callee_of, cast_agrees, gep_agrees, written_types, edge_labels}
@@ -110,35 +110,35 @@ pub record HasMain (P : Program) : Type 0 where
 -- ---- places
 
 -- An item of a block: a phi, an instruction or the end.
-pub data Item : Type 0 where
-  PhiItem : Phi → Item
-  InstrItem : Instr → Item
-  EndItem : End → Item
+pub data BlockItem : Type 0 where
+  PhiItem : Phi → BlockItem
+  InstrItem : Instr → BlockItem
+  EndItem : End → BlockItem
 
 -- The operands of an item, each with the type that its place states.
-abbrev pub uses_of : Item → List Use
+abbrev pub uses_of : BlockItem → List Use
 uses_of (PhiItem p) = phi_uses p
 uses_of (InstrItem i) = instr_uses i
 uses_of (EndItem e) = end_uses e
 
 -- The labels that an item names: those of a phi's edges or of an end; an instruction names none.
-abbrev pub labels_of : Item → List (List ℕ)
+abbrev pub labels_of : BlockItem → List (List ℕ)
 labels_of (PhiItem p) = edge_labels p.edges
 labels_of (InstrItem i) = []
 labels_of (EndItem e) = end_labels e
 
 -- The name of the callee at a call; none at any other item.
-abbrev pub callees_of : Item → List (List ℕ)
+abbrev pub callees_of : BlockItem → List (List ℕ)
 callees_of (InstrItem (Call dest ret callee args)) = callee ∷ []
 callees_of _ = []
 
 -- The type that an `alloca` makes room for or a `getelementptr` steps over; none at any other item.
-abbrev own_types : Item → List Ty
+abbrev own_types : BlockItem → List Ty
 own_types (InstrItem i) = written_types i
 own_types _ = []
 
 -- The types that are written in an item, in constants too.
-abbrev pub types_of : Item → List Ty
+abbrev pub types_of : BlockItem → List Ty
 types_of x = own_types x ++ used_constant_types (uses_of x)
 
 -- The function and the block of these numbers.
@@ -147,25 +147,25 @@ pub record IsBlockAt (P : Program) (f b : ℕ) (fn : Function) (block : Block) :
   pub block_is : slice_get fn.blocks b ≡ Some block
 
 -- A fact holds of each phi, each instruction and the end of a block.
-pub record EachItem (block : Block) (fact : Item → Type 0) : Type 0 where
+pub record EachItem (block : Block) (fact : BlockItem → Type 0) : Type 0 where
   pub phis : All (λ p. fact (PhiItem p)) block.phis
   pub body : All (λ i. fact (InstrItem i)) block.body
   pub last : fact (EndItem block.end)
 
 -- A fact holds of each item of each block of each function.
-abbrev pub Everywhere : Program → (Function → Block → Item → Type 0) → Type 0
+abbrev pub Everywhere : Program → (Function → Block → BlockItem → Type 0) → Type 0
 Everywhere P fact =
     (f b : ℕ) (fn : Function) (block : Block) → IsBlockAt P f b fn block → EachItem block (fact fn block)
 
 -- The registers, globals, callees and labels that an item names exist.
-pub record NamesExist (P : Program) (fn : Function) (x : Item) : Type 0 where
+pub record NamesExist (P : Program) (fn : Function) (x : BlockItem) : Type 0 where
   pub registers : All (IsAmong (register_names fn)) (used_registers (uses_of x))
   pub globals : All (IsAmong (global_names P)) (used_globals (uses_of x))
   pub callees : All (IsAmong (callee_names P)) (callees_of x)
   pub labels : All (IsAmong (label_names fn)) (labels_of x)
 
 -- Each type that is written in an item, in constants too, fits.
-abbrev pub TypesFit : Item → Type 0
+abbrev pub TypesFit : BlockItem → Type 0
 TypesFit x = All Fits (types_of x)
 
 -- A register has the type that its place states, and a constant has the shape of that type.
@@ -185,7 +185,7 @@ pub record CallAgrees (P : Program) (dest : Option (List ℕ)) (ret : Option Sca
   pub register : ret ≡ None → dest ≡ None
 
 -- Conversions, paths of elements and calls agree, and what is returned has the type of the function's result.
-abbrev pub OwnTypesAgree : Program → Function → Item → Type 0
+abbrev pub OwnTypesAgree : Program → Function → BlockItem → Type 0
 OwnTypesAgree P fn (InstrItem (Cast dest op from a to)) = IsTrue (cast_agrees op from to)
 OwnTypesAgree P fn (InstrItem (Gep dest inbounds ty base indices)) = IsTrue (gep_agrees indices ty)
 OwnTypesAgree P fn (InstrItem (Call dest ret callee args)) = CallAgrees P dest ret callee args
@@ -193,12 +193,12 @@ OwnTypesAgree P fn (EndItem (Ret arg)) = option_map (λ a. a.ty) arg ≡ fn.ret
 OwnTypesAgree P fn _ = Unit {0}
 
 -- Each operand has the type that its place states, and what the item itself requires of types holds.
-pub record TypesAgree (P : Program) (fn : Function) (x : Item) : Type 0 where
+pub record TypesAgree (P : Program) (fn : Function) (x : BlockItem) : Type 0 where
   pub operands : All (IsTyped fn) (uses_of x)
   pub own : OwnTypesAgree P fn x
 
 -- The values of a switch's cases differ.
-abbrev pub CasesDiffer : Item → Type 0
+abbrev pub CasesDiffer : BlockItem → Type 0
 CasesDiffer (EndItem (Switch width value other cases)) = AllPairs (λ c d. c.value ≢ d.value) cases
 CasesDiffer _ = Unit {0}
 
@@ -217,7 +217,7 @@ pub record EdgesAgree (fn : Function) (block : Block) (edges : List Edge) : Type
   pub repeats : AllPairs (λ e d. e.label ≡ d.label → e.value ≡ d.value) edges
 
 -- The edges of a phi agree, and no end names the entry block.
-abbrev pub EdgesAreSound : Function → Block → Item → Type 0
+abbrev pub EdgesAreSound : Function → Block → BlockItem → Type 0
 EdgesAreSound fn block (PhiItem p) = EdgesAgree fn block p.edges
 EdgesAreSound fn block (InstrItem i) = Unit {0}
 EdgesAreSound fn block (EndItem e) = All (λ label. label_at fn 0 ≢ Some label) (end_labels e)

@@ -6,7 +6,7 @@ ghost use Rattle.hip_sound.specs.Given.{CallsAgree, OperandsAgree, LabelsExist, 
 ghost use Rattle.hip_globals.specs.Held.{HoldsGlobals};
 ghost use Rattle.hip_globals.specs.Initial as initial;
 ghost use Rattle.hip_names.specs.Names as names;
-ghost use Rattle.hip_sound.specs.Numbering.{function_names, function_number};
+ghost use Rattle.hip_sound.specs.NumberedNames.{function_names, function_number};
 ghost use Rattle.hip_sound.specs.Sound.{RegistersAssigned, HasMain, IsSound};
 
 use hip_globals::{address, region_bytes, region_size, volatile_bytes};
@@ -37,7 +37,7 @@ impl Model for Checked {
 }
 
 impl Checked {
-    /// A program that is known to be sound; nothing is checked.
+    /// A program that is known to be sound; nothing is verified.
     pub fn of_sound(program: Program) -> Checked
         requires { IsSound program }
         ensures { result ≡ program }

@@ -38,7 +38,7 @@ pub struct TypeRefusal {
     pub place: Place,
 }
 
-/// The faults that the checks find: all except those of paths and of spelling.
+/// The faults that the requirements find: all except those of paths and of spelling.
 #[derive(Clone, Copy)]
 pub enum Fault {
     Duplicate,

@@ -1,1 +1,5 @@
+pub mod Within
+pub mod Pending
+pub mod MachineState
+pub mod Laws
 pub mod Faults

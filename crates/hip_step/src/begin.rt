@@ -1,9 +1,9 @@
 ghost use Rattle.std.specs.Prelude.{◌≡◌, IfOk};
 ghost use Rattle.hip_runs.specs.Validity.{IsValid};
 
-use hip_cache::Machine;
-use hip_engine::Runner;
+use crate::machine::Machine;
 use hip_resolve::resolve;
+use hip_runner::Runner;
 use hip_runs::Input;
 use hip_sound::Checked;
 use hip_types::NoMemory;

@@ -9,7 +9,7 @@ abbrev pub contents_of : Inside → Contents
 contents_of s = record { areas = s.ram }
 
 -- The region's place and size are those of the memory.
-pub record IsKept (s : Inside) : Type 0 where
+pub record RegionIsKept (s : Inside) : Type 0 where
   pub base : s.base ≡ s.ram.base
   pub size : s.size ≡ length s.ram.region
   pub high : s.base ≤ 2 ^ 46

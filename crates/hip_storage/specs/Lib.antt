@@ -1,5 +1,5 @@
 pub mod Contents
 pub mod Calls
 pub mod Fields
-pub mod Standing
+pub mod Represented
 pub mod Laws

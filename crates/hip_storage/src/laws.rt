@@ -13,7 +13,7 @@ ghost use Rattle.hip_runs.specs.declared.event.TrapKind.TheVariants as traps;
 ghost use Rattle.hip_runs.specs.declared.event.TrapKind.{TrapKind};
 ghost use Rattle.hip_storage.specs.Calls.{HasLoaded, HasPushed, HasStored, ShowsFlush, ShowsPersist};
 ghost use Rattle.hip_storage.specs.Contents.{Contents, after_pop, block_trap, lies_in_region, range_trap};
-ghost use Rattle.hip_storage.specs.Standing.{Access, Does, Stand, accessed_at, flushing_at, trap_at};
+ghost use Rattle.hip_storage.specs.Represented.{Access, Does, Stand, accessed_at, flushing_at, trap_at};
 
 /// A load assigns the number of the bytes in the run's memory, modulo what the register's type requires. It is refused
 /// exactly if the run traps, for the same cause.

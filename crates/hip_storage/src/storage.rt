@@ -28,17 +28,17 @@ impl Model for Storage {
 
     ghost Value = { Contents };
 
-    ghost use Rattle.hip_storage.specs.Fields.{contents_of, IsKept};
+    ghost use Rattle.hip_storage.specs.Fields.{contents_of, RegionIsKept};
 
     ghost view = { contents_of };
 
-    ghost invariant = { IsKept };
+    ghost invariant = { RegionIsKept };
 }
 
 impl Storage {
     ghost use Rattle.hip_storage.specs.Calls.{HasLoaded, HasStored, HasPushed, ShowsFlush, ShowsPersist, IsRefusedFor};
     ghost use Rattle.hip_storage.specs.Contents.{initial, lies_in_region, access_trap, block_trap, range_trap, after_pop};
-    ghost use Rattle.hip_storage.specs.Standing.{HoldsState};
+    ghost use Rattle.hip_storage.specs.Represented.{HoldsState};
 
     /// The storage before the first step of a run. The time is linear in the initial bytes.
     pub fn new(alloc: Global, checked: &Checked, input: &Input) -> Result<Storage, NoMemory>

@@ -1,3 +1,10 @@
+pub mod SeenLines
+pub mod SameStores
+pub mod LoosensNothing
+pub mod ChecksSurvive
+pub mod ChecksKept
+pub mod CoveredSurvive
+pub mod LostByte
 pub mod CutParts
 pub mod DurableParts
 pub mod StoreBytes
@@ -11,3 +18,4 @@ pub mod StopImage
 pub mod ReportedBytes
 pub mod Places
 pub mod Entries
+pub mod EachByte

@@ -9,7 +9,8 @@ use Rattle.hip_types.specs.declared.areas.TheConstants.{LINE_SIZE}
 use Rattle.hip_mem.specs.Memory.{byte_at, bytes_at}
 use Rattle.hip_runs.specs.Actions.{memory_of}
 use Rattle.hip_runs.specs.Crash.{covers, byte_of, IsCrashImage, crash_image}
-use Rattle.hip_runs.specs.Found.Reports.{Range}
+use Rattle.hip_runs.specs.Found.Reports.{Range, check_reports}
+use Rattle.hip_runs.specs.StoredParts.Parts.{In}
 use Rattle.hip_runs.specs.State.{StorePart, State}
 use Rattle.hip_runs.specs.Step.{event, run}
 use Rattle.hip_runs.specs.StoredParts.Since.{IsPartAt, stores}
@@ -110,3 +111,10 @@ pub record IsOfByte (P : Program) (I : Input) (s : State) (range : Range) (r : R
   pub image : IsCrashImage I s content
   pub before : slice_index content byte
       ≡ byte_after covers byte_of (take place line.parts) byte (slice_index I.image byte)
+
+-- A report of the check of a range names the store whose part is the last over byte b, and that part is not durable.
+pub record IsReportedAt (P : Program) (I : Input) (n : ℕ) (range : Range) (b : ℕ) : Type 0 where
+  pub loose : IsLooseAt (run P I n) b
+  pub report : Report
+  pub there : In report (check_reports (run P I n) (Some range))
+  pub store : IsOfStep P I loose.2.1.step report

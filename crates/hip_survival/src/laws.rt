@@ -3,6 +3,7 @@
 ghost use Rattle.hip_tree.specs.declared.program.Program.{Program};
 ghost use Rattle.hip_lines.specs.declared.part.LooseByte.{LooseByte};
 ghost use Rattle.hip_runs.specs.Crash.{IsCrashImage, covers};
+ghost use Rattle.hip_runs.specs.Entry.{IsAtEntry};
 ghost use Rattle.hip_runs.specs.Found.Reports.{Range, check_reports, next_check};
 ghost use Rattle.hip_runs.specs.Found.Tags.{loose_bytes};
 ghost use Rattle.hip_runs.specs.State.{StorePart};
@@ -14,9 +15,9 @@ ghost use Rattle.hip_runs.specs.declared.event.Ending.TheVariants.{Stop};
 ghost use Rattle.hip_runs.specs.declared.event.Event.TheVariants as events;
 ghost use Rattle.hip_runs.specs.declared.input.Input.{Input};
 ghost use Rattle.hip_runs.specs.declared.report.Report.{Report};
-ghost use Rattle.hip_survival.specs.Survival.{HasAllParts, HasDurableAlone, IsFromPartOn, IsLooseAt, IsOfByte, IsOnlyImage, IsWholeImage, Survives, durable_byte, working_byte};
+ghost use Rattle.hip_survival.specs.Survival.{HasAllParts, HasDurableAlone, IsFromPartOn, IsLooseAt, IsOfByte, IsOnlyImage, IsReportedAt, IsWholeImage, Survives, durable_byte, working_byte};
 ghost use Rattle.hip_sound.specs.Sound.{IsSound};
-ghost use Rattle.std.specs.Prelude.{◌≡◌, ◌≢◌, ◌+◌, ◌<◌, ◌≤◌, ℕ, suc, ℤ, List, [], Some, length, slice_index, true, false};
+ghost use Rattle.std.specs.Prelude.{◌≡◌, ◌≢◌, ◌⊎◌, ◌+◌, ◌<◌, ◌≤◌, ℕ, suc, ℤ, List, [], Some, length, slice_index, true, false};
 
 /// In each state of a run each byte of the region in working memory is the initial byte, changed by all parts of its
 /// cache line in order. So working memory is one of the crash images: the one that has all parts of each line.
@@ -99,4 +100,21 @@ pub fn a_clean_stop_leaves_one_image()
     ensures { (P : Program) → IsSound P → (I : Input) → IsValid P I → (n : ℕ) → (code : ℤ) →
         has_ended (run P I n) ≡ false → event P I (run P I n) ≡ events.End (Stop code) →
         check_reports (run P I n) (next_check P I (run P I n)) ≡ [] → IsOnlyImage P I (run P I (suc n)) }
+{}
+
+/// Each byte that a check checks survives a crash, or the check reports the store that was the last over it. So a
+/// check names every byte of its range that a crash may lose.
+pub fn checked_bytes_survive_or_are_reported()
+    ensures reported { (P : Program) → (I : Input) → (n : ℕ) → (range : Range) → (b : ℕ) → range.offset ≤ b →
+        b < range.offset + range.size → IsLooseAt (run P I n) b → IsReportedAt P I n range b }
+    ensures decided { (P : Program) → IsSound P → (I : Input) → IsValid P I → (n : ℕ) → (range : Range) →
+        next_check P I (run P I n) ≡ Some range → (b : ℕ) → range.offset ≤ b → b < range.offset + range.size →
+        Survives P I (run P I n) b ⊎ IsReportedAt P I n range b }
+{}
+
+/// What a crash may leave in any state of a run, it may leave at an entry of the run's trace, and so `crash` misses no
+/// content that a crash may leave.
+pub fn crashes_come_at_entries()
+    ensures { (P : Program) → (I : Input) → (n : ℕ) → (content : List ℕ) → IsCrashImage I (run P I n) content →
+        (m : ℕ) × IsAtEntry P I (run P I n).counts.entries m × IsCrashImage I (run P I m) content }
 {}

@@ -11,7 +11,7 @@ fn is_same(token: Token<'_>, wanted: Token<'_>) -> bool {
         | (Token::Global(a), Token::Global(b))
         | (Token::Num(a), Token::Num(b))
         | (Token::Str(a), Token::Str(b)) => a == b,
-        (Token::Mark(a), Token::Mark(b)) | (Token::Odd(a), Token::Odd(b)) => a == b,
+        (Token::Punctuation(a), Token::Punctuation(b)) | (Token::Odd(a), Token::Odd(b)) => a == b,
         _ => false,
     }
 }
@@ -33,7 +33,7 @@ fn assert_begins(rt: &impl Abort, lexer: &mut Lexer<'_>, tokens: &[(Token<'_>, u
 
 const TWO_LINES: &[(Token<'_>, u64)] = &[
     (Token::Global(b"x"), 1),
-    (Token::Mark(b'='), 1),
+    (Token::Punctuation(b'='), 1),
     (Token::Word(b"global"), 1),
     (Token::Word(b"i64"), 1),
     (Token::Num(b"-07"), 1),

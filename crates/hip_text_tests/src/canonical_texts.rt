@@ -1,12 +1,11 @@
 //! Programs that are read, and written in their canonical text.
 
-use hip_copies::same;
 use hip_examples::{
     AMPLE, COPY, ENDLESS_LOOP, EVEN_AND_ODD, KEY_VALUE_LOG, ONE_STORE, ONE_STORE_REPAIRED, REACH,
 };
 use hip_io::MemSink;
+use hip_ir::{same, spelled};
 use hip_parse::parse;
-use hip_spelling::spelled;
 use hip_tree::Program;
 use hip_types::Row;
 use hip_write::write;

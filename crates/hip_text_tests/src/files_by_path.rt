@@ -1,14 +1,20 @@
 //! Files of the machine, by their paths.
 
 use hip_examples::AMPLE;
-use hip_files::FileCabinet;
+use hip_files::{FileCabinet, HostFiles};
 use hip_io::{ReadRefusal, read_all};
+use std::fs::File;
 use std::process::Abort;
 use std::{fs, process};
 
 const BYTES: &str = "the bytes of a file";
 
-fn assert_read(rt: &impl Abort, host: &HostRuntime, cabinet: &mut FileCabinet<'_>, path: &str) {
+fn assert_read(
+    rt: &impl Abort,
+    host: &HostRuntime,
+    cabinet: &mut FileCabinet<HostFiles<'_>, File>,
+    path: &str,
+) {
     let bytes = read_all(host.alloc(), cabinet, path, 100).expect(rt, "the file is read");
     assert!(rt; bytes.as_slice() == BYTES.as_bytes());
 }
@@ -16,7 +22,7 @@ fn assert_read(rt: &impl Abort, host: &HostRuntime, cabinet: &mut FileCabinet<'_
 fn assert_refused(
     rt: &impl Abort,
     host: &HostRuntime,
-    cabinet: &mut FileCabinet<'_>,
+    cabinet: &mut FileCabinet<HostFiles<'_>, File>,
     path: &str,
     refusal: ReadRefusal,
 ) {
@@ -26,7 +32,7 @@ fn assert_refused(
 
 /// Asserts what is read of a file, of the same file once it is removed, and of a directory.
 fn assert_answers(rt: &impl Abort, host: &HostRuntime, path: &str) {
-    let mut cabinet = FileCabinet::new(host);
+    let mut cabinet = FileCabinet::new(HostFiles::new(host));
     fs::write(host, path, BYTES).expect(rt, "the file is written");
     assert_read(rt, host, &mut cabinet, path);
     fs::remove_file(host, path).expect(rt, "the file is removed");

@@ -1,7 +1,7 @@
 //! What a sound program gives: its functions, its addresses and its initial bytes.
 
-use hip_copies::same;
 use hip_examples::AMPLE;
+use hip_ir::same;
 use hip_parse::parse;
 use hip_sound::Checked;
 use hip_typing::check;

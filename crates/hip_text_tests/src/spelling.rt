@@ -2,7 +2,7 @@
 
 use crate::trees::{global, name, number, one, one_store, program_of};
 use hip_examples::AMPLE;
-use hip_spelling::spelled;
+use hip_ir::spelled;
 use hip_tree::{Case, Const, End, Flags, Instr, Operand, Phi, Program};
 use hip_types::{BinaryOp, Bits, CastOp, Link, Row, Scalar, Ty, Width};
 use std::alloc::Global;

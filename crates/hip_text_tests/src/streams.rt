@@ -1,7 +1,7 @@
 //! Streams that hold bytes back, and what their devices see.
 
 use hip_examples::AMPLE;
-use hip_files::Stream;
+use hip_files::{Device, Stream};
 use hip_io::{Put, Sink};
 use std::alloc::Global;
 use std::io::{Result, Write};
@@ -9,14 +9,14 @@ use std::process::Abort;
 
 /// A device that takes some bytes, then refuses some writes, and then takes all. It counts the bytes and the writes.
 #[derive(Drop)]
-struct Device {
+struct Counted {
     room: usize,
     refusals: u64,
     taken: usize,
     writes: u64,
 }
 
-impl Write for Device {
+impl Write for Counted {
     fn write(&mut self, buf: &[u8]) -> Result<usize> {
         self.writes = self.writes.saturating_add(1);
         if self.room == 0 && self.refusals > 0 {
@@ -35,9 +35,17 @@ impl Write for Device {
     }
 }
 
+impl Device for Counted {
+    ghost use Rattle.std.specs.Prelude.{false};
+
+    ghost reveals = { false };
+
+    ghost revealed = { λ _ is. absurd (let z : ⊥ = cc in z) };
+}
+
 /// A device that refuses one write after `room` bytes.
-fn device_with(room: usize) -> Device {
-    Device {
+fn device_with(room: usize) -> Counted {
+    Counted {
         room,
         refusals: 1,
         taken: 0,
@@ -46,7 +54,7 @@ fn device_with(room: usize) -> Device {
 }
 
 /// Puts pieces into a stream of a device, and delivers nothing.
-fn put_pieces(rt: &impl Abort, alloc: Global, device: &mut Device, lines: bool, pieces: &[&[u8]]) {
+fn put_pieces(rt: &impl Abort, alloc: Global, device: &mut Counted, lines: bool, pieces: &[&[u8]]) {
     let mut stream = Stream::new(alloc, device, lines);
     for piece in pieces {
         assert!(rt; stream.put(piece) == Put::Done);
@@ -54,7 +62,7 @@ fn put_pieces(rt: &impl Abort, alloc: Global, device: &mut Device, lines: bool, 
 }
 
 /// Puts 10,000 lines into a stream of a device, and delivers them.
-fn put_many(rt: &impl Abort, alloc: Global, device: &mut Device) {
+fn put_many(rt: &impl Abort, alloc: Global, device: &mut Counted) {
     let mut stream = Stream::new(alloc, device, false);
     for _ in 0..10_000 {
         assert!(rt; stream.put(b"12345\n") == Put::Done);
@@ -81,7 +89,7 @@ fn lines_are_written_at_once(rt: HostRuntime) {
 }
 
 /// Delivers a piece twice, to a device that has no room for all of it the first time.
-fn deliver_twice(rt: &impl Abort, alloc: Global, device: &mut Device) {
+fn deliver_twice(rt: &impl Abort, alloc: Global, device: &mut Counted) {
     let mut stream = Stream::new(alloc, device, false);
     assert!(rt; stream.put(b"1234567") == Put::Done);
     assert!(rt; stream.deliver() == Put::Failed);

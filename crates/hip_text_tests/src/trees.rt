@@ -1,7 +1,7 @@
 //! Programs that are built as trees: copies, comparisons, and instructions at sites.
 
-use hip_copies::{copy, copy_const, same, same_const};
 use hip_examples::AMPLE;
+use hip_ir::{copy, copy_const, same, same_const};
 use hip_tree::{
     Arg, Block, Const, ConstGep, End, Function, GlobalVar, Instr, Operand, Phi, Program, Site,
     instr_at,

@@ -6,7 +6,7 @@ use Rattle.std.proofs.lemmas.Bool.{eqb-true, ltb-true, ltb-false}
 use Rattle.std.proofs.lemmas.List.{take_more, get_or_past}
 use Rattle.std.proofs.lemmas.Bool.Decides.{nat_tests}
 use Rattle.hip_tokens.specs.Bytes.{is_mark, is_digit, begins_name, goes_on_name, in_string}
-use Rattle.hip_tokens.specs.Tokens.{Piece, Tok, Word, Label, Local, Global, Num, Str, Mark, Odd, piece, piece_at, name_here, word_piece, number_piece, minus_piece, local_piece, global_piece, string_piece}
+use Rattle.hip_tokens.specs.Tokens.{SizedToken, Tok, Word, Label, Local, Global, Num, Str, Punctuation, Odd, piece, piece_at, name_here, word_piece, number_piece, minus_piece, local_piece, global_piece, string_piece}
 use Rattle.hip_tokens.specs.Longest.{is_name, are_digits, is_number, Spells, IsLongest}
 use Rattle.hip_tokens.specs.Formed.{prefix_all, name_of, name_front}
 
@@ -135,7 +135,7 @@ longest b bs (Str t) w rest h e =
     let regrouped : b ∷ bs ≡ 34 ∷ (t ++ (34 ∷ rest)) = e ∙ rw h.0 (ap (λ (z : List ℕ). 34 ∷ z) (append_assoc t (34 ∷ []) rest)) in
     let k = placed b 34 bs (t ++ (34 ∷ rest)) (length t + 1) regrouped (string_long t rest h.1) in
     let n = ap length h.0 in omega (arith, length-append t (34 ∷ []))
-longest b bs (Mark c) w rest h e = let n = ap length h.0 in omega arith
+longest b bs (Punctuation c) w rest h e = let n = ap length h.0 in omega arith
 longest b bs (Odd c) w rest h e = let n = ap length h.0 in omega arith
 
 -- ---- the piece itself is spelled
@@ -150,7 +150,7 @@ closed_at bs n c e some =
     within true t = ltb-true n (length bs) t
     within false t = absurd (let past = get_or_past bs n 0 (ltb-false n (length bs) t) in let is : get_or bs n 0 ≡ c = eqb-true (slice_index bs n) c e in omega arith)
 
-abbrev SpelledHere : ℕ → List ℕ → Piece → Type 0
+abbrev SpelledHere : ℕ → List ℕ → SizedToken → Type 0
 SpelledHere b bs p = Spells p.tok (b ∷ take p.more bs)
 
 word_spelled : (b : ℕ) (bs : List ℕ) → begins_name b ≡ true → SpelledHere b bs (word_piece b bs)
@@ -197,15 +197,15 @@ string_by : (bs : List ℕ) (c : Bool) → eqb (slice_index bs (prefix_len in_st
 string_by bs true e = (ap (λ (z : List ℕ). 34 ∷ z) (closed_at bs (prefix_len in_string bs) 34 e (omega arith)), prefix_all in_string bs)
 string_by bs false e = (refl, refl)
 
-at_byte : (b k : ℕ) (bs : List ℕ) (f : ℕ → List ℕ → Piece) → eqb b k ≡ true → SpelledHere k bs (f k bs) → SpelledHere b bs (f b bs)
+at_byte : (b k : ℕ) (bs : List ℕ) (f : ℕ → List ℕ → SizedToken) → eqb b k ≡ true → SpelledHere k bs (f k bs) → SpelledHere b bs (f b bs)
 at_byte b k bs f e h = subst (λ (z : ℕ). SpelledHere z bs (f z bs)) (sym (eqb-true b k e)) h
 
-mark_by : (b : ℕ) (bs : List ℕ) (c : Bool) → begins_name b ≡ false → is_digit b ≡ false → is_mark b ≡ c → SpelledHere b bs (cond c (piece (Mark b) 0) (piece (Odd b) 0))
+mark_by : (b : ℕ) (bs : List ℕ) (c : Bool) → begins_name b ≡ false → is_digit b ≡ false → is_mark b ≡ c → SpelledHere b bs (cond c (piece (Punctuation b) 0) (piece (Odd b) 0))
 mark_by b bs true n d e = (refl, e)
 mark_by b bs false n d e = (refl, rw (n, d, e) refl)
 
 -- The piece that a test chooses is spelled here, if each of the two pieces is spelled here where it is chosen.
-by_test : (b : ℕ) (bs : List ℕ) (c : Bool) (p q : Piece) → (c ≡ true → SpelledHere b bs p) → (c ≡ false → SpelledHere b bs q) → SpelledHere b bs (cond c p q)
+by_test : (b : ℕ) (bs : List ℕ) (c : Bool) (p q : SizedToken) → (c ≡ true → SpelledHere b bs p) → (c ≡ false → SpelledHere b bs q) → SpelledHere b bs (cond c p q)
 by_test b bs true p q h k = h refl
 by_test b bs false p q h k = k refl
 

@@ -2,7 +2,7 @@
 use Rattle.std.proofs.Common.{◌≡◌, ℕ, zero, suc, true, false, eqb, List, [], ◌∷◌, drop, refl, sym, ap, ◌∙◌}
 use Rattle.std.specs.List.{prefix_len}
 use Rattle.hip_tokens.specs.Bytes.{is_blank, in_comment}
-use Rattle.hip_tokens.specs.Tokens.{At, Tok, Piece, piece, piece_at, cut, line_after}
+use Rattle.hip_tokens.specs.Tokens.{At, Tok, SizedToken, piece, piece_at, cut, line_after}
 
 pub cut_inside : (line k : ℕ) (bs : List ℕ) → cut line k bs ≡ cut line 0 (drop k bs)
 unfolding cut
@@ -28,8 +28,8 @@ unfolding cut
 cut_token line b bs t n blank comment e =
     let step : cut line 0 (b ∷ bs) ≡ (record { tok = (piece_at b bs).tok; line = line })
     ∷ cut line (piece_at b bs).more bs = rw (blank, comment) refl in
-    let token : (piece_at b bs).tok ≡ t = ap (λ (p : Piece). p.tok) (sym e) in
-    let len : (piece_at b bs).more ≡ n = ap (λ (p : Piece). p.more) (sym e) in
+    let token : (piece_at b bs).tok ≡ t = ap (λ (p : SizedToken). p.tok) (sym e) in
+    let len : (piece_at b bs).more ≡ n = ap (λ (p : SizedToken). p.more) (sym e) in
     step ∙ rw (token, len) (ap (λ (ts : List At). (record { tok = t; line = line }) ∷ ts) (cut_inside line n bs))
 
 pub after_comment : (line b : ℕ) (all rest after : List ℕ) (n : ℕ) → all ≡ b ∷ rest → b ≡ 59

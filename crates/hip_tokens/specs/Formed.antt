@@ -4,7 +4,7 @@ use Rattle.std.specs.Prelude.{slice_index}
 use Rattle.std.specs.List.{prefix_len, list_all}
 use Rattle.hip_tokens.specs.Bytes.{is_blank, is_digit, begins_name, goes_on_name, is_mark, in_string, in_comment}
 use Rattle.hip_tokens.specs.Longest.{is_name}
-use Rattle.hip_tokens.specs.Tokens.{Tok, Word, Label, Local, Global, Str, Odd, Piece, piece, piece_at, name_here, word_piece, number_piece, minus_piece, local_piece, global_piece, string_piece, At, line_after, cut, tokens}
+use Rattle.hip_tokens.specs.Tokens.{Tok, Word, Label, Local, Global, Str, Odd, SizedToken, piece, piece_at, name_here, word_piece, number_piece, minus_piece, local_piece, global_piece, string_piece, At, line_after, cut, tokens}
 
 -- Whether the text of a label, a LOCAL or a GLOBAL has the form of a name; every other token passes.
 abbrev pub is_formed : Tok → Bool
@@ -44,11 +44,11 @@ name_front (b ∷ bs) e = rw (goes, one-add, e, prefix_all goes_on_name bs) refl
 -- ---- tokens
 
 -- If the token of the piece has a name, the name has the form of a name.
-record IsFormed (p : Piece) : Type 0 where
+record IsFormed (p : SizedToken) : Type 0 where
   formed : is_formed p.tok ≡ true
 
 -- The piece that a test chooses is formed, if each of the two pieces is formed where it is chosen.
-by_test : (c : Bool) (p q : Piece) → (c ≡ true → IsFormed p) → (c ≡ false → IsFormed q)
+by_test : (c : Bool) (p q : SizedToken) → (c ≡ true → IsFormed p) → (c ≡ false → IsFormed q)
     → IsFormed (cond c p q)
 by_test true p q h k = h refl
 by_test false p q h k = k refl

@@ -2,7 +2,7 @@
 use Rattle.std.specs.Prelude.{◌≡◌, ℕ, ◌+◌, ◌≤◌, Bool, true, false, not, ◌&&◌, ◌||◌, List, [], ◌∷◌, ◌++◌, codes, length, take, ◌==◌}
 use Rattle.std.specs.List.{list_all}
 use Rattle.hip_tokens.specs.Bytes.{byte, is_digit, begins_name, goes_on_name, is_mark, in_string}
-use Rattle.hip_tokens.specs.Tokens.{Tok, Word, Label, Local, Global, Num, Str, Mark, Odd, Piece}
+use Rattle.hip_tokens.specs.Tokens.{Tok, Word, Label, Local, Global, Num, Str, Punctuation, Odd, SizedToken}
 
 -- A letter, `$`, `.` or `_`, and then any of these, digits and `-`; false for an empty text. (LLVM, "Identifiers",
 -- except that a `-` may not come first.)
@@ -32,10 +32,10 @@ Spells (Local t) w = (w ≡ byte "%" ∷ t) × (is_name t ≡ true)
 Spells (Global t) w = (w ≡ byte "@" ∷ t) × (is_name t ≡ true)
 Spells (Num t) w = (w ≡ t) × (is_number t ≡ true)
 Spells (Str t) w = (w ≡ codes "\"" ++ (t ++ codes "\"")) × (list_all in_string t ≡ true)
-Spells (Mark b) w = (w ≡ b ∷ []) × (is_mark b ≡ true)
+Spells (Punctuation b) w = (w ≡ b ∷ []) × (is_mark b ≡ true)
 Spells (Odd b) w = (w ≡ b ∷ []) × (is_odd b ≡ true)
 
 -- The piece is a token, and no token that begins here is longer.
-pub record IsLongest (b : ℕ) (bs : List ℕ) (p : Piece) : Type 0 where
+pub record IsLongest (b : ℕ) (bs : List ℕ) (p : SizedToken) : Type 0 where
   pub spelled : Spells p.tok (b ∷ take p.more bs)
   pub longest : (t : Tok) (w rest : List ℕ) → Spells t w → b ∷ bs ≡ w ++ rest → length w ≤ p.more + 1

@@ -2,7 +2,7 @@
 use Rattle.std.specs.Prelude.{◌≡◌, ℕ, List, [], ◌∷◌, Option, Some, None}
 use Rattle.hip_tokens.specs.declared.lexer.Token.{Token}
 use Rattle.hip_tokens.specs.declared.lexer.Token.TheVariants as code
-use Rattle.hip_tokens.specs.Tokens.{Tok, Word, Label, Local, Global, Num, Str, Mark, Odd, At}
+use Rattle.hip_tokens.specs.Tokens.{Tok, Word, Label, Local, Global, Num, Str, Punctuation, Odd, At}
 
 -- A token of the code as a token of the definitions: of the same kind, with the same text or byte.
 abbrev pub seen : Token → Tok
@@ -12,7 +12,7 @@ seen (code.Local t) = Local t.now
 seen (code.Global t) = Global t.now
 seen (code.Num t) = Num t.now
 seen (code.Str t) = Str t.now
-seen (code.Mark b) = Mark b
+seen (code.Punctuation b) = Punctuation b
 seen (code.Odd b) = Odd b
 
 -- The next token, if there is one, is the first of the tokens before, and the others are left.

@@ -6,7 +6,7 @@ use Rattle.std.proofs.lemmas.List.{take_at, drop_at}
 use Rattle.std.proofs.lemmas.Bool.{and_parts}
 use Rattle.std.proofs.lemmas.Bool.Decides.{nat_tests}
 use Rattle.hip_tokens.specs.Bytes.{byte, is_blank, is_digit, begins_name, goes_on_name, is_mark}
-use Rattle.hip_tokens.specs.Tokens.{Tok, Word, Label, Local, Global, Num, Mark, At, piece, piece_at, word_piece, number_piece, minus_piece, local_piece, global_piece, name_here, cut}
+use Rattle.hip_tokens.specs.Tokens.{Tok, Word, Label, Local, Global, Num, Punctuation, At, piece, piece_at, word_piece, number_piece, minus_piece, local_piece, global_piece, name_here, cut}
 use Rattle.hip_tokens.specs.Longest.{is_name, are_digits}
 use Rattle.hip_tokens.specs.Cuts.{cut_token}
 
@@ -196,9 +196,9 @@ mark_first b e = (
 )
 
 pub mark_cut : (line b : ℕ) (rest : List ℕ) → is_mark b ≡ true
-    → cut line 0 (b ∷ rest) ≡ at_line line (Mark b) ∷ cut line 0 rest
+    → cut line 0 (b ∷ rest) ≡ at_line line (Punctuation b) ∷ cut line 0 rest
 unfolding piece_at
 mark_cut line b rest e =
     let o = mark_first b e in
-    let token : piece (Mark b) 0 ≡ piece_at b rest = rw (o.2, o.3, o.4, o.5, o.6, o.7, e) refl in
-    cut_token line b rest (Mark b) 0 o.0 o.1 token
+    let token : piece (Punctuation b) 0 ≡ piece_at b rest = rw (o.2, o.3, o.4, o.5, o.6, o.7, e) refl in
+    cut_token line b rest (Punctuation b) 0 o.0 o.1 token

@@ -16,7 +16,7 @@ pub enum Token<'a> {
     Global(&'a [u8]),
     Num(&'a [u8]),
     Str(&'a [u8]),
-    Mark(u8),
+    Punctuation(u8),
     Odd(u8),
 }
 
@@ -133,7 +133,7 @@ fn token_at<'a>(bytes: &'a [u8], b: u8, rest: &'a [u8]) -> (Token<'a>, usize)
     } else if b == b'"' {
         string_at(rest)
     } else if is_mark(b) {
-        (Token::Mark(b), 0)
+        (Token::Punctuation(b), 0)
     } else {
         (Token::Odd(b), 0)
     }

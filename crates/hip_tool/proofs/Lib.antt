@@ -1,4 +1,11 @@
+mod SentOut
 mod OneAnswer
 mod WhatIsAnswered
+mod Named
 mod OnFiles
+mod Later
+mod CheckedBytes
+mod Repairs
 mod Orders
+mod CrashImages
+mod Agreement

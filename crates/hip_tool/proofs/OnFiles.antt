@@ -1,90 +1,36 @@
 -- What each order answers on files that are known, if nothing fails.
-use Rattle.std.proofs.Common.{◌≡◌, ◌⊎◌, inl, inr, ℕ, ℤ, Bool, true, false, List, [], ◌∷◌, map, Option, Some, refl, sym, ap, ◌∙◌, subst}
-use Rattle.std.proofs.lemmas.List.Elements.{All-cons, All-head, All-nil, All-tail}
-use Rattle.std.specs.List.{All}
+use Rattle.std.proofs.Common.{◌≡◌, ◌⊎◌, inl, inr, ℕ, ℤ, Bool, true, false, List, Option, Some, refl, sym, ap, ◌∙◌, subst}
 use Rattle.std.specs.Prelude.{IfSome}
-use Rattle.hip_answers.specs.Answers.{Answer, Sinks, refusal}
-use Rattle.hip_answers.specs.Endings.{ending_line, status_of_ending}
-use Rattle.hip_answers.specs.Programs.{IsUnloaded, IsUnread, LacksProgram}
-use Rattle.hip_answers.specs.RunAnswers.{HasRunOf, TraceAnswers}
+use Rattle.hip_answers.specs.Answers.{Answer, Sinks}
+use Rattle.hip_answers.specs.Programs.{IsUnloaded, LacksProgram}
+use Rattle.hip_answers.specs.RunAnswers.{TraceAnswers}
 use Rattle.hip_answers.specs.Same.{IsSameAnswer, pathless}
-use Rattle.hip_answers.specs.Statuses as programs
 use Rattle.hip_answers.specs.TraceFiles.{HasNoTrace, IsTraceFile}
 use Rattle.hip_answers.specs.TraceLaws.{never_both, same_trace}
 use Rattle.hip_answers.specs.Traces.{GivesTrace}
-use Rattle.hip_answers.specs.declared.status.Status.{Status}
 use Rattle.hip_answers.specs.declared.status.Status.TheVariants as statuses
 use Rattle.hip_answers.specs.declared.refusal.TraceFileRefusal.{TraceFileRefusal}
 use Rattle.hip_answers.specs.declared.refusal.TraceFileRefusal.TheVariants as traces
-use Rattle.hip_commands.specs.Record.{HasRecorded, RecordAnswers}
-use Rattle.hip_commands.specs.Run.{HasRun, RunAnswers}
+use Rattle.hip_run_commands.specs.Record.{RecordAnswers}
+use Rattle.hip_run_commands.specs.Run.{RunAnswers}
 use Rattle.hip_io.specs.Cabinets.{CabinetState}
 use Rattle.hip_io.specs.declared.cabinet.NamedFile.{NamedFile}
-use Rattle.hip_many_commands.specs.Laws.{ManyAreAnswered, ManyAreOne}
-use Rattle.hip_many_commands.specs.Many.{HasRepairedMany, IsUntracedIn, ManyAnswers, status_in}
-use Rattle.hip_many_commands.specs.RunLaws.{one_runs}
-use Rattle.hip_many_commands.specs.Runs.{AreRunsOf, TracedRun}
+use Rattle.hip_repair_commands.specs.ManyLaws.{ManyAreAnswered, ManyAreOne}
+use Rattle.hip_repair_commands.specs.Many.{HasRepairedMany, IsUntracedIn, ManyAnswers, status_in}
+use Rattle.hip_repair_commands.specs.ManyRunLaws.{one_runs}
+use Rattle.hip_repair_commands.specs.ManyRuns.{AreRunsOf, TracedRun}
 use Rattle.hip_program_files.specs.Laws.OneAnswer.{loads_one}
-use Rattle.hip_program_files.specs.Loading.{HasNoProgram, IsProgramOf}
+use Rattle.hip_program_files.specs.LoadedPrograms.{HasNoProgram, IsProgramOf}
 use Rattle.hip_program_files.specs.Outside.{HasMet}
-use Rattle.hip_program_files.specs.declared.refusal.LoadRefusal.{LoadRefusal}
-use Rattle.hip_program_files.specs.declared.refusal.LoadRefusal.TheVariants as loads
-use Rattle.hip_recording.specs.Printing.{IsPrinted}
-use Rattle.hip_repair_answers.specs.Answers.{HasRepaired}
-use Rattle.hip_repair_answers.specs.Cured.{IsCuredBy}
-use Rattle.hip_repairs.specs.Choice.{plan_for}
-use Rattle.hip_repairs.specs.Direct.{direct}
-use Rattle.hip_repairs.specs.Repaired.{repaired}
-use Rattle.hip_repairs.specs.declared.plan.Plan.{Plan}
+use Rattle.hip_replay.specs.PrintedText.{IsPrinted}
 use Rattle.hip_runs.specs.FirstInput.{first_input}
 use Rattle.hip_runs.specs.Found.Marks.{IsFound}
 use Rattle.hip_runs.specs.declared.input.Input.{Input}
 use Rattle.hip_runs.specs.declared.report.Findings.{Findings}
-use Rattle.hip_thin_commands.specs.Thin.{HasThinned}
-use Rattle.hip_levels.specs.LowStores.{low_stores}
 use Rattle.hip_tool.proofs.WhatIsAnswered.{no_fault}
-use Rattle.hip_tool.specs.Headline.{IsRepairOf, NothingFails, OfRun, WritesOutput, WritesRepair}
+use Rattle.hip_tool.specs.Headline.{NothingFails, OfRun, WritesOutput}
 use Rattle.hip_tree.specs.declared.program.Program.{Program}
-use Rattle.hip_tree.specs.declared.site.Site.{Site}
 use Rattle.hip_types.specs.declared.limits.TheConstants.{LOWEST_BASE}
-
--- ---- the guarantees of a repair
-
-repair_of : (P : Program) (I : Input) (plan : Plan) (skip : Site → Bool) → IsCuredBy P I plan skip
-    → IsRepairOf P (repaired P plan skip) I
-repair_of P I plan skip h = record {
-  sound = h.sound;
-  reads = h.reads;
-  harmless = h.crashes.lasts.harmless [];
-  endings = h.crashes.endings;
-  clean = h.clean;
-  survives = h.crashes.checks;
-  covered = h.covered;
-  calls = h.crashes.calls;
-  histories = h.crashes.histories;
-  lasts = h.crashes.lasts;
-}
-
-one_repair : (P Q : Program) (I : Input) → IsRepairOf P Q I → All (IsRepairOf P Q) (I ∷ [])
-one_repair P Q I r = All-cons (IsRepairOf P Q) I [] r (All-nil (IsRepairOf P Q))
-
-each_repair : (P : Program) (plan : Plan) (rs : List TracedRun)
-    → All (λ (r : TracedRun). IsCuredBy P r.input plan (direct P)) rs
-    → All (IsRepairOf P (repaired P plan (direct P))) (map (λ (r : TracedRun). r.input) rs)
-each_repair P plan [] h = All-nil (IsRepairOf P (repaired P plan (direct P)))
-each_repair P plan (r ∷ rs) h =
-    let cured = λ (q : TracedRun). IsCuredBy P q.input plan (direct P) in
-    All-cons (IsRepairOf P (repaired P plan (direct P))) r.input (map (λ (q : TracedRun). q.input) rs)
-    (repair_of P r.input plan (direct P) (All-head cured r rs h)) (each_repair P plan rs (All-tail cured r rs h))
-
-repairs_many : (P : Program) (rs : List TracedRun) (a : Answer) → HasRepairedMany P rs a
-    → WritesRepair P (map (λ (r : TracedRun). r.input) rs) a
-repairs_many P rs a h = record {
-  status_is = h.status_is;
-  repaired = repaired P h.plan (direct P);
-  out_is = h.out_is;
-  repair = each_repair P h.plan rs h.cured;
-}
 
 -- ---- a program
 
@@ -99,7 +45,7 @@ module _ (files : List NamedFile) (p : List ℕ) (P : Program) (given : IsProgra
 
   not_lacking : (a : Answer) → LacksProgram old new p a → ⊥
   not_lacking a (inl u) = not_unloaded a u
-  not_lacking a (inr u) = never_failed u.met
+  not_lacking a (inr u) = never_failed u.failed.met
 
   same_program : (Q : Program) → IsProgramOf old.files p Q → Q ≡ P
   same_program Q loaded =
@@ -130,7 +76,7 @@ module _ (files : List NamedFile) (p : List ℕ) (P : Program) (given : IsProgra
       (Texts : Program → Input → Findings → Answer → Type 0) where
     pub on_run : (a : Answer) → TraceAnswers Texts old new p t a → OfRun Texts P I a
     on_run a (inl u) = absurd (not_unloaded a u)
-    on_run a (inr (inl u)) = absurd (never_failed u.met)
+    on_run a (inr (inl u)) = absurd (never_failed u.failed.met)
     on_run a (inr (inr (inl (inr u)))) = absurd (never_failed u.met)
     on_run a (inr (inr (inl (inl u)))) =
         let cause = subst (λ (fs : Option (List NamedFile)). HasNoTrace fs t u.program u.why) stated u.cause in
@@ -177,31 +123,15 @@ module _ (files : List NamedFile) (p : List ℕ) (P : Program) (given : IsProgra
         go (inr (inr same)) =
             not_untraced u.number u.why (ap pathless (sym status) ∙ same.status ∙ ap pathless done.1)
 
-    pub on_runs : (a : Answer) → ManyAnswers old new p names a → WritesRepair P (map (λ (r : TracedRun). r.input) rs) a
-    on_runs a (inl u) = absurd (not_unloaded a u)
-    on_runs a (inr (inl u)) = absurd (never_failed u.met)
-    on_runs a (inr (inr (inl u))) = absurd (never_untraced a u)
-    on_runs a (inr (inr (inr (inl u)))) = absurd (never_failed u.met)
-    on_runs a (inr (inr (inr (inr d)))) =
+    pub runs_done : (a : Answer) → ManyAnswers old new p names a → HasRepairedMany P rs a
+    runs_done a (inl u) = absurd (not_unloaded a u)
+    runs_done a (inr (inl u)) = absurd (never_failed u.failed.met)
+    runs_done a (inr (inr (inl u))) = absurd (never_untraced a u)
+    runs_done a (inr (inr (inr (inl u)))) = absurd (never_failed u.met)
+    runs_done a (inr (inr (inr (inr d)))) =
         let programs_are = same_program d.program d.loaded in
         let there = subst (λ (fs : Option (List NamedFile)). AreRunsOf fs d.program names d.runs) stated d.are in
-        let inputs_are = ap (λ (runs : List TracedRun). map (λ (r : TracedRun). r.input) runs) (one_runs files P names d.runs rs
-        (subst (λ (Q : Program). AreRunsOf (Some files) Q names d.runs) programs_are there) are) in
-        subst (λ (inputs : List Input). WritesRepair P inputs a) inputs_are
-        (repairs_many P d.runs a (subst (λ (Q : Program). HasRepairedMany Q d.runs a) programs_are d.texts))
-
-pub repairs_run : (P : Program) (I : Input) (a : Answer) → OfRun HasRepaired P I a → WritesRepair P (I ∷ []) a
-repairs_run P I a h = record {
-  status_is = h.2.status_is;
-  repaired = repaired P (plan_for P h.0) (direct P);
-  out_is = h.2.out_is;
-  repair = one_repair P _ I (repair_of P I (plan_for P h.0) (direct P) h.2.cured);
-}
-
-pub thins_run : (P : Program) (I : Input) (a : Answer) → OfRun HasThinned P I a → WritesRepair P (I ∷ []) a
-thins_run P I a h = record {
-  status_is = h.2.status_is;
-  repaired = repaired P (plan_for P h.0) (low_stores P);
-  out_is = h.2.out_is;
-  repair = one_repair P _ I (repair_of P I (plan_for P h.0) (low_stores P) h.2.cured);
-}
+        let runs_are = one_runs files P names d.runs rs
+        (subst (λ (Q : Program). AreRunsOf (Some files) Q names d.runs) programs_are there) are in
+        subst (λ (ts : List TracedRun). HasRepairedMany P ts a) runs_are
+        (subst (λ (Q : Program). HasRepairedMany Q d.runs a) programs_are d.texts)

@@ -2,13 +2,13 @@
 use Rattle.std.proofs.Common.{inr, sym, ap, ◌∙◌}
 use Rattle.std.specs.Prelude.{Option, Some, None}
 use Rattle.hip_answers.specs.Same.{AreOne, pathless}
-use Rattle.hip_commands.specs.Laws.{RecordsAreOne, RunsAreOne}
-use Rattle.hip_crash_commands.specs.Laws.{CrashesAreOne}
+use Rattle.hip_run_commands.specs.RunLaws.{RecordsAreOne, RunsAreOne}
+use Rattle.hip_run_commands.specs.CrashLaws.{CrashesAreOne}
 use Rattle.hip_demo.specs.Laws.{DemosAreOne}
-use Rattle.hip_many_commands.specs.Laws.{ManyAreOne}
+use Rattle.hip_repair_commands.specs.ManyLaws.{ManyAreOne}
 use Rattle.hip_repair_answers.specs.Answers.{HasChecked, HasRepaired, HasRerun}
 use Rattle.hip_answers.specs.RunLaws.{GivesOne}
-use Rattle.hip_thin_commands.specs.Thin.{HasThinned}
+use Rattle.hip_repair_commands.specs.Thin.{HasThinned}
 use Rattle.hip_tool.specs.Call.{AnswersTo, IsMisused}
 use Rattle.hip_words.specs.declared.order.Order.{Order}
 use Rattle.hip_words.specs.declared.order.Order.TheVariants.{Run, Record, Check, Repair, Rerun, Demo, Many, Crash, Thin}

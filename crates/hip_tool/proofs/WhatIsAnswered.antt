@@ -1,8 +1,8 @@
 -- If nothing fails, a call has an answer of its table and writes both texts, or it ends out of memory.
-use Rattle.std.proofs.Common.{◌≡◌, ◌⊎◌, inl, inr, ℕ, ◌+◌, ◌-◌, ◌^◌, ◌<◌, ◌≤◌, Bool, true, false, List, [], ◌++◌, Option, Some, None, refl, sym, ap, ◌∙◌, arith}
-use Rattle.std.specs.Prelude.{min, option_map}
+use Rattle.std.proofs.Common.{◌≡◌, ◌⊎◌, inl, inr, ℕ, ◌-◌, ◌^◌, ◌<◌, ◌≤◌, Bool, true, false, List, [], ◌++◌, Option, Some, None, refl, sym, ap, ◌∙◌, arith}
+use Rattle.std.specs.Prelude.{option_map}
 use Rattle.std.proofs.lemmas.List.{append-nil}
-use Rattle.hip_answers.specs.Answers.{Answer, CarriedOut, CutShort, CutsNotes, CutsOut, HasAnswer, HasAnswered, HasBeenCut, Outcome, PutsLine, RanOut, Refused, Sinks, WritesBoth, WritesLine, answered, outcome_of, refusal}
+use Rattle.hip_answers.specs.Answers.{Answer, CarriedOut, CutShort, CutsNotes, CutsOut, HasAnswered, HasBeenCut, Outcome, PutsLine, RanOut, Refused, Sinks, WritesBoth, WritesLine, answered, outcome_of, refusal}
 use Rattle.hip_answers.specs.Lines.{line_of}
 use Rattle.hip_answers.specs.declared.status.Status.{Status}
 use Rattle.hip_answers.specs.declared.status.Status.TheVariants as statuses

@@ -2,17 +2,17 @@
 
 ghost use Rattle.std.specs.Prelude.{◌≡◌, true, Some, map, string_bytes};
 ghost use Rattle.hip_answers.specs.Answers.{HasAnswered, IsDelivered, sinks};
-ghost use Rattle.hip_tool.specs.Call.{AnswersTo, IsFit, begins, is_run};
+ghost use Rattle.hip_answers.specs.Fetches.{FetchesFiles};
+ghost use Rattle.hip_tool.specs.Call.{AnswersTo, IsFit, begins, files_of, is_run};
+ghost use Rattle.hip_tool.specs.CallEnd.{IsSentOut};
 ghost use Rattle.hip_words.specs.Order.{order};
 
+use crate::call_end::close;
 use hip_answers::{Status, refuse};
-use hip_commands::{record_file, run_file};
-use hip_crash_commands::crash_file;
 use hip_demo::demo;
 use hip_io::{Cabinet, Sink};
-use hip_many_commands::many_file;
-use hip_repair_commands::{check_file, repair_file, rerun_file};
-use hip_thin_commands::thin_file;
+use hip_repair_commands::{check_file, many_file, repair_file, rerun_file, thin_file};
+use hip_run_commands::{crash_file, record_file, run_file};
 use hip_words::{
     Order, WordsRefusal, demos_are_valid, read_words, records_are_valid, runs_are_valid,
 };
@@ -20,7 +20,8 @@ use std::alloc::Global;
 
 /// Carries out the command that the words give. The words come without the program's name. `check`, `repair`, `many`,
 /// `thin` and `demo` take all their memory before they write the first byte; the others write while a run takes its
-/// steps. Each command delivers its output before it writes to the notes.
+/// steps. It fetches each file that the words name at most once, and no other. At the end neither the output nor the
+/// notes hold a byte back, unless a write has failed.
 pub fn hippo<C: Cabinet, S: Sink, N: Sink>(
     alloc: Global,
     words: &[String],
@@ -32,6 +33,29 @@ pub fn hippo<C: Cabinet, S: Sink, N: Sink>(
         (AnswersTo (order (map string_bytes words.now)) (C.state cabinet.old) (C.state cabinet.new))
         (begins (order (map string_bytes words.now))) (C.state cabinet.old) (C.state cabinet.new)
         (sinks (S.state out.old) (S.state out.new) (N.state notes.old) (N.state notes.new)) result }
+    ensures fetches { FetchesFiles (files_of (order (map string_bytes words.now))) result
+        (C.state cabinet.old) (C.state cabinet.new) }
+    ensures delivered { S.held out.old ≡ 0 → IsDelivered result (S.held out.new) }
+    ensures sent { IsSentOut (N.state notes.old) (N.state notes.new) (N.held notes.new) }
+{
+    let status = answer_words(alloc, words, cabinet, out, notes);
+    close(notes, status)
+}
+
+/// Reads the words, and carries out their command.
+fn answer_words<C: Cabinet, S: Sink, N: Sink>(
+    alloc: Global,
+    words: &[String],
+    cabinet: &mut C,
+    out: &mut S,
+    notes: &mut N,
+) -> Status
+    ensures answered { HasAnswered
+        (AnswersTo (order (map string_bytes words.now)) (C.state cabinet.old) (C.state cabinet.new))
+        (begins (order (map string_bytes words.now))) (C.state cabinet.old) (C.state cabinet.new)
+        (sinks (S.state out.old) (S.state out.new) (N.state notes.old) (N.state notes.new)) result }
+    ensures fetches { FetchesFiles (files_of (order (map string_bytes words.now))) result
+        (C.state cabinet.old) (C.state cabinet.new) }
     ensures delivered { S.held out.old ≡ 0 → IsDelivered result (S.held out.new) }
 {
     runs_are_valid();
@@ -56,6 +80,7 @@ fn carry_out<C: Cabinet, S: Sink, N: Sink>(
         (AnswersTo (Some order) (C.state cabinet.old) (C.state cabinet.new)) (begins (Some order))
         (C.state cabinet.old) (C.state cabinet.new)
         (sinks (S.state out.old) (S.state out.new) (N.state notes.old) (N.state notes.new)) result }
+    ensures fetches { FetchesFiles (files_of (Some order)) result (C.state cabinet.old) (C.state cabinet.new) }
     ensures delivered { S.held out.old ≡ 0 → IsDelivered result (S.held out.new) }
 {
     match order {
@@ -102,6 +127,7 @@ fn carry_out_run<C: Cabinet, S: Sink, N: Sink>(
         (AnswersTo (Some order) (C.state cabinet.old) (C.state cabinet.new)) (begins (Some order))
         (C.state cabinet.old) (C.state cabinet.new)
         (sinks (S.state out.old) (S.state out.new) (N.state notes.old) (N.state notes.new)) result }
+    ensures fetches { FetchesFiles (files_of (Some order)) result (C.state cabinet.old) (C.state cabinet.new) }
     ensures delivered { S.held out.old ≡ 0 → IsDelivered result (S.held out.new) }
 {
     match order {

@@ -20,7 +20,7 @@ use Rattle.hip_trace.specs.Entries.{fields, entry_by, entry_of, store, flush, pe
 use Rattle.hip_trace.specs.Fronts.{answers_piece}
 use Rattle.hip_trace.specs.Laws.PieceLaws.{cut_at, first_none}
 use Rattle.hip_trace.specs.Laws.TextLaws.{IsPlain, digits_plain, fields_plain, fields_with}
-use Rattle.hip_trace.specs.Lines.{HasDigits, HasField, HasEntry, IsFirstLine}
+use Rattle.hip_trace.specs.Lines.{HasDigits, HasField, BeginsWithEntry, IsFirstLine}
 use Rattle.hip_trace.specs.Usuals.{usual_entry}
 use Rattle.hip_trace.specs.Pieces.{is_separator}
 use Rattle.hip_trace.specs.Reads.{ReaderState, ReadsOn, one_more}
@@ -30,7 +30,7 @@ use Rattle.hip_trace.proofs.ReaderLaws.{holds_still, reads_on}
 use Rattle.hip_trace.specs.Texts.{with_fields}
 use Rattle.hip_trace.specs.declared.entry.Entry.{Entry}
 use Rattle.hip_trace.specs.declared.entry.Entry.TheVariants.{Store, Flush, Fence, Persist, Assert}
-use Rattle.hip_trace.specs.declared.line.Line.{Line}
+use Rattle.hip_trace.specs.declared.line.EntryText.{EntryText}
 
 -- ---- numbers
 
@@ -136,7 +136,7 @@ word_front word bytes e = record { whole = refl; inner = e }
 -- ---- entries
 
 two : (word bytes mid : List ℕ) (a b : ℕ) (rest : List ℕ) (e : Entry) → list_any is_separator word ≡ false → IsPlain word → HasField bytes a mid → HasField mid b rest
-    → ((f g : List ℕ) → hex_of f ≡ Some a → hex_of g ≡ Some b → entry_by (word ∷ f ∷ g ∷ []) ≡ Some e) → HasEntry (word ++ bytes) e rest
+    → ((f g : List ℕ) → hex_of f ≡ Some a → hex_of g ≡ Some b → entry_by (word ∷ f ∷ g ∷ []) ≡ Some e) → BeginsWithEntry (word ++ bytes) e rest
 two word bytes mid a b rest e inner plain p q is =
     let front = more (more (word_front word bytes inner) p) q in
     let parts : fields (with_fields word (p.field ∷ q.field ∷ [])) ≡ word ∷ p.field ∷ q.field ∷ [] = fields_with word (p.field ∷ q.field ∷ []) (p.plain, (q.plain, tt)) ∙ ap (λ (ps : List (List ℕ)). ps ++ p.field ∷ q.field ∷ []) (fields_plain word plain) in
@@ -155,7 +155,7 @@ stored false a v s z e = cc
 pub sized : (a v s z : ℕ) → Some z ≡ (if is_sized v s then Some s else None) → Some (Store a v z) ≡ sized_store a v s
 sized a v s z e = stored (is_sized v s) a v s z e
 
-pub store_first : (bytes mid back : List ℕ) (a v s : ℕ) (rest : List ℕ) (e : Entry) → HasField bytes a mid → HasField mid v back → HasField back s rest → Some e ≡ sized_store a v s → HasEntry (codes "STORE" ++ bytes) e rest
+pub store_first : (bytes mid back : List ℕ) (a v s : ℕ) (rest : List ℕ) (e : Entry) → HasField bytes a mid → HasField mid v back → HasField back s rest → Some e ≡ sized_store a v s → BeginsWithEntry (codes "STORE" ++ bytes) e rest
 unfolding entry_by store
 store_first bytes mid back a v s rest e p q r is =
     let front = more (more (more (word_front (codes "STORE") bytes refl) p) q) r in
@@ -164,19 +164,19 @@ store_first bytes mid back a v s rest e p q r is =
     let by : entry_by (codes "STORE" ∷ fs) ≡ Some e = rw (p.is, q.is, r.is) (sym is) in
     record { text = with_fields (codes "STORE") fs; whole = front.whole; is = ap entry_by parts ∙ by; inner = front.inner }
 
-pub flush_first : (bytes mid : List ℕ) (a s : ℕ) (rest : List ℕ) (b t : ℕ) → HasField bytes a mid → HasField mid s rest → Some (b, t) ≡ some_lines (a, s) → HasEntry (codes "FLUSH" ++ bytes) (Flush b t) rest
+pub flush_first : (bytes mid : List ℕ) (a s : ℕ) (rest : List ℕ) (b t : ℕ) → HasField bytes a mid → HasField mid s rest → Some (b, t) ≡ some_lines (a, s) → BeginsWithEntry (codes "FLUSH" ++ bytes) (Flush b t) rest
 unfolding entry_by flush two_numbers
 flush_first bytes mid a s rest b t p q is = two (codes "FLUSH") bytes mid a s rest (Flush b t) refl refl p q (λ f g x y. rw (x, y, ← is) refl)
 
-pub persist_first : (bytes mid : List ℕ) (a s : ℕ) (rest : List ℕ) (b t : ℕ) → HasField bytes a mid → HasField mid s rest → Some (b, t) ≡ some_lines (a, s) → HasEntry (codes "PERSIST" ++ bytes) (Persist b t) rest
+pub persist_first : (bytes mid : List ℕ) (a s : ℕ) (rest : List ℕ) (b t : ℕ) → HasField bytes a mid → HasField mid s rest → Some (b, t) ≡ some_lines (a, s) → BeginsWithEntry (codes "PERSIST" ++ bytes) (Persist b t) rest
 unfolding entry_by persist two_numbers
 persist_first bytes mid a s rest b t p q is = two (codes "PERSIST") bytes mid a s rest (Persist b t) refl refl p q (λ f g x y. rw (x, y, ← is) refl)
 
-pub assert_first : (bytes mid : List ℕ) (a s : ℕ) (rest : List ℕ) → HasField bytes a mid → HasField mid s rest → HasEntry (codes "ASSERT" ++ bytes) (Assert a s) rest
+pub assert_first : (bytes mid : List ℕ) (a s : ℕ) (rest : List ℕ) → HasField bytes a mid → HasField mid s rest → BeginsWithEntry (codes "ASSERT" ++ bytes) (Assert a s) rest
 unfolding entry_by assert two_numbers
 assert_first bytes mid a s rest p q = two (codes "ASSERT") bytes mid a s rest (Assert a s) refl refl p q (λ f g x y. rw (x, y) refl)
 
-pub fence_first : (bytes rest : List ℕ) → bytes ≡ codes "FENCE" ++ rest → HasEntry bytes Fence rest
+pub fence_first : (bytes rest : List ℕ) → bytes ≡ codes "FENCE" ++ rest → BeginsWithEntry bytes Fence rest
 unfolding entry_by
 fence_first bytes rest e = record { text = codes "FENCE"; whole = e; is = refl; inner = refl }
 
@@ -197,7 +197,7 @@ position_at xs s ys e h =
     let within : nat_lt (length xs) (length (xs ++ s ∷ ys)) ≡ true = lt-ltb _ _ (omega (arith, len)) in
     rw (at, within) refl
 
-pub line_first : (bytes rest more : List ℕ) (line : Line) → HasEntry bytes (usual_entry line.usual) rest → rest ≡ 10 ∷ more → line.len ≡ length bytes - length rest → line.len ≤ 256 → IsFirstLine bytes line
+pub line_first : (bytes rest more : List ℕ) (line : EntryText) → BeginsWithEntry bytes (usual_entry line.usual) rest → rest ≡ 10 ∷ more → line.len ≡ length bytes - length rest → line.len ≤ 256 → IsFirstLine bytes line
 unfolding entry_of
 line_first bytes rest more line h e len few =
     let total = length-append h.text rest in
@@ -215,11 +215,11 @@ line_first bytes rest more line h e len few =
 -- ---- the answer
 
 -- If the first line is dropped, `next` may give its entry as the answer.
-pub line_read : (r r' : ReaderState) (s : CabinetState) (line : Line) → IsFirstLine r.held line → s.is_current ≡ true → r' ≡ record { held = drop (line.len + 1) r.held; count = one_more r.count; progress = Reading }
+pub line_read : (r r' : ReaderState) (s : CabinetState) (line : EntryText) → IsFirstLine r.held line → s.is_current ≡ true → r' ≡ record { held = drop (line.len + 1) r.held; count = one_more r.count; progress = Reading }
     → ReadsOn r r' s s (Ok (Some (usual_entry line.usual)))
 line_read r r' s line h current e =
     let answer : answers_piece (entry_of (take line.len r.held)) r r' (line.len + 1) (Ok (Some (usual_entry line.usual))) = subst (λ (o : Option Entry). answers_piece o r r' (line.len + 1) (Ok (Some (usual_entry line.usual)))) (sym h.spells) (refl, e) in
     reads_on r r r' s s (fronts.Piece line.len) (Ok (Some (usual_entry line.usual))) refl (record { more = holds_still r.held s current; here = h.here }) answer
 
-pub line_within : (held : List ℕ) (line : Line) → IsFirstLine held line → line.len < length held
+pub line_within : (held : List ℕ) (line : EntryText) → IsFirstLine held line → line.len < length held
 line_within held line h = (cut_at held line.len h.here).within

@@ -68,7 +68,7 @@ pub record HasRestFirst (held held' : List ℕ) (s s' : CabinetState) : Type 0 w
   pub ended : IfSome s'.rest (λ rest. rest ≡ [])
 
 -- More than 256 bytes with no separator.
-pub record IsTooLong (held held' : List ℕ) (s s' : CabinetState) : Type 0 where
+pub record PieceIsTooLong (held held' : List ℕ) (s s' : CabinetState) : Type 0 where
   pub more : HoldsMore held held' s s'
   pub none : position is_separator held' ≡ None
   pub long : 256 < length held'
@@ -87,7 +87,7 @@ pub record HasFailedFirst (held held' : List ℕ) (s s' : CabinetState) : Type 0
 abbrev pub FindsFront : List ℕ → List ℕ → CabinetState → CabinetState → Front → Type 0
 FindsFront held held' s s' (fronts.Piece n) = HasPieceFirst held held' s s' n
 FindsFront held held' s s' fronts.Rest = HasRestFirst held held' s s'
-FindsFront held held' s s' fronts.TooLong = IsTooLong held held' s s'
+FindsFront held held' s s' fronts.TooLong = PieceIsTooLong held held' s s'
 FindsFront held held' s s' fronts.Failed = HasFailedFirst held held' s s'
 
 -- ---- the answer to what comes first

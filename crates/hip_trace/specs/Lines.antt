@@ -8,7 +8,7 @@ use Rattle.hip_trace.specs.Entries.{entry_by, entry_of, fields}
 use Rattle.hip_trace.specs.Laws.TextLaws.{IsPlain}
 use Rattle.hip_trace.specs.Pieces.{is_separator}
 use Rattle.hip_trace.specs.declared.entry.Entry.{Entry}
-use Rattle.hip_trace.specs.declared.line.Line.{Line}
+use Rattle.hip_trace.specs.declared.line.EntryText.{EntryText}
 use Rattle.hip_trace.specs.Usuals.{usual_entry}
 
 -- The bytes begin with the hexadecimal digits of a number.
@@ -27,13 +27,13 @@ pub record HasField (bytes : List ℕ) (number : ℕ) (rest : List ℕ) : Type 0
   pub inner : list_any is_separator field ≡ false
 
 -- The bytes begin with the word and the fields of an entry.
-pub record HasEntry (bytes : List ℕ) (entry : Entry) (rest : List ℕ) : Type 0 where
+pub record BeginsWithEntry (bytes : List ℕ) (entry : Entry) (rest : List ℕ) : Type 0 where
   pub text : List ℕ
   pub whole : bytes ≡ text ++ rest
   pub is : entry_by (fields text) ≡ Some entry
   pub inner : list_any is_separator text ≡ false
 
 -- The first piece of the bytes spells the entry of the line.
-pub record IsFirstLine (bytes : List ℕ) (line : Line) : Type 0 where
+pub record IsFirstLine (bytes : List ℕ) (line : EntryText) : Type 0 where
   pub here : position is_separator bytes ≡ Some line.len
   pub spells : entry_of (take line.len bytes) ≡ Some (usual_entry line.usual)

@@ -116,7 +116,7 @@ pub record HasMalformed (r r' : ReaderState) (s s' : CabinetState) : Type 0 wher
 
 -- A read failed. The reader holds the bytes that were taken before, which contain no whole piece. It has begun a text
 -- if it holds a byte of one.
-pub record HasFailed (r r' : ReaderState) (s s' : CabinetState) : Type 0 where
+pub record ReadHasFailed (r r' : ReaderState) (s s' : CabinetState) : Type 0 where
   pub stays : StaysOpen s s'
   pub later : s.faults ≤ s'.faults
   pub rose : Rose s.faults s'.faults
@@ -132,7 +132,7 @@ abbrev pub ReadsOn : ReaderState → ReaderState → CabinetState → CabinetSta
 ReadsOn r r' s s' (Ok None) = HasNone r r' s s'
 ReadsOn r r' s s' (Ok (Some e)) = HasNext r r' s s' e
 ReadsOn r r' s s' (Err Malformed) = HasMalformed r r' s s'
-ReadsOn r r' s s' (Err ReadFault) = HasFailed r r' s s'
+ReadsOn r r' s s' (Err ReadFault) = ReadHasFailed r r' s s'
 
 -- The reader repeats an answer, and does not call the cabinet.
 pub record Repeats (r r' : ReaderState) (s s' : CabinetState)

@@ -3,7 +3,7 @@
 
 ghost use Rattle.std.specs.Prelude.{◌≡◌, ◌<◌, ◌++◌, codes, IfSome};
 ghost use Rattle.std.specs.Char.{digit_value};
-ghost use Rattle.hip_trace.specs.Lines.{HasDigits, HasEntry, HasField, IsFirstLine};
+ghost use Rattle.hip_trace.specs.Lines.{HasDigits, BeginsWithEntry, HasField, IsFirstLine};
 ghost use Rattle.hip_trace.specs.Usuals.{usual_entry};
 
 use crate::spelled::{some_lines, store_size};
@@ -11,7 +11,7 @@ use crate::usual::Usual;
 
 /// A usual line: its entry, and how many bytes its text has.
 #[derive(Clone, Copy)]
-pub(crate) struct Line {
+pub(crate) struct EntryText {
     pub usual: Usual,
     pub len: usize,
 }
@@ -97,7 +97,7 @@ fn rest_of_field(bytes: &[u8]) -> Option<(u64, &[u8])>
 
 #[inline(always)]
 fn first_store(bytes: &[u8]) -> Option<(Usual, &[u8])>
-    ensures { IfSome result (λ r. HasEntry (codes "STORE;0x" ++ bytes.now) (usual_entry r.0) r.1.now) }
+    ensures { IfSome result (λ r. BeginsWithEntry (codes "STORE;0x" ++ bytes.now) (usual_entry r.0) r.1.now) }
 {
     let (addr, rest) = rest_of_field(bytes)?;
     let (value, rest) = first_field(rest)?;
@@ -108,7 +108,7 @@ fn first_store(bytes: &[u8]) -> Option<(Usual, &[u8])>
 
 #[inline(always)]
 fn first_flush(bytes: &[u8]) -> Option<(Usual, &[u8])>
-    ensures { IfSome result (λ r. HasEntry (codes "FLUSH;0x" ++ bytes.now) (usual_entry r.0) r.1.now) }
+    ensures { IfSome result (λ r. BeginsWithEntry (codes "FLUSH;0x" ++ bytes.now) (usual_entry r.0) r.1.now) }
 {
     let (addr, rest) = rest_of_field(bytes)?;
     let (size, rest) = first_field(rest)?;
@@ -117,7 +117,7 @@ fn first_flush(bytes: &[u8]) -> Option<(Usual, &[u8])>
 }
 
 fn first_persist(bytes: &[u8]) -> Option<(Usual, &[u8])>
-    ensures { IfSome result (λ r. HasEntry (codes "PERSIST" ++ bytes.now) (usual_entry r.0) r.1.now) }
+    ensures { IfSome result (λ r. BeginsWithEntry (codes "PERSIST" ++ bytes.now) (usual_entry r.0) r.1.now) }
 {
     let (addr, rest) = first_field(bytes)?;
     let (size, rest) = first_field(rest)?;
@@ -126,7 +126,7 @@ fn first_persist(bytes: &[u8]) -> Option<(Usual, &[u8])>
 }
 
 fn first_assert(bytes: &[u8]) -> Option<(Usual, &[u8])>
-    ensures { IfSome result (λ r. HasEntry (codes "ASSERT" ++ bytes.now) (usual_entry r.0) r.1.now) }
+    ensures { IfSome result (λ r. BeginsWithEntry (codes "ASSERT" ++ bytes.now) (usual_entry r.0) r.1.now) }
 {
     let (addr, rest) = first_field(bytes)?;
     let (size, rest) = first_field(rest)?;
@@ -136,7 +136,7 @@ fn first_assert(bytes: &[u8]) -> Option<(Usual, &[u8])>
 // The entry that comes first, by the words in the order in which most traces have them.
 #[inline(always)]
 fn first_entry(bytes: &[u8]) -> Option<(Usual, &[u8])>
-    ensures { IfSome result (λ r. HasEntry bytes.now (usual_entry r.0) r.1.now) }
+    ensures { IfSome result (λ r. BeginsWithEntry bytes.now (usual_entry r.0) r.1.now) }
 {
     match after_word(bytes, b"STORE;0x") {
         Some(rest) => first_store(rest),
@@ -151,7 +151,7 @@ fn first_entry(bytes: &[u8]) -> Option<(Usual, &[u8])>
 }
 
 fn persist_or_assert(bytes: &[u8]) -> Option<(Usual, &[u8])>
-    ensures { IfSome result (λ r. HasEntry bytes.now (usual_entry r.0) r.1.now) }
+    ensures { IfSome result (λ r. BeginsWithEntry bytes.now (usual_entry r.0) r.1.now) }
 {
     match after_word(bytes, b"PERSIST") {
         Some(rest) => first_persist(rest),
@@ -162,7 +162,7 @@ fn persist_or_assert(bytes: &[u8]) -> Option<(Usual, &[u8])>
 /// The line that comes first, if it is STORE, FLUSH, FENCE, PERSIST or ASSERT in its canonical text, and there are 16
 /// bytes or more for the digits of each number.
 #[inline(always)]
-pub(crate) fn first_line(bytes: &[u8]) -> Option<Line>
+pub(crate) fn first_line(bytes: &[u8]) -> Option<EntryText>
     ensures { IfSome result (λ line. IsFirstLine bytes.now line) }
 {
     let (usual, rest) = first_entry(bytes)?;
@@ -171,5 +171,5 @@ pub(crate) fn first_line(bytes: &[u8]) -> Option<Line>
     if len > 256 {
         return None;
     }
-    Some(Line { usual, len })
+    Some(EntryText { usual, len })
 }

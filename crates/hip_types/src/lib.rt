@@ -1,4 +1,5 @@
-//! Lists, the types of numbers, and the types of values with their layout.
+//! Base types: lists, boxes, widths of numbers, types and their layout, fixed limits and addresses; picks of crash
+//! images, and why a pick is refused.
 #![tactic(auto)]
 
 mod areas;
@@ -7,6 +8,8 @@ mod limits;
 mod link;
 mod memory;
 mod number;
+mod pick;
+mod pick_limits;
 mod row;
 mod text;
 mod ty;
@@ -20,6 +23,8 @@ pub use limits::{
 pub use link::Link;
 pub use memory::NoMemory;
 pub use number::{BinaryOp, Bits, CastOp, Pred, Scalar, Width};
+pub use pick::{Bounds, Pick, PickRefusal};
+pub use pick_limits::MOST_PICKS;
 pub use row::{Name, Row};
 pub use text::Text;
 pub use ty::{Ty, copy_ty, same_ty};

@@ -1,1 +1,3 @@
-pub mod Checks
+pub mod Laws
+pub mod Seen
+pub mod Verified

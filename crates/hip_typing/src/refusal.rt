@@ -1,8 +1,9 @@
 ghost use Rattle.std.specs.Prelude.{◌≡◌};
-ghost use Rattle.hip_typing.specs.Checks.{refusal_of, refusal_on_paths};
+ghost use Rattle.hip_typing.specs.Verified.{refusal_of, refusal_on_paths};
 ghost use Rattle.hip_sound.specs.Refusals.{fault_of};
 
-use hip_checks::{NotAssigned, Refused};
+use crate::assigned::NotAssigned;
+use crate::refused::Refused;
 use hip_sound::{Fault, Place, TypeFault, TypeRefusal};
 
 fn fault_of(fault: Fault) -> TypeFault
@@ -20,7 +21,7 @@ fn fault_of(fault: Fault) -> TypeFault
     }
 }
 
-/// The refusal of a program for a check that stopped. Out of memory has no place of its own.
+/// The refusal of a program for a verification that stopped. Out of memory has no place of its own.
 pub fn refusal_of(refused: Refused) -> TypeRefusal
     ensures { result ≡ refusal_of refused }
 {

@@ -1,9 +1,17 @@
-//! Repairs whose clones do not flush the stores that never lie in the region, and the calls that find those stores.
+//! Levels of pointers, which bound the addresses that they hold; the low stores, which by these levels never lie in the
+//! region; and thin repairs, whose clones do not flush them.
 #![tactic(auto)]
 
-mod repairing;
+mod constants;
+mod level_laws;
+mod low_stores;
+mod numbered;
+mod propagation;
+mod rule_walk;
+mod table;
+mod thin;
+mod variables;
 
-pub use hip_levels::{
-    direct_stores_are_low, least_levels_are_least, low_stores_are_quiet, quiet_stores,
-};
-pub use repairing::{QuietRepair, apply_quiet, quiet_repair};
+pub use level_laws::{direct_stores_are_low, least_levels_are_least, low_stores_stay_outside};
+pub use low_stores::quiet_stores;
+pub use thin::{ThinRepair, apply_quiet, thin_repair};

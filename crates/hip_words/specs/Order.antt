@@ -5,8 +5,8 @@ use Rattle.std.specs.Str.{bytes_eq}
 use Rattle.clap.specs.Words.{App, Row, Text, all_of, first_of}
 use Rattle.hip_gen.specs.declared.limits.TheConstants.{LARGEST_SIZE, SEED_END}
 use Rattle.hip_globals.specs.Addresses.{is_base}
-use Rattle.hip_picks.specs.declared.limits.TheConstants.{MOST_PICKS}
-use Rattle.hip_picks.specs.declared.pick.Pick.{Pick}
+use Rattle.hip_types.specs.declared.pick_limits.TheConstants.{MOST_PICKS}
+use Rattle.hip_types.specs.declared.pick.Pick.{Pick}
 use Rattle.hip_runs.specs.declared.limits.TheConstants.{MOST_NUMBERS, MOST_TURNS}
 use Rattle.hip_words.specs.declared.limits.TheConstants.{MOST_TRACES}
 use Rattle.hip_words.specs.Commands.{crash_app, demo_app, files_app, many_app, reads, record_app, run_app}

@@ -11,9 +11,10 @@ mod readers;
 mod refusal;
 mod words;
 
-pub use hip_picks::Pick;
+pub use hip_types::Pick;
 pub use laws::{
-    demos_are_valid, files_are_plain, records_are_valid, runs_are_plain, runs_are_valid,
+    crashes_are_plain, demos_are_plain, demos_are_valid, files_are_plain, many_are_plain,
+    records_are_plain, records_are_valid, runs_are_plain, runs_are_valid,
 };
 pub use limits::MOST_TRACES;
 pub use order::Order;

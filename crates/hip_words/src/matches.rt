@@ -11,9 +11,8 @@ use crate::pick::pick_of;
 use crate::refusal::WordsRefusal;
 use clap::error::ErrorKind;
 use clap::{ArgMatches, Command};
-use hip_picks::{MOST_PICKS, Pick};
 use hip_runs::MOST_NUMBERS;
-use hip_types::{Row, Text};
+use hip_types::{MOST_PICKS, Pick, Row, Text};
 use std::alloc::Global;
 
 /// The matches of the words, of which the first is the command's.

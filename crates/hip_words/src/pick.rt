@@ -3,7 +3,7 @@ ghost use Rattle.std.specs.Prelude.{◌≡◌};
 ghost use Rattle.hip_words.specs.Order.{pick_of};
 
 use hip_num::read_decimal;
-use hip_picks::Pick;
+use hip_types::Pick;
 
 /// `LINE:UPTO`
 pub fn pick_of(text: &str) -> Option<Pick>

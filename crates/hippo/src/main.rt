@@ -1,8 +1,9 @@
 //! `hippo`: repairs durability bugs in programs that use persistent memory.
 #![tactic(auto)]
 
-use hip_files::{FileCabinet, Stream};
-use hip_tool::{Status, hippo};
+use hip_files::HostFiles;
+use hip_process::process;
+use hip_tool::Status;
 use std::io::{ErrorKind, IsTerminal};
 use std::process::ExitCode;
 use std::{env, io};
@@ -28,16 +29,15 @@ fn main(rt: HostRuntime) -> ExitCode {
         Ok(words) => words,
         Err(_) => return ExitCode::from(Status::NoMemory.code()),
     };
-    let mut cabinet = FileCabinet::new(&rt);
     let lines = rt.stdout().is_terminal();
-    let mut out = Stream::new(rt.alloc(), rt.stdout(), lines);
-    let mut notes = Stream::new(rt.alloc(), rt.stderr(), true);
-    let status = hippo(
+    let files = HostFiles::new(&rt);
+    let ended = process(
         rt.alloc(),
         words.as_slice(),
-        &mut cabinet,
-        &mut out,
-        &mut notes,
+        files,
+        rt.stdout(),
+        rt.stderr(),
+        lines,
     );
-    ExitCode::from(status.code())
+    ExitCode::from(ended.status.code())
 }

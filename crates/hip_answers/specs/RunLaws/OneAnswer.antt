@@ -12,7 +12,7 @@ use Rattle.hip_io.specs.declared.cabinet.NamedFile.{NamedFile}
 use Rattle.hip_tree.specs.declared.program.Program.{Program}
 use Rattle.hip_program_files.specs.Laws.OneAnswer.{loads_one}
 use Rattle.hip_program_files.specs.Laws.{LoadsOne}
-use Rattle.hip_program_files.specs.Loading.{HasNoProgram, IsProgramOf}
+use Rattle.hip_program_files.specs.LoadedPrograms.{HasNoProgram, IsCurrent, IsProgramOf}
 use Rattle.hip_program_files.specs.declared.refusal.LoadRefusal.{LoadRefusal}
 use Rattle.hip_program_files.specs.declared.refusal.LoadRefusal.TheVariants as loads
 use Rattle.hip_answers.specs.RunAnswers.{TraceAnswers}
@@ -171,11 +171,11 @@ module _ {files : List NamedFile} (old new : CabinetState) {p : List ℕ} {P : P
   -- Another file than the program's is current, so the program was read.
   pub reads_program : {t : List ℕ} (a : Answer) → new.name ≡ Some t → p ≢ t → absent.IsUnread old new p a
       → ⊥
-  reads_program {t} a named apart u = go u.current
+  reads_program {t} a named apart u = go u.failed.unread
     where
-      go : (new.is_current ≡ false) ⊎ IfSome new.name (λ name. name ≡ p) → ⊥
+      go : (new.is_current ≡ false) ⊎ IsCurrent p new → ⊥
       go (inl e) = not_current new current e
-      go (inr e) = apart (sym (subst (λ (n : Option (List ℕ)). IfSome n (λ name. name ≡ p)) named e))
+      go (inr e) = apart (sym (subst (λ (n : Option (List ℕ)). IfSome n (λ name. name ≡ p)) named e.named))
 
   -- A trace that could not be read to its end shows no misfit.
   pub shows_none : (t : List ℕ) (Q : Program) → IsProgramOf old.files p Q → FailsToRead old.files t Q new

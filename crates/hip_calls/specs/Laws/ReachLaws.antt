@@ -18,7 +18,7 @@ use Rattle.hip_tree.specs.declared.program.Function.{Function}
 use Rattle.hip_tree.specs.declared.program.Program.{Program}
 use Rattle.hip_tree.specs.declared.site.Site.{Site}
 use Rattle.hip_types.specs.declared.number.Scalar.{Scalar}
-use Rattle.hip_sound.specs.Numbering.{function_number, name_in}
+use Rattle.hip_sound.specs.NumberedNames.{function_number, name_in}
 use Rattle.hip_sound.specs.Laws.NumberingLaws.{function_number-there, function_number-within}
 use Rattle.hip_calls.specs.Fresh.{name_of}
 use Rattle.hip_calls.specs.Reach.{called_by, called_in, called_from, called_at, extended, reached, callees}

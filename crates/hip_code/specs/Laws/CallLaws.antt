@@ -17,10 +17,10 @@ use Rattle.hip_runs.specs.declared.limits.TheConstants.{MOST_FRAMES}
 use Rattle.hip_runs.specs.Actions.{Calls, Traps, bound_call, call_action, entered, instr_action, is_flush_or_fence, numbered_call}
 use Rattle.hip_runs.specs.Operands.{value_of, values_of}
 use Rattle.hip_runs.specs.State.{Registers}
-use Rattle.hip_code.specs.Edges.{IsCall}
+use Rattle.hip_code.specs.Edges.{IsOpCall}
 use Rattle.hip_code.specs.Frames.{names_at}
 use Rattle.hip_code.specs.Named.{IsCallWith, NamesOperands, names_operands, passes_or_effects, says_of}
-use Rattle.hip_code.specs.Numbers.{Numbers, Tables, entries_of}
+use Rattle.hip_code.specs.Numbers.{OpNumbers, Tables, entries_of}
 use Rattle.hip_code.specs.Resolved.{Resolves, numbers_at}
 use Rattle.hip_code.specs.Laws.MoveLaws.{arguments_are, arguments_move, arguments_pass}
 use Rattle.hip_code.specs.Laws.Operands.{result_is}
@@ -31,7 +31,7 @@ use Rattle.hip_code.specs.declared.op.Op.TheVariants as ops
 module _ (P : Program) (I : Input) (f : ℕ) (tables : Tables) where
   pub resolves_call : (dest : Option (List ℕ)) (ret : Option Scalar) (callee : List ℕ) (args : List Arg)
       (call : Call)
-      → call_of callee ≡ None → IsCall P I f tables call callee args dest →
+      → call_of callee ≡ None → IsOpCall P I f tables call callee args dest →
       Resolves P I f tables (ops.Control (controls.Call call)) (instrs.Call dest ret callee args)
   unfolding instr_action entered
   resolves_call dest ret callee args call defined c = record {
@@ -90,7 +90,7 @@ module _ (P : Program) (I : Input) (f : ℕ) (tables : Tables) where
   }
 
   -- A call that keeps another number of slots of its caller has the same operands.
-  names_kept : (call : Call) (frame : ℕ) (n : Numbers) (rs : Registers) (i : Instr)
+  names_kept : (call : Call) (frame : ℕ) (n : OpNumbers) (rs : Registers) (i : Instr)
       → NamesOperands P I n rs (ops.Control (controls.Call call)) i
       → NamesOperands P I n rs (ops.Control (controls.Call (record call { frame = frame }))) i
   names_kept call frame n rs i h = record { is = at i h.is; pointed = says i h.pointed }

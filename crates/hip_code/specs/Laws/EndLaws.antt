@@ -19,14 +19,14 @@ use Rattle.hip_code.specs.Ops.{CasesWithin, EdgeWithin, GoWithin, case_edge, edg
 use Rattle.hip_code.specs.Resolved.{IsOperandIn, Acting, EdgePlaced, EndResolves, GoPlaced, KnowsPhis, numbers_at}
 use Rattle.hip_code.specs.Laws.MoveLaws.{phis_are, phis_move}
 use Rattle.hip_code.specs.Laws.Operands.{operand_same}
-use Rattle.hip_code.specs.declared.op.Case.{Case}
+use Rattle.hip_code.specs.declared.op.EdgeCase.{EdgeCase}
 use Rattle.hip_code.specs.declared.op.Control.TheVariants as controls
-use Rattle.hip_code.specs.declared.op.Edge.{Edge}
+use Rattle.hip_code.specs.declared.op.OpEdge.{OpEdge}
 use Rattle.hip_code.specs.declared.op.Exit.TheVariants as exits
 use Rattle.hip_code.specs.declared.op.Go.{Go}
 use Rattle.hip_code.specs.declared.op.Go.TheVariants as goes
 use Rattle.hip_code.specs.declared.op.Op.TheVariants as ops
-use Rattle.hip_code.specs.declared.op.Operand.{Operand}
+use Rattle.hip_code.specs.declared.op.OpOperand.{OpOperand}
 use Rattle.hip_code.specs.declared.op.Span.{Span}
 
 module _ (P : Program) (I : Input) (f b : ℕ) (tables : Tables) where
@@ -50,7 +50,7 @@ module _ (P : Program) (I : Input) (f b : ℕ) (tables : Tables) where
       → GoPlaced P f (numbers_at tables slots base) number
   edge_placed slots base rs number label h e = record { placed = there }
     where
-      there : (x : Edge) → slice_get tables.edges number ≡ Some x → EdgePlaced P f tables.moves x
+      there : (x : OpEdge) → slice_get tables.edges number ≡ Some x → EdgePlaced P f tables.moves x
       there x q =
           let same : e.edge ≡ x = (let t : Some e.edge ≡ Some x = sym e.here ∙ q in cc) in
           let m =
@@ -107,7 +107,7 @@ module _ (P : Program) (I : Input) (f b : ℕ) (tables : Tables) where
   chosen true one other first second p q = p
   chosen false one other first second p q = q
 
-  pub resolves_cond : (t : Operand) (x : named.Operand) (one other : ℕ) (first second : List ℕ)
+  pub resolves_cond : (t : OpOperand) (x : named.Operand) (one other : ℕ) (first second : List ℕ)
       → IsOperandIn P I.base f tables t x
       → IsEdge P I f b tables one first → IsEdge P I f b tables other second →
       EndResolves P I f b tables (ops.Control (controls.Go (goes.Cond t one other))) (ends.CondBr x first second)
@@ -126,7 +126,7 @@ module _ (P : Program) (I : Input) (f b : ℕ) (tables : Tables) where
         (sym test.same) (chosen (nat_eq v 1) one other first second p q));
   }
 
-  cases_within : (slots : List ℕ) (base : ℕ) (rs : Registers) (cs : List Case) (ds : List named_case.Case)
+  cases_within : (slots : List ℕ) (base : ℕ) (rs : Registers) (cs : List EdgeCase) (ds : List named_case.Case)
       → HoldsFrame names slots base rs → AreCases P I f b tables cs ds
       → CasesWithin (numbers_at tables slots base) cs
   cases_within slots base rs cs ds h a = record {
@@ -134,7 +134,7 @@ module _ (P : Program) (I : Input) (f b : ℕ) (tables : Tables) where
     at = λ k c e. let edge = a.each k c e in edge_within slots base rs c.edge edge.0 h edge.1;
   }
 
-  pub resolves_switch : (width : Width) (t : Operand) (x : named.Operand) (cases : Span) (ds : List named_case.Case)
+  pub resolves_switch : (width : Width) (t : OpOperand) (x : named.Operand) (cases : Span) (ds : List named_case.Case)
       (other : ℕ) (label : List ℕ) →
       IsOperandIn P I.base f tables t x → HasSpan cases tables.cases
       → AreCases P I f b tables (entries_of cases tables.cases) ds
@@ -158,7 +158,7 @@ module _ (P : Program) (I : Input) (f b : ℕ) (tables : Tables) where
 
   -- ---- returns
 
-  pub resolves_return : (ty : Scalar) (a : Operand) (x : named.Operand) → IsOperandIn P I.base f tables a x
+  pub resolves_return : (ty : Scalar) (a : OpOperand) (x : named.Operand) → IsOperandIn P I.base f tables a x
       → EndResolves P I f b tables (ops.Control (controls.Exit (exits.Value a)))
       (ends.Ret (Some (record { ty = ty; value = x })))
   unfolding end_action

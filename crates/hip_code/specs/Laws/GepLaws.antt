@@ -2,7 +2,7 @@
 use Rattle.std.specs.Prelude.{ℕ, ◌+◌, ◌*◌, ◌%◌, ◌^◌, ◌≡◌, Bool, List, [], ◌∷◌, Some, Ok, option_map, option_and_then, unwrap_or, slice_get}
 use Rattle.std.proofs.Common.{refl, sym, ap, ap₂, ◌∙◌, subst, arith, inl, inr, zero, suc, add-zero}
 use Rattle.std.proofs.Math.Nat.{add-mod-mod, mod-add-mod, mul_comm}
-use Rattle.hip_types.specs.Layout.{Part, enter, enter_level, further, part_at, gep_of, size_of}
+use Rattle.hip_types.specs.Layout.{TypePart, enter, enter_level, further, part_at, gep_of, size_of}
 use Rattle.hip_types.specs.declared.number.Width.{Width}
 use Rattle.hip_types.specs.declared.ty.Ty.{Ty}
 use Rattle.hip_tree.specs.declared.instr.Arg.{Arg}
@@ -19,21 +19,21 @@ use Rattle.hip_runs.specs.Operands.{value_of}
 use Rattle.hip_types.specs.Scalars.{width_of}
 use Rattle.hip_runs.specs.State.{Registers}
 use Rattle.hip_code.specs.Frames.{are_known, HoldsFrame, names_at}
-use Rattle.hip_code.specs.Numbers.{Numbers, Tables, operand_value, is_within, entries_of, HasSpan}
+use Rattle.hip_code.specs.Numbers.{OpNumbers, Tables, operand_value, is_within, entries_of, HasSpan}
 use Rattle.hip_code.specs.Paths.{IsFixed, IsScaled, is_path, is_gep, IsGep}
 use Rattle.hip_code.specs.Resolved.{IsOperandIn, Resolves, numbers_at}
 use Rattle.hip_code.specs.Values.{extended, term_value, sum_of, TermsWithin}
 use Rattle.hip_code.specs.Laws.Operands.{operand_same, operand_within, gives}
 use Rattle.hip_code.specs.declared.op.Gep.TheVariants as geps
 use Rattle.hip_code.specs.declared.op.Op.TheVariants as ops
-use Rattle.hip_code.specs.declared.op.Operand.{Operand}
+use Rattle.hip_code.specs.declared.op.OpOperand.{OpOperand}
 use Rattle.hip_code.specs.declared.op.Span.{Span}
 use Rattle.hip_code.specs.declared.op.Term.{Term}
 use Rattle.hip_code.specs.declared.op.Value.TheVariants as values
 
 -- If what a term names is there, and also what each term after it names, then what each term of the list names is
 -- there.
-terms_more : (n : Numbers) (t : Term) (ts : List Term) → is_within n t.index → TermsWithin n ts
+terms_more : (n : OpNumbers) (t : Term) (ts : List Term) → is_within n t.index → TermsWithin n ts
     → TermsWithin n (t ∷ ts)
 terms_more n t ts h r = record { at = go }
   where
@@ -42,13 +42,13 @@ terms_more n t ts h r = record { at = go }
     go (suc k) x e = r.at k x e
 
 -- These indices lead into the type, by the offset plus the sum of the terms.
-pub record Comes (n : Numbers) (t : Ty) (indices : List ℕ) (offset : ℕ) (terms : List Term) : Type 0 where
-  pub part : Part
+pub record Comes (n : OpNumbers) (t : Ty) (indices : List ℕ) (offset : ℕ) (terms : List Term) : Type 0 where
+  pub part : TypePart
   pub there : part_at indices t ≡ Some part
   pub offset_is : part.offset ≡ offset + sum_of n terms
   pub within : TermsWithin n terms
 
-module _ (globals : List GlobalVar) (region : ℕ) (names : List (List ℕ)) (n : Numbers) (rs : Registers)
+module _ (globals : List GlobalVar) (region : ℕ) (names : List (List ℕ)) (n : OpNumbers) (rs : Registers)
     (h : HoldsFrame names n.slots n.base rs) where
   -- The values of these indices, each sign-extended to 64 bits.
   abbrev indices_of : List Arg → List ℕ
@@ -163,7 +163,7 @@ module _ (P : Program) (I : Input) (f : ℕ) (tables : Tables) where
   names_here = names_at P f
 
   -- An op with an offset alone resolves a `getelementptr` whose indices are all constants.
-  pub resolves_fixed : (name : List ℕ) (dest : ℕ) (base : Operand) (x : named.Operand) (ty : Ty) (args : List Arg)
+  pub resolves_fixed : (name : List ℕ) (dest : ℕ) (base : OpOperand) (x : named.Operand) (ty : Ty) (args : List Arg)
       (inbounds : Bool) (offset whole : ℕ) →
       number_of names_here name ≡ Some dest → IsOperandIn P I.base f tables base x
       → IsGep P.globals I.base names_here tables.constants ty args whole [] → offset ≡ whole % 2 ^ 64 →
@@ -185,7 +185,7 @@ module _ (P : Program) (I : Input) (f : ℕ) (tables : Tables) where
   }
 
   -- An op with one scaled index resolves a `getelementptr` that has exactly one index that is not a constant.
-  pub resolves_scaled : (name : List ℕ) (dest : ℕ) (base : Operand) (x : named.Operand) (ty : Ty) (args : List Arg)
+  pub resolves_scaled : (name : List ℕ) (dest : ℕ) (base : OpOperand) (x : named.Operand) (ty : Ty) (args : List Arg)
       (inbounds : Bool) (offset whole : ℕ) (term : Term) →
       number_of names_here name ≡ Some dest → IsOperandIn P I.base f tables base x
       → IsGep P.globals I.base names_here tables.constants ty args whole (term ∷ [])
@@ -209,7 +209,7 @@ module _ (P : Program) (I : Input) (f : ℕ) (tables : Tables) where
   }
 
   -- An op with terms in the table resolves a `getelementptr` with any indices.
-  pub resolves_terms : (name : List ℕ) (dest : ℕ) (base : Operand) (x : named.Operand) (ty : Ty) (args : List Arg)
+  pub resolves_terms : (name : List ℕ) (dest : ℕ) (base : OpOperand) (x : named.Operand) (ty : Ty) (args : List Arg)
       (inbounds : Bool) (offset whole : ℕ) (span : Span) →
       number_of names_here name ≡ Some dest → IsOperandIn P I.base f tables base x → HasSpan span tables.terms →
       IsGep P.globals I.base names_here tables.constants ty args whole (entries_of span tables.terms)

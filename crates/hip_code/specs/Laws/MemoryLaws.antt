@@ -30,7 +30,7 @@ use Rattle.hip_runs.specs.State.{Registers, World}
 use Rattle.hip_code.specs.Calls.{extern_op, are_taken, are_passed, line_op}
 use Rattle.hip_code.specs.Frames.{are_known, HoldsFrame, names_at}
 use Rattle.hip_code.specs.Named.{passes_or_effects}
-use Rattle.hip_code.specs.Numbers.{Numbers, Tables}
+use Rattle.hip_code.specs.Numbers.{OpNumbers, Tables}
 use Rattle.hip_code.specs.Ops.{IsSize, EffectWithin, effect_action, op_turn, PersistenceWithin, persistence_action}
 use Rattle.hip_code.specs.Resolved.{IsOperandIn, is_result, effect_placed, Resolves, numbers_at}
 use Rattle.hip_code.specs.Laws.Operands.{operand_same, result_is}
@@ -38,7 +38,7 @@ use Rattle.hip_code.specs.Laws.Slots.{slot_within, name_there, name_placed}
 use Rattle.hip_code.specs.declared.op.Effect.TheVariants as effects
 use Rattle.hip_code.specs.declared.op.Memory.TheVariants as memories
 use Rattle.hip_code.specs.declared.op.Op.TheVariants as ops
-use Rattle.hip_code.specs.declared.op.Operand.{Operand}
+use Rattle.hip_code.specs.declared.op.OpOperand.{OpOperand}
 
 size_is : (s : Scalar) → widths.bytes_of (width_of s) ≡ scalar_size s
 size_is scalars.Ptr = refl
@@ -57,7 +57,7 @@ module _ (P : Program) (I : Input) (f : ℕ) (tables : Tables) where
   abbrev names : List (List ℕ)
   names = names_at P f
 
-  pub resolves_load : (name : List ℕ) (dest : ℕ) (ty : Scalar) (align : Option ℕ) (a : Operand)
+  pub resolves_load : (name : List ℕ) (dest : ℕ) (ty : Scalar) (align : Option ℕ) (a : OpOperand)
       (x : named.Operand) →
       0 < access_align ty align → number_of names name ≡ Some dest → IsOperandIn P I.base f tables a x →
       Resolves P I f tables (ops.Memory (memories.Load dest (width_of ty) (access_align ty align) a))
@@ -81,7 +81,7 @@ module _ (P : Program) (I : Input) (f : ℕ) (tables : Tables) where
     names = λ slots base rs h k. record { is = tt; pointed = tt };
   }
 
-  pub resolves_store : (ty : Scalar) (align : Option ℕ) (v a : Operand) (x y : named.Operand) →
+  pub resolves_store : (ty : Scalar) (align : Option ℕ) (v a : OpOperand) (x y : named.Operand) →
       0 < access_align ty align → IsOperandIn P I.base f tables v x → IsOperandIn P I.base f tables a y →
       Resolves P I f tables (ops.Memory (memories.Store (scalar_size ty) (access_align ty align) v a))
       (instrs.Store ty x y align)
@@ -137,7 +137,7 @@ module _ (P : Program) (I : Input) (f : ℕ) (tables : Tables) where
 
   -- The op for a function with this effect on cache lines does what a call of the function does with these arguments,
   -- and its operands are there.
-  record Lines (w : World) (n : Numbers) (rs : Registers) (effect : LineEffect) (params : List Scalar) (a b : Operand)
+  record Lines (w : World) (n : OpNumbers) (rs : Registers) (effect : LineEffect) (params : List Scalar) (a b : OpOperand)
       (args : List Arg) : Type 0 where
     within : PersistenceWithin n (line_op effect params a b)
     acts : persistence_action P I w n (line_op effect params a b)
@@ -145,7 +145,7 @@ module _ (P : Program) (I : Input) (f : ℕ) (tables : Tables) where
         (flushed_size params (values_of P.globals I.base rs args))
 
   lines_of : (w : World) (slots : List ℕ) (base : ℕ) (rs : Registers) (effect : LineEffect) (params : List Scalar)
-      (a b : Operand) (args : List Arg) → HoldsFrame names slots base rs → are_known rs (arg_uses args)
+      (a b : OpOperand) (args : List Arg) → HoldsFrame names slots base rs → are_known rs (arg_uses args)
       → are_passed P.globals I.base names tables.constants params args a b → has_op effect params ≡ true →
       Lines w (numbers_at tables slots base) rs effect params a b args
   lines_of w slots base rs lines.Fence params a b args h k t some = record { within = tt; acts = refl }
@@ -172,7 +172,7 @@ module _ (P : Program) (I : Input) (f : ℕ) (tables : Tables) where
 
   -- The op for an external function does what a call of the function does with these arguments: what it reads and
   -- writes is there, its result goes to a register's slot or nowhere, and it is a turn unless it is a flush or a fence.
-  record Effects (w : World) (n : Numbers) (rs : Registers) (c : ExternCall) (slot : Option ℕ) (a b : Operand)
+  record Effects (w : World) (n : OpNumbers) (rs : Registers) (c : ExternCall) (slot : Option ℕ) (a b : OpOperand)
       (args : List Arg) (dest : Option (List ℕ)) : Type 0 where
     within : EffectWithin n (extern_op c slot a b)
     placed : effect_placed names (extern_op c slot a b)
@@ -181,7 +181,7 @@ module _ (P : Program) (I : Input) (f : ℕ) (tables : Tables) where
         ≡ extern_action P I w c (values_of P.globals I.base rs args) dest
 
   effects_of : (w : World) (slots : List ℕ) (base : ℕ) (rs : Registers) (c : ExternCall) (slot : Option ℕ)
-      (a b : Operand) (args : List Arg) (dest : Option (List ℕ)) →
+      (a b : OpOperand) (args : List Arg) (dest : Option (List ℕ)) →
       HoldsFrame names slots base rs → are_known rs (arg_uses args) → is_result names slot dest
       → are_taken P.globals I.base names tables.constants c args a b →
       Effects w (numbers_at tables slots base) rs c slot a b args dest
@@ -209,7 +209,7 @@ module _ (P : Program) (I : Input) (f : ℕ) (tables : Tables) where
 
   -- A call of an external function.
   pub resolves_extern : (dest : Option (List ℕ)) (slot : Option ℕ) (ret : Option Scalar) (callee : List ℕ)
-      (args : List Arg) (c : ExternCall) (a b : Operand) →
+      (args : List Arg) (c : ExternCall) (a b : OpOperand) →
       call_of callee ≡ Some c → is_result names slot dest
       → are_taken P.globals I.base names tables.constants c args a b
       →

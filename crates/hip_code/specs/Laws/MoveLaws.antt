@@ -15,7 +15,7 @@ use Rattle.hip_runs.specs.Operands.{bound, value_of, values_of}
 use Rattle.hip_runs.specs.State.{Registers}
 use Rattle.hip_code.specs.Frames.{are_known, IsKnown, HoldsFrame}
 use Rattle.hip_code.specs.Moves.{name_at, moved, put, AreRead, AreWritten}
-use Rattle.hip_code.specs.Numbers.{Numbers, operand_value, is_within}
+use Rattle.hip_code.specs.Numbers.{OpNumbers, operand_value, is_within}
 use Rattle.hip_code.specs.Resolved.{IsSlot, MovesPlaced}
 use Rattle.hip_code.specs.Edges.{edge_from, are_moves, are_arguments}
 use Rattle.hip_code.specs.Laws.Operands.{operand_same, operand_within}
@@ -24,10 +24,10 @@ use Rattle.hip_code.specs.declared.op.Move.{Move}
 
 -- ---- what holds of each move
 
-read_none : (n : Numbers) → AreRead n []
+read_none : (n : OpNumbers) → AreRead n []
 read_none n = record { at = λ k m e. absurd (let z : ⊥ = cc in z) }
 
-read_more : (n : Numbers) (m : Move) (ms : List Move) → is_within n m.value → AreRead n ms → AreRead n (m ∷ ms)
+read_more : (n : OpNumbers) (m : Move) (ms : List Move) → is_within n m.value → AreRead n ms → AreRead n (m ∷ ms)
 read_more n m ms h r = record { at = go }
   where
     go : (k : ℕ) (x : Move) → slice_get (m ∷ ms) k ≡ Some x → is_within n x.value
@@ -57,15 +57,15 @@ placed_more names m ms h r = record { at = go }
     go (suc k) x e = r.at k x e
 
 -- Moves read numbers that are there, and write slots of registers that are there.
-pub record MovesAre (n : Numbers) (base size : ℕ) (names : List (List ℕ)) (ms : List Move) : Type 0 where
+pub record MovesAre (n : OpNumbers) (base size : ℕ) (names : List (List ℕ)) (ms : List Move) : Type 0 where
   pub read : AreRead n ms
   pub written : AreWritten base size ms
   pub placed : MovesPlaced names ms
 
-none_are : (n : Numbers) (base size : ℕ) (names : List (List ℕ)) → MovesAre n base size names []
+none_are : (n : OpNumbers) (base size : ℕ) (names : List (List ℕ)) → MovesAre n base size names []
 none_are n base size names = record { read = read_none n; written = written_none base size; placed = placed_none names }
 
-more_are : (n : Numbers) (base size : ℕ) (names : List (List ℕ)) (m : Move) (ms : List Move) → is_within n m.value
+more_are : (n : OpNumbers) (base size : ℕ) (names : List (List ℕ)) (m : Move) (ms : List Move) → is_within n m.value
     → base + m.dest < size → IsSlot names m.dest → MovesAre n base size names ms
     → MovesAre n base size names (m ∷ ms)
 more_are n base size names m ms r w p rest =
@@ -76,7 +76,7 @@ more_are n base size names m ms r w p rest =
     }
 
 -- The slots from a base on hold the registers after moves.
-pub holds_moved : (n : Numbers) (base : ℕ) (names : List (List ℕ)) (slots : List ℕ) (rs : Registers)
+pub holds_moved : (n : OpNumbers) (base : ℕ) (names : List (List ℕ)) (slots : List ℕ) (rs : Registers)
     (ms : List Move)
     → MovesPlaced names ms → HoldsFrame names slots base rs →
     HoldsFrame names (put n base ms slots) base (moved names n ms rs)
@@ -117,7 +117,7 @@ known_edge rs from (d ∷ es) x all e =
         let same : d.value ≡ x = cc in subst (IsKnown rs) same (all 0 d refl ((bytes_eq-Decides d.label from).0 t))
     go false t q later = later q
 
-module _ (globals : List GlobalVar) (region : ℕ) (names : List (List ℕ)) (n : Numbers) (rs : Registers)
+module _ (globals : List GlobalVar) (region : ℕ) (names : List (List ℕ)) (n : OpNumbers) (rs : Registers)
     (h : HoldsFrame names n.slots n.base rs) (from : List ℕ) where
   -- The moves of an edge read and write what is there.
   pub phis_are : (ms : List Move) (ps : List Phi) → are_moves globals region names n.tables.constants from ms ps
@@ -150,7 +150,7 @@ module _ (globals : List GlobalVar) (region : ℕ) (names : List (List ℕ)) (n 
 
 -- ---- arguments
 
-module _ (globals : List GlobalVar) (region : ℕ) (names called : List (List ℕ)) (n : Numbers) (rs : Registers)
+module _ (globals : List GlobalVar) (region : ℕ) (names called : List (List ℕ)) (n : OpNumbers) (rs : Registers)
     (h : HoldsFrame names n.slots n.base rs) where
   pub arguments_are : (size : ℕ) (ms : List Move) (ps : List Param) (args : List Arg) → size ≡ length called
       → are_arguments globals region names called n.tables.constants ms ps args → MovesAre n 0 size called ms

@@ -12,19 +12,19 @@ use Rattle.hip_runs.specs.declared.input.Input.{Input}
 use Rattle.hip_runs.specs.Operands.{value_of}
 use Rattle.hip_runs.specs.State.{Registers, World}
 use Rattle.hip_code.specs.Frames.{IsKnown, HoldsFrame, names_at}
-use Rattle.hip_code.specs.Numbers.{Numbers, operand_value, is_within}
+use Rattle.hip_code.specs.Numbers.{OpNumbers, operand_value, is_within}
 use Rattle.hip_code.specs.Ops.{gave, result_name, HasResult}
 use Rattle.hip_code.specs.Resolved.{IsOperand, is_result, result_placed, Acting}
 use Rattle.hip_code.specs.Values.{value_result, ReadsWithin}
 use Rattle.hip_code.specs.Laws.Slots.{slot_within, name_there, name_placed}
 use Rattle.hip_code.specs.declared.op.Op.TheVariants as ops
-use Rattle.hip_code.specs.declared.op.Operand.{Operand}
-use Rattle.hip_code.specs.declared.op.Operand.TheVariants.{Register, Constant}
+use Rattle.hip_code.specs.declared.op.OpOperand.{OpOperand}
+use Rattle.hip_code.specs.declared.op.OpOperand.TheVariants.{Register, Constant}
 use Rattle.hip_code.specs.declared.op.Value.{Value}
 
 -- What a resolved operand names is there.
-pub operand_within : (globals : List GlobalVar) (region : ℕ) (names : List (List ℕ)) (n : Numbers) (rs : Registers)
-    (o : Operand) (x : named.Operand) →
+pub operand_within : (globals : List GlobalVar) (region : ℕ) (names : List (List ℕ)) (n : OpNumbers) (rs : Registers)
+    (o : OpOperand) (x : named.Operand) →
     IsOperand globals region names n.tables.constants o x → HoldsFrame names n.slots n.base rs → is_within n o
 operand_within globals region names n rs (Register slot) (Reg name) r h =
     omega (arith, h.room, slot_within names name slot r.is)
@@ -34,13 +34,13 @@ operand_within globals region names n rs (Register slot) (Fixed value) r h = abs
 operand_within globals region names n rs (Constant place) (Reg name) r h = absurd r.is
 
 -- What the operand names is there, and this is its value.
-pub record SameValue (n : Numbers) (o : Operand) (v : ℕ) : Type 0 where
+pub record SameValue (n : OpNumbers) (o : OpOperand) (v : ℕ) : Type 0 where
   pub within : is_within n o
   pub same : operand_value n o ≡ v
 
 -- An op's operand has the value of the operand that it resolves.
-pub operand_same : (globals : List GlobalVar) (region : ℕ) (names : List (List ℕ)) (n : Numbers) (rs : Registers)
-    (o : Operand) (x : named.Operand) →
+pub operand_same : (globals : List GlobalVar) (region : ℕ) (names : List (List ℕ)) (n : OpNumbers) (rs : Registers)
+    (o : OpOperand) (x : named.Operand) →
     IsOperand globals region names n.tables.constants o x → HoldsFrame names n.slots n.base rs → IsKnown rs x
     → SameValue n o (value_of globals region rs x)
 operand_same globals region names n rs (Register slot) (Reg name) r h k =
@@ -54,7 +54,7 @@ operand_same globals region names n rs (Register slot) (Fixed value) r h k = abs
 operand_same globals region names n rs (Constant place) (Reg name) r h k = absurd r.is
 
 -- An op gives a result to a register.
-pub gives : (P : Program) (I : Input) (w : World) (below f : ℕ) (n : Numbers) (rs : Registers) (name : List ℕ)
+pub gives : (P : Program) (I : Input) (w : World) (below f : ℕ) (n : OpNumbers) (rs : Registers) (name : List ℕ)
     (dest : ℕ) (value : Value) (r : Result ℕ NumTrap) →
     number_of (names_at P f) name ≡ Some dest → HoldsFrame (names_at P f) n.slots n.base rs → ReadsWithin n value
     → value_result n value ≡ r →
@@ -67,14 +67,14 @@ gives P I w below f n rs name dest value r d h reads e = record {
 }
 
 -- The slot of a result is there and is that of the register of this name, or there is neither slot nor name.
-pub record ResultIs (names : List (List ℕ)) (n : Numbers) (slot : Option ℕ)
+pub record ResultIs (names : List (List ℕ)) (n : OpNumbers) (slot : Option ℕ)
     (name : Option (List ℕ)) : Type 0 where
   pub name_is : result_name names slot ≡ name
   pub placed : result_placed names slot
   pub there : HasResult n slot
 
 -- A result goes to the slot of a register, or nowhere.
-pub result_is : (names : List (List ℕ)) (n : Numbers) (rs : Registers) (slot : Option ℕ) (name : Option (List ℕ))
+pub result_is : (names : List (List ℕ)) (n : OpNumbers) (rs : Registers) (slot : Option ℕ) (name : Option (List ℕ))
     → HoldsFrame names n.slots n.base rs → is_result names slot name → ResultIs names n slot name
 result_is names n rs None None h r = record { name_is = refl; placed = tt; there = tt }
 result_is names n rs (Some slot) (Some name) h r =

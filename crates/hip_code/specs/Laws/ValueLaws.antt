@@ -25,7 +25,7 @@ use Rattle.hip_runs.specs.Actions.{calculated, instr_action, truth, cast_value}
 use Rattle.hip_runs.specs.Operands.{value_of}
 use Rattle.hip_types.specs.Scalars.{width_of}
 use Rattle.hip_code.specs.Frames.{names_at}
-use Rattle.hip_code.specs.Numbers.{Numbers, Tables, operand_value, is_within}
+use Rattle.hip_code.specs.Numbers.{OpNumbers, Tables, operand_value, is_within}
 use Rattle.hip_code.specs.Ops.{gave}
 use Rattle.hip_code.specs.Resolved.{IsOperandIn, Acting, Resolves, numbers_at}
 use Rattle.hip_code.specs.Translated.{compare_op, cast_op}
@@ -34,7 +34,7 @@ use Rattle.hip_code.specs.Laws.Operands.{operand_same, gives}
 use Rattle.hip_code.specs.declared.op.DivisionOp.{DivisionOp}
 use Rattle.hip_code.specs.declared.op.IntegerOp.{IntegerOp}
 use Rattle.hip_code.specs.declared.op.Op.TheVariants as ops
-use Rattle.hip_code.specs.declared.op.Operand.{Operand}
+use Rattle.hip_code.specs.declared.op.OpOperand.{OpOperand}
 use Rattle.hip_code.specs.declared.op.Other.TheVariants as others
 use Rattle.hip_code.specs.declared.op.Rest.TheVariants as rests
 use Rattle.hip_code.specs.declared.op.Value.TheVariants as values
@@ -55,7 +55,7 @@ signed_at_least (pos a) (negsuc b) = refl
 signed_at_least (negsuc a) (pos b) = refl
 signed_at_least (negsuc a) (negsuc b) = at_least b a
 
-compare_gives : (p : Pred) (n : Numbers) (w : Width) (a b : Operand)
+compare_gives : (p : Pred) (n : OpNumbers) (w : Width) (a b : OpOperand)
     → rest_result n (compare_op p w a b) ≡ Ok
     (truth (holds p w (bits w (operand_value n a)).value (bits w (operand_value n b)).value))
 compare_gives preds.Eq n w a b = refl
@@ -75,7 +75,7 @@ compare_gives preds.Sle n w a b =
     ap (λ t. Ok (truth t)) (signed_at_least (signed w (bits w (operand_value n b)).value)
     (signed w (bits w (operand_value n a)).value))
 
-compare_within : (p : Pred) (n : Numbers) (w : Width) (a b : Operand) → is_within n a → is_within n b
+compare_within : (p : Pred) (n : OpNumbers) (w : Width) (a b : OpOperand) → is_within n a → is_within n b
     → RestWithin n (compare_op p w a b)
 compare_within preds.Eq n w a b h k = (h, k)
 compare_within preds.Ne n w a b h k = (h, k)
@@ -103,7 +103,7 @@ wrapped_cut W16 (negsuc n) = omega arith
 wrapped_cut W32 (negsuc n) = omega arith
 wrapped_cut W64 (negsuc n) = refl
 
-cast_gives : (op : CastOp) (n : Numbers) (from to : Scalar) (a : Operand)
+cast_gives : (op : CastOp) (n : OpNumbers) (from to : Scalar) (a : OpOperand)
     → rest_result n (cast_op op (width_of from) (width_of to) a) ≡ Ok (cast_value op from to (operand_value n a))
 cast_gives casts.Sext n from to a =
     ap Ok (wrapped_cut (width_of to) (signed (width_of from) (bits (width_of from) (operand_value n a)).value))
@@ -112,7 +112,7 @@ cast_gives casts.Trunc n from to a = refl
 cast_gives casts.Ptrtoint n from to a = refl
 cast_gives casts.Inttoptr n from to a = refl
 
-cast_within : (op : CastOp) (n : Numbers) (from to : Width) (a : Operand) → is_within n a
+cast_within : (op : CastOp) (n : OpNumbers) (from to : Width) (a : OpOperand) → is_within n a
     → RestWithin n (cast_op op from to a)
 cast_within casts.Sext n from to a h = h
 cast_within casts.Zext n from to a h = h
@@ -128,7 +128,7 @@ module _ (P : Program) (I : Input) (f : ℕ) (tables : Tables) where
   names = names_at P f
 
   pub resolves_binary : (name : List ℕ) (dest : ℕ) (op : IntegerOp) (named_op : BinaryOp) (flags : Flags)
-      (width : Width) (a b : Operand) (x y : named.Operand) →
+      (width : Width) (a b : OpOperand) (x y : named.Operand) →
       operation_of op ≡ named_op → number_of names name ≡ Some dest → IsOperandIn P I.base f tables a x
       → IsOperandIn P I.base f tables b y →
       Resolves P I f tables (ops.Value dest (values.Integer op width a b)) (instrs.Binary name named_op flags width x y)
@@ -147,7 +147,7 @@ module _ (P : Program) (I : Input) (f : ℕ) (tables : Tables) where
   }
 
   pub resolves_division : (name : List ℕ) (dest : ℕ) (op : DivisionOp) (named_op : BinaryOp) (flags : Flags)
-      (width : Width) (a b : Operand) (x y : named.Operand) →
+      (width : Width) (a b : OpOperand) (x y : named.Operand) →
       division_of op ≡ named_op → number_of names name ≡ Some dest → IsOperandIn P I.base f tables a x
       → IsOperandIn P I.base f tables b y →
       Resolves P I f tables (ops.Value dest (values.Rest (rests.Other (others.Divide op width a b))))
@@ -167,7 +167,7 @@ module _ (P : Program) (I : Input) (f : ℕ) (tables : Tables) where
     names = λ slots base rs h k. record { is = tt; pointed = tt };
   }
 
-  pub resolves_compare : (name : List ℕ) (dest : ℕ) (pred : Pred) (ty : Scalar) (a b : Operand)
+  pub resolves_compare : (name : List ℕ) (dest : ℕ) (pred : Pred) (ty : Scalar) (a b : OpOperand)
       (x y : named.Operand) →
       number_of names name ≡ Some dest → IsOperandIn P I.base f tables a x → IsOperandIn P I.base f tables b y →
       Resolves P I f tables (ops.Value dest (values.Rest (compare_op pred (width_of ty) a b)))
@@ -187,7 +187,7 @@ module _ (P : Program) (I : Input) (f : ℕ) (tables : Tables) where
     names = λ slots base rs h k. record { is = tt; pointed = tt };
   }
 
-  pub resolves_select : (name : List ℕ) (dest : ℕ) (ty : Scalar) (t a b : Operand) (z x y : named.Operand) →
+  pub resolves_select : (name : List ℕ) (dest : ℕ) (ty : Scalar) (t a b : OpOperand) (z x y : named.Operand) →
       number_of names name ≡ Some dest → IsOperandIn P I.base f tables t z → IsOperandIn P I.base f tables a x
       → IsOperandIn P I.base f tables b y →
       Resolves P I f tables (ops.Value dest (values.Rest (rests.Other (others.Select t a b))))
@@ -208,7 +208,7 @@ module _ (P : Program) (I : Input) (f : ℕ) (tables : Tables) where
     names = λ slots base rs h k. record { is = tt; pointed = tt };
   }
 
-  pub resolves_cast : (name : List ℕ) (dest : ℕ) (op : CastOp) (from to : Scalar) (a : Operand)
+  pub resolves_cast : (name : List ℕ) (dest : ℕ) (op : CastOp) (from to : Scalar) (a : OpOperand)
       (x : named.Operand) →
       number_of names name ≡ Some dest → IsOperandIn P I.base f tables a x →
       Resolves P I f tables (ops.Value dest (values.Rest (cast_op op (width_of from) (width_of to) a)))

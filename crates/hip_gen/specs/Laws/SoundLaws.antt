@@ -16,7 +16,7 @@ use Rattle.hip_types.specs.declared.number.Width.TheVariants.{W32, W64}
 use Rattle.hip_types.specs.declared.ty.Ty.{Ty}
 use Rattle.hip_types.specs.declared.ty.Ty.TheOpen.{Ty-F}
 use Rattle.hip_types.specs.declared.ty.Ty.TheVariants as types
-use Rattle.hip_grammar.specs.Reading.{Reads}
+use Rattle.hip_grammar.specs.ReadTexts.{Reads}
 use Rattle.hip_tree.specs.Laws.Levels.{out-Ty-Int, out-Ty-Ptr, out-Ty-Array}
 use Rattle.hip_tree.specs.declared.block.Block.{Block}
 use Rattle.hip_tree.specs.declared.constant.Const.{Const}
@@ -33,9 +33,9 @@ use Rattle.hip_names.specs.Names.{is_among, AllDiffer}
 use Rattle.hip_globals.specs.Addresses.{region_size, volatile_end}
 use Rattle.hip_globals.specs.Constants.{types_in}
 use Rattle.hip_sound.specs.Constants.{has_shape, gep_is_sound, names_in}
-use Rattle.hip_sound.specs.Places.{Scope, scope_of, instr_check, end_check}
+use Rattle.hip_sound.specs.Places.{Scope, scope_of, instr_required, end_required}
 use Rattle.hip_sound.specs.Registers.{assigned_by, body_registers, instr_uses, used_registers}
-use Rattle.hip_sound.specs.Rules.{RegisterUse, AllAssigned, UseIsAssigned, use_at, site, declarations, inner_names, global_check, globals_check, sizes_check, inner_names_check, instr_at, block_check, function_check, places_check}
+use Rattle.hip_sound.specs.Rules.{RegisterUse, AllAssigned, UseIsAssigned, use_at, site, declarations, inner_names, global_required, globals_required, sizes_required, inner_names_required, instr_at, block_required, function_required, places_required}
 use Rattle.hip_sound.specs.Sound.{IsSound, UsesAreAssigned, names_in_function}
 use Rattle.hip_sound.specs.declared.point.Point.TheVariants.{Before}
 use Rattle.hip_sound.specs.declared.fault.Place.{Place}
@@ -46,8 +46,8 @@ use Rattle.hip_sound.specs.Laws.Decided.{all-at, each-whole}
 use Rattle.hip_sound.specs.Laws.NameLaws.{inner-whole}
 use Rattle.hip_sound.specs.Laws.SoundExact.{passes-sound}
 use Rattle.hip_sound.specs.Laws.SoundLaws.{externs-exact, block-exact}
-use Rattle.hip_gen.specs.declared.kinds.Kind.{Kind}
-use Rattle.hip_gen.specs.declared.kinds.Kind.TheVariants as kinds
+use Rattle.hip_gen.specs.declared.kinds.GroupKind.{GroupKind}
+use Rattle.hip_gen.specs.declared.kinds.GroupKind.TheVariants as kinds
 use Rattle.hip_gen.specs.declared.limits.TheConstants.{LARGEST_SIZE, VOLATILE_LENGTH}
 use Rattle.hip_gen.specs.Kinds.{kind}
 use Rattle.hip_gen.specs.Generated.{array_of, zeroed_array, element, persistent_element, volatile_element, store, flush, put, group_instrs, instrs_before, define_put, main_block, define_main, program_of, generated_program}
@@ -135,7 +135,7 @@ abbrev arrays : List (List ℕ)
 arrays = codes "data" ∷ codes "temp" ∷ []
 
 -- The address of an element of one of the two arrays.
-record IsElement (c : Const) : Type 0 where
+record IsArrayElement (c : Const) : Type 0 where
   name : List ℕ
   ty : Ty
   named : names_in c ≡ name ∷ []
@@ -160,7 +160,7 @@ element_shape name length index =
     ∙ rw (address_shape name, out-Ty-Array length (types.Int W64)) refl
 
 element_is : (name : List ℕ) (length index : ℕ) → is_among arrays name ≡ true → length ≤ LARGEST_SIZE
-    → IsElement (element name length index)
+    → IsArrayElement (element name length index)
 element_is name length index known small = record {
   name = name;
   ty = array_of length;
@@ -175,7 +175,7 @@ element_is name length index known small = record {
 
 -- What holds of the instructions of each group holds of all instructions.
 all_groups : (Q : Instr → Type 0) (seed size : ℕ)
-    → ((group : ℕ) (k : Kind) → All Q (group_instrs size group k))
+    → ((group : ℕ) (k : GroupKind) → All Q (group_instrs size group k))
     → (n : ℕ) → All Q (instrs_before seed size n)
 all_groups Q seed size h zero = All-nil Q
 all_groups Q seed size h (suc n) =
@@ -184,16 +184,16 @@ all_groups Q seed size h (suc n) =
 
 -- What holds of each store, each flush and each call of `put` holds of the instructions of each group.
 each_group : (Q : Instr → Type 0) (size : ℕ) → size ≤ LARGEST_SIZE
-    → ((c : Const) (value : ℕ) → IsElement c → Q (store c value))
-    → ((c : Const) → IsElement c → Q (flush c))
-    → ((c : Const) (value : ℕ) → IsElement c → Q (put c value))
-    → (group : ℕ) (k : Kind) → All Q (group_instrs size group k)
+    → ((c : Const) (value : ℕ) → IsArrayElement c → Q (store c value))
+    → ((c : Const) → IsArrayElement c → Q (flush c))
+    → ((c : Const) (value : ℕ) → IsArrayElement c → Q (put c value))
+    → (group : ℕ) (k : GroupKind) → All Q (group_instrs size group k)
 each_group Q size small stores flushes puts group k = by_kind k
   where
-    data_is : IsElement (persistent_element size group)
+    data_is : IsArrayElement (persistent_element size group)
     data_is = element_is (codes "data") size group refl small
 
-    temp_is : IsElement (volatile_element group)
+    temp_is : IsArrayElement (volatile_element group)
     temp_is = element_is (codes "temp") VOLATILE_LENGTH (group % VOLATILE_LENGTH) refl (omega arith)
 
     stored : Q (store (persistent_element size group) (group + 1))
@@ -202,7 +202,7 @@ each_group Q size small stores flushes puts group k = by_kind k
     flushed : Q (flush (persistent_element size group))
     flushed = flushes (persistent_element size group) data_is
 
-    by_kind : (k : Kind) → All Q (group_instrs size group k)
+    by_kind : (k : GroupKind) → All Q (group_instrs size group k)
     by_kind kinds.Store = All-cons Q (store (persistent_element size group) (group + 1)) [] stored (All-nil Q)
     by_kind kinds.FlushedStore =
         All-cons Q (store (persistent_element size group) (group + 1))
@@ -216,7 +216,7 @@ each_group Q size small stores flushes puts group k = by_kind k
         (All-nil Q)
 
 -- The instructions of a group assign no register.
-group_assigns_none : (size group : ℕ) (k : Kind) → body_registers (group_instrs size group k) ≡ []
+group_assigns_none : (size group : ℕ) (k : GroupKind) → body_registers (group_instrs size group k) ≡ []
 group_assigns_none size group kinds.Store = refl
 group_assigns_none size group kinds.FlushedStore = refl
 group_assigns_none size group kinds.PersistentCall = refl
@@ -234,7 +234,7 @@ UsesNone i = used_registers (instr_uses i) ≡ []
 
 -- ---- places
 
-one_fits : (c : Const) → IsElement c → All Fits (types_in c ++ [])
+one_fits : (c : Const) → IsArrayElement c → All Fits (types_in c ++ [])
 one_fits c e =
     subst (λ (ts : List Ty). All Fits (ts ++ [])) (sym e.written) (All-cons Fits e.ty [] e.fits (All-nil Fits))
 
@@ -247,8 +247,8 @@ module _ (size : ℕ) (small : size ≤ LARGEST_SIZE) (body : List Instr) where
   abbrev s : Scope
   s = scope_of P (define_main body)
 
-  store_holds : (c : Const) (value : ℕ) → IsElement c → (place : Place)
-      → (instr_check s (store c value) place).Holds
+  store_holds : (c : Const) (value : ℕ) → IsArrayElement c → (place : Place)
+      → (instr_required s (store c value) place).Holds
   store_holds c value e place = (
     rw (int_names (bits W64 value), e.named, e.known) refl,
     (
@@ -257,11 +257,11 @@ module _ (size : ℕ) (small : size ≤ LARGEST_SIZE) (body : List Instr) where
     ),
   )
 
-  flush_holds : (c : Const) → IsElement c → (place : Place) → (instr_check s (flush c) place).Holds
+  flush_holds : (c : Const) → IsArrayElement c → (place : Place) → (instr_required s (flush c) place).Holds
   flush_holds c e place = (rw (e.named, e.known) refl, (one_fits c e, rw e.points refl))
 
-  put_holds : (c : Const) (value : ℕ) → IsElement c → (place : Place)
-      → (instr_check s (put c value) place).Holds
+  put_holds : (c : Const) (value : ℕ) → IsArrayElement c → (place : Place)
+      → (instr_required s (put c value) place).Holds
   put_holds c value e place = (
     rw (e.named, int_names (bits W64 value), e.known) refl,
     (
@@ -272,9 +272,9 @@ module _ (size : ℕ) (small : size ≤ LARGEST_SIZE) (body : List Instr) where
 
   -- The rules of places hold of the instruction in `main`, at any place.
   abbrev IsChecked : Instr → Type 0
-  IsChecked i = (place : Place) → (instr_check s i place).Holds
+  IsChecked i = (place : Place) → (instr_required s i place).Holds
 
-  end_holds : (place : Place) → (end_check s (main_block body).end place).Holds
+  end_holds : (place : Place) → (end_required s (main_block body).end place).Holds
   end_holds place = (
     rw (int_names (bits W32 0)) refl,
     (
@@ -286,14 +286,14 @@ module _ (size : ℕ) (small : size ≤ LARGEST_SIZE) (body : List Instr) where
   -- ---- the rules, one after another
 
   zeroed_holds : (n : ℕ) (name : List ℕ) (length : ℕ) (persistent : Bool) → length ≤ LARGEST_SIZE
-      → (global_check arrays n (zeroed_array name length persistent)).Holds
+      → (global_required arrays n (zeroed_array name length persistent)).Holds
   zeroed_holds n name length persistent fits = (
     subst (λ (ts : List Ty). All Fits (array_of length ∷ ts)) (sym zero_types)
         (All-cons Fits (array_of length) [] (array_fits length fits) (All-nil Fits)),
     (zero_shape (array_of length), rw zero_names refl),
   )
 
-  globals_hold : (globals_check P).Holds
+  globals_hold : (globals_required P).Holds
   globals_hold = (
     zeroed_holds 0 (codes "data") size true small,
     (zeroed_holds 1 (codes "temp") VOLATILE_LENGTH false (omega arith), tt),
@@ -305,7 +305,7 @@ module _ (size : ℕ) (small : size ≤ LARGEST_SIZE) (body : List Instr) where
   volatile_is : volatile_end P ≡ next_multiple_of volatile_start 8 + 8 * 8
   volatile_is = ap (λ (t : Shape). next_multiple_of volatile_start t.align + t.size) (array_shape VOLATILE_LENGTH)
 
-  sizes_hold : (sizes_check P).Holds
+  sizes_hold : (sizes_required P).Holds
   sizes_hold =
       both_true
       (ap (λ (n : ℕ). nat_le n LARGEST_REGION) region_is
@@ -315,13 +315,13 @@ module _ (size : ℕ) (small : size ≤ LARGEST_SIZE) (body : List Instr) where
   names_differ : body_registers body ≡ [] → AllDiffer (names_in_function (define_main body))
   names_differ none = rw none ((λ h. h), tt)
 
-  registers_hold : body_registers body ≡ [] → (inner_names_check P).Holds
+  registers_hold : body_registers body ≡ [] → (inner_names_required P).Holds
   registers_hold none = (
     (differ_after-exact [] (inner_names 0 define_put)).sound refl,
     (inner-whole 1 (define_main body) (names_differ none), tt),
   )
 
-  main_holds : All IsChecked body → (block_check s 1 0 (main_block body)).Holds
+  main_holds : All IsChecked body → (block_required s 1 0 (main_block body)).Holds
   main_holds checked = (
     tt,
     (
@@ -330,11 +330,11 @@ module _ (size : ℕ) (small : size ≤ LARGEST_SIZE) (body : List Instr) where
     ),
   )
 
-  put_function_holds : (function_check P 0 define_put).Holds
+  put_function_holds : (function_required P 0 define_put).Holds
   put_function_holds =
       (each_from-exact 0 _ define_put.blocks (λ n block. block-exact (scope_of P define_put) 0 n block)).sound refl
 
-  places_hold : All IsChecked body → (places_check P).Holds
+  places_hold : All IsChecked body → (places_required P).Holds
   places_hold checked = (put_function_holds, ((main_holds checked, tt), tt))
 
   -- The use of a register by the store in `put`.

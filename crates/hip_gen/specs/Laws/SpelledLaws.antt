@@ -10,13 +10,13 @@ use Rattle.hip_types.specs.declared.ty.Ty.TheVariants as types
 use Rattle.hip_tokens.specs.Longest.{is_name}
 use Rattle.hip_tree.specs.Laws.Levels.{out-Ty-Int, out-Ty-Array, out-Const-Int, out-Const-Zero, out-Const-Address, out-Const-Gep}
 use Rattle.hip_grammar.specs.Laws.SpellingExact.{spelled_exact}
-use Rattle.hip_grammar.specs.Reading.{IsSpelled}
+use Rattle.hip_grammar.specs.ReadTexts.{IsSpelled}
 use Rattle.hip_grammar.specs.Spelling.{spelled_type, spelled_type_within, spelled_const, spelled_const_within, spelled_pointer, spelled_pointer_within, spelled_int, spelled_instr, spelled_block, spelled_global, spelled_program}
 use Rattle.hip_tree.specs.declared.constant.Const.{Const, out-Const}
 use Rattle.hip_tree.specs.declared.constant.Const.TheVariants as consts
 use Rattle.hip_tree.specs.declared.instr.Instr.{Instr}
-use Rattle.hip_gen.specs.declared.kinds.Kind.{Kind}
-use Rattle.hip_gen.specs.declared.kinds.Kind.TheVariants as kinds
+use Rattle.hip_gen.specs.declared.kinds.GroupKind.{GroupKind}
+use Rattle.hip_gen.specs.declared.kinds.GroupKind.TheVariants as kinds
 use Rattle.hip_gen.specs.declared.limits.TheConstants.{LARGEST_SIZE, VOLATILE_LENGTH}
 use Rattle.hip_gen.specs.Kinds.{kind}
 use Rattle.hip_gen.specs.Generated.{array_of, zeroed_array, element, persistent_element, volatile_element, store, flush, put, group_instrs, instrs_before, main_block, program_of, generated_program}
@@ -72,7 +72,7 @@ persistent_spelled size group h = element_spelled (codes "data") size group refl
 volatile_spelled : (group : ℕ) → spelled_pointer (volatile_element group) ≡ true
 volatile_spelled group = element_spelled (codes "temp") VOLATILE_LENGTH (group % VOLATILE_LENGTH) refl (omega arith)
 
-group_spelled : (size group : ℕ) (k : Kind) → size ≤ LARGEST_SIZE
+group_spelled : (size group : ℕ) (k : GroupKind) → size ≤ LARGEST_SIZE
     → list_all spelled_instr (group_instrs size group k) ≡ true
 group_spelled size group kinds.Store h =
     rw (store_spelled (persistent_element size group) (group + 1) (persistent_spelled size group h)) refl

@@ -19,8 +19,8 @@ use Rattle.hip_tree.specs.declared.constant.Const.TheVariants as consts
 use Rattle.hip_tree.specs.declared.constant.ConstGep.{ConstGep}
 use Rattle.hip_tree.specs.declared.instr.Instr.{Instr}
 use Rattle.hip_grammar.specs.Show.{type_step, type_text, literal_text, index_text, after_commas, inbounds_text, const_step, gep_step, typed_step, const_text, instr_text, line_of, global_text, function_text, show}
-use Rattle.hip_gen.specs.declared.kinds.Kind.{Kind}
-use Rattle.hip_gen.specs.declared.kinds.Kind.TheVariants as kinds
+use Rattle.hip_gen.specs.declared.kinds.GroupKind.{GroupKind}
+use Rattle.hip_gen.specs.declared.kinds.GroupKind.TheVariants as kinds
 use Rattle.hip_gen.specs.declared.limits.TheConstants.{LARGEST_SIZE, VOLATILE_LENGTH}
 use Rattle.hip_gen.specs.Kinds.{kind}
 use Rattle.hip_gen.specs.Lines.{element_text, store_line, flush_line, put_line, group_lines, lines_before, first_lines, last_lines, generated_text}
@@ -157,7 +157,7 @@ put-is c e value h is =
 
 -- ---- groups
 
-group-is : (size group : ℕ) (k : Kind) → group < LARGEST_SIZE
+group-is : (size group : ℕ) (k : GroupKind) → group < LARGEST_SIZE
     → flat_map line (group_instrs size group k) ≡ group_lines size group k
 group-is size group kinds.Store h =
     append-nil _ ∙ store-is (element (codes "data") size group) _ (group + 1) (omega arith)

@@ -5,17 +5,17 @@ use Rattle.std.proofs.lemmas.Bool.{and_parts}
 use Rattle.std.specs.Str.{bytes_eq}
 use Rattle.std.proofs.lemmas.Bool.{eqb-true}
 use Rattle.std.proofs.lemmas.Slice.Eq.{bytes_eq-Decides}
-use Rattle.hip_tokens.specs.Tokens.{Tok, Word, Label, Local, Global, Num, Str, Mark, Odd}
-use Rattle.hip_rules.specs.Rule.{No}
-use Rattle.hip_rules.specs.Laws.Parts.{Apart}
+use Rattle.hip_tokens.specs.Tokens.{Tok, Word, Label, Local, Global, Num, Str, Punctuation, Odd}
+use Rattle.hip_grammar.specs.Rule.{No}
+use Rattle.hip_grammar.specs.Laws.Productions.{Apart}
 use Rattle.hip_grammar.specs.Words.{is_word, is_mark, is_local, is_global, is_label, a_local, a_global, a_label, a_word_of, is_word_of, or_no, written_as}
 
 not-true : (b : Bool) → not b ≡ true → b ≡ false
 not-true true e = absurd cc
 not-true false e = refl
 
-mark_is : (b : ℕ) (t : Tok) → is_mark b t ≡ true → t ≡ Mark b
-mark_is b (Mark c) e = ap (λ (n : ℕ). Mark n) (eqb-true c b e)
+mark_is : (b : ℕ) (t : Tok) → is_mark b t ≡ true → t ≡ Punctuation b
+mark_is b (Punctuation c) e = ap (λ (n : ℕ). Punctuation n) (eqb-true c b e)
 mark_is b (Word t) e = absurd cc
 mark_is b (Label t) e = absurd cc
 mark_is b (Local t) e = absurd cc
@@ -26,7 +26,7 @@ mark_is b (Odd c) e = absurd cc
 
 word_is : (w : List ℕ) (t : Tok) → is_word w t ≡ true → t ≡ Word w
 word_is w (Word t) e = ap (λ (n : List ℕ). Word n) ((bytes_eq-Decides t w).0 e)
-word_is w (Mark t) e = absurd cc
+word_is w (Punctuation t) e = absurd cc
 word_is w (Label t) e = absurd cc
 word_is w (Local t) e = absurd cc
 word_is w (Global t) e = absurd cc
@@ -34,7 +34,7 @@ word_is w (Num t) e = absurd cc
 word_is w (Str t) e = absurd cc
 word_is w (Odd c) e = absurd cc
 
-pub mark_apart : (b : ℕ) (d : Tok → Bool) → d (Mark b) ≡ false → Apart (is_mark b) d
+pub mark_apart : (b : ℕ) (d : Tok → Bool) → d (Punctuation b) ≡ false → Apart (is_mark b) d
 mark_apart b d h t e = rw (mark_is b t e) h
 
 pub word_apart : (w : List ℕ) (d : Tok → Bool) → d (Word w) ≡ false → Apart (is_word w) d
@@ -47,7 +47,7 @@ local_apart d h (Label t) e = absurd cc
 local_apart d h (Global t) e = absurd cc
 local_apart d h (Num t) e = absurd cc
 local_apart d h (Str t) e = absurd cc
-local_apart d h (Mark b) e = absurd cc
+local_apart d h (Punctuation b) e = absurd cc
 local_apart d h (Odd b) e = absurd cc
 
 pub global_apart : (d : Tok → Bool) → ((n : List ℕ) → d (Global n) ≡ false) → Apart is_global d
@@ -57,7 +57,7 @@ global_apart d h (Label t) e = absurd cc
 global_apart d h (Local t) e = absurd cc
 global_apart d h (Num t) e = absurd cc
 global_apart d h (Str t) e = absurd cc
-global_apart d h (Mark b) e = absurd cc
+global_apart d h (Punctuation b) e = absurd cc
 global_apart d h (Odd b) e = absurd cc
 
 pub label_apart : (d : Tok → Bool) → ((n : List ℕ) → d (Label n) ≡ false) → Apart is_label d
@@ -67,7 +67,7 @@ label_apart d h (Global t) e = absurd cc
 label_apart d h (Local t) e = absurd cc
 label_apart d h (Num t) e = absurd cc
 label_apart d h (Str t) e = absurd cc
-label_apart d h (Mark b) e = absurd cc
+label_apart d h (Punctuation b) e = absurd cc
 label_apart d h (Odd b) e = absurd cc
 
 -- A table of words is apart from a test that no word passes.
@@ -80,7 +80,7 @@ words_apart f d h (Global t) e = absurd cc
 words_apart f d h (Local t) e = absurd cc
 words_apart f d h (Num t) e = absurd cc
 words_apart f d h (Str t) e = absurd cc
-words_apart f d h (Mark b) e = absurd cc
+words_apart f d h (Punctuation b) e = absurd cc
 words_apart f d h (Odd b) e = absurd cc
 
 -- A table of words that is apart from another is also apart from the other with one more entry, if it does not have the
@@ -99,7 +99,7 @@ entry_apart f w x g h p (Global t) e = refl
 entry_apart f w x g h p (Local t) e = refl
 entry_apart f w x g h p (Num t) e = refl
 entry_apart f w x g h p (Str t) e = refl
-entry_apart f w x g h p (Mark b) e = refl
+entry_apart f w x g h p (Punctuation b) e = refl
 entry_apart f w x g h p (Odd b) e = refl
 
 pub no_entry_apart : {A : Type 0} (B : Type 0) (f : List ℕ → Option A)
@@ -110,7 +110,7 @@ no_entry_apart B f (Global t) e = refl
 no_entry_apart B f (Local t) e = refl
 no_entry_apart B f (Num t) e = refl
 no_entry_apart B f (Str t) e = refl
-no_entry_apart B f (Mark b) e = refl
+no_entry_apart B f (Punctuation b) e = refl
 no_entry_apart B f (Odd b) e = refl
 
 -- A table of words is apart from a table of values, if no value is written as a word of the first table.
@@ -131,7 +131,7 @@ not_local (Label t) e = refl
 not_local (Global t) e = refl
 not_local (Num t) e = refl
 not_local (Str t) e = refl
-not_local (Mark b) e = refl
+not_local (Punctuation b) e = refl
 not_local (Odd b) e = refl
 
 pub not_global : (t : Tok) → is_global t ≡ false → a_global t ≡ No
@@ -141,7 +141,7 @@ not_global (Label t) e = refl
 not_global (Local t) e = refl
 not_global (Num t) e = refl
 not_global (Str t) e = refl
-not_global (Mark b) e = refl
+not_global (Punctuation b) e = refl
 not_global (Odd b) e = refl
 
 pub not_label : (t : Tok) → is_label t ≡ false → a_label t ≡ No
@@ -151,7 +151,7 @@ not_label (Global t) e = refl
 not_label (Local t) e = refl
 not_label (Num t) e = refl
 not_label (Str t) e = refl
-not_label (Mark b) e = refl
+not_label (Punctuation b) e = refl
 not_label (Odd b) e = refl
 
 none_is_no : {A : Type 0} (o : Option A) → is_some o ≡ false → or_no o ≡ No
@@ -166,5 +166,5 @@ not_word_of f (Global t) e = refl
 not_word_of f (Local t) e = refl
 not_word_of f (Num t) e = refl
 not_word_of f (Str t) e = refl
-not_word_of f (Mark b) e = refl
+not_word_of f (Punctuation b) e = refl
 not_word_of f (Odd b) e = refl

@@ -6,14 +6,14 @@ use Rattle.hip_types.specs.declared.number.Scalar.TheVariants as scalars
 use Rattle.hip_types.specs.declared.number.Width.{Width}
 use Rattle.hip_types.specs.declared.number.Width.TheVariants.{W1}
 use Rattle.hip_tokens.specs.Tokens.{Tok, Word}
-use Rattle.hip_rules.specs.Rule.{both, ◌or◌}
-use Rattle.hip_rules.specs.Part.{token, ◌>>=◌, repeated, one_more_by, separated, listed}
-use Rattle.hip_rules.specs.Laws.Exact.{never, joined}
-use Rattle.hip_rules.specs.Laws.Same.{IsSame, head_or_other}
-use Rattle.hip_rules.specs.Laws.Parts.{Exact, IsRead, Apart, apart_sym, apart_joined, joined_apart, begins, token_begins, link, part_link, token_read, token_exact, closed_exact, gives_exact, next_exact, next_read, then_read, maps_exact, maps_read, either_read, optional_then_read, repeated_then_read, optional_same, repeated_same, one_more_exact, separated_read, listed_read, passing_read, phased_exact}
+use Rattle.hip_grammar.specs.Rule.{both, ◌or◌}
+use Rattle.hip_grammar.specs.Production.{token, ◌>>=◌, repeated, one_more_by, separated, listed}
+use Rattle.hip_grammar.specs.Laws.Exact.{never, joined}
+use Rattle.hip_grammar.specs.Laws.Same.{SameRule, head_or_other}
+use Rattle.hip_grammar.specs.Laws.Productions.{Exact, IsRead, Apart, apart_sym, apart_joined, joined_apart, begins, token_begins, link, part_link, token_read, token_exact, closed_exact, gives_exact, next_exact, next_read, then_read, maps_exact, maps_read, either_read, optional_then_read, repeated_then_read, optional_same, repeated_same, one_more_exact, separated_read, listed_read, passing_read, phased_exact}
 use Rattle.hip_tree.specs.declared.block.Block.{Block}
 use Rattle.hip_tree.specs.declared.block.Phi.{Phi}
-use Rattle.hip_grammar.specs.declared.fault.Fault.{Fault}
+use Rattle.hip_grammar.specs.declared.fault.TextFault.{TextFault}
 use Rattle.hip_tree.specs.declared.instr.Flag.TheVariants as flag
 use Rattle.hip_tree.specs.declared.instr.Instr.{Instr}
 use Rattle.std.specs.Prelude.{if◌then◌else◌}
@@ -194,7 +194,7 @@ begins_call = joined (is_word (codes "tail")) (is_word (codes "call"))
 call_read : (dest : Option (List ℕ)) → IsRead (call dest) begins_call comma
 unfolding call
 call_read dest =
-    optional_then_read Fault (Unit {0}) Instr (word (codes "tail")) (λ _. plain_call dest) (is_word (codes "tail"))
+    optional_then_read TextFault (Unit {0}) Instr (word (codes "tail")) (λ _. plain_call dest) (is_word (codes "tail"))
     (is_word (codes "call")) comma
     (passing_read (is_word (codes "tail")) never) (λ _. plain_call_read dest)
     (word_apart (codes "tail") (is_word (codes "call")) refl)
@@ -382,7 +382,7 @@ after_first_read : (label : List ℕ) (phis : List Phi) (first : Instr)
     → IsRead (after_first label phis first) (joined begins_instr begins_end) never
 unfolding after_first
 after_first_read label phis first =
-    repeated_then_read Fault Instr Block instr
+    repeated_then_read TextFault Instr Block instr
     (λ body. closing label phis (first ∷ body)) begins_instr comma begins_end never instr_read comma_apart
     (λ body. closing_read label phis (first ∷ body)) instr_apart
 
@@ -407,7 +407,7 @@ after_phis_read label phis =
     (closing_read label phis []) effect_apart
 
 block_parts : (label : List ℕ) (phis : List Phi)
-    → IsSame (both assigned.rule (λ dest. (after_name label phis dest).rule) or (after_phis label phis).rule)
+    → SameRule (both assigned.rule (λ dest. (after_name label phis dest).rule) or (after_phis label phis).rule)
     (instrs_and_end label phis).rule
 unfolding after_name after_phis from_effect after_first instrs_and_end instr assigning_instr
 block_parts label phis =

@@ -11,10 +11,10 @@ use Rattle.hip_types.specs.declared.number.Scalar.TheVariants as scalars
 use Rattle.hip_types.specs.declared.number.Width.{Width}
 use Rattle.hip_types.specs.declared.number.Width.TheVariants.{W1}
 use Rattle.hip_tokens.specs.Longest.{is_name}
-use Rattle.hip_rules.specs.Rule.{Yes}
-use Rattle.hip_rules.specs.Reader.{folded}
-use Rattle.hip_rules.specs.Part.{one_more_by, separated}
-use Rattle.hip_rules.specs.Laws.Yields.{Yields, Any, token_yields, gives_yields, then_yields, after_token, either_yields, repeated_yields, optional_yields, one_more_yields, separated_yields, listed_yields, phased_yields}
+use Rattle.hip_grammar.specs.Rule.{Yes}
+use Rattle.hip_grammar.specs.Reader.{folded}
+use Rattle.hip_grammar.specs.Production.{one_more_by, separated}
+use Rattle.hip_grammar.specs.Laws.Yields.{Yields, Any, token_yields, gives_yields, then_yields, after_token, either_yields, repeated_yields, optional_yields, one_more_yields, separated_yields, listed_yields, phased_yields}
 use Rattle.hip_tree.specs.declared.block.Phi.{Phi}
 use Rattle.hip_tree.specs.declared.instr.Flag.{Flag}
 use Rattle.hip_tree.specs.declared.instr.Flag.TheVariants.{Nuw, Nsw, Exact}

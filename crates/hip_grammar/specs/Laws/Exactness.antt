@@ -6,14 +6,14 @@ use Rattle.hip_types.specs.declared.number.Scalar.TheVariants as scalars
 use Rattle.hip_types.specs.declared.number.Width.{Width}
 use Rattle.hip_types.specs.declared.ty.Ty.{Ty, out-Ty}
 use Rattle.hip_types.specs.declared.ty.Ty.TheOpen.{Ty-F}
-use Rattle.hip_tokens.specs.Tokens.{Tok, Word, Label, Local, Global, Num, Str, Mark, Odd}
-use Rattle.hip_rules.specs.Part.{Part, token, optional}
-use Rattle.hip_rules.specs.Rule.{No}
-use Rattle.hip_rules.specs.Laws.Exact.{never, joined}
-use Rattle.hip_rules.specs.Laws.Parts.{Exact, IsRead, Apart, begins, token_begins, link, part_link, token_read, token_exact, gives_exact, next_exact, then_read, maps_exact, maps_read, either_read, optional_same, separated_read, listed_read, passing_read, begins_by}
+use Rattle.hip_tokens.specs.Tokens.{Tok, Word, Label, Local, Global, Num, Str, Punctuation, Odd}
+use Rattle.hip_grammar.specs.Production.{Production, token, optional}
+use Rattle.hip_grammar.specs.Rule.{No}
+use Rattle.hip_grammar.specs.Laws.Exact.{never, joined}
+use Rattle.hip_grammar.specs.Laws.Productions.{Exact, IsRead, Apart, begins, token_begins, link, part_link, token_read, token_exact, gives_exact, next_exact, then_read, maps_exact, maps_read, either_read, optional_same, separated_read, listed_read, passing_read, begins_by}
 use Rattle.hip_tree.specs.declared.constant.Const.{Const}
 use Rattle.hip_tree.specs.declared.constant.TypedConst.{TypedConst}
-use Rattle.hip_grammar.specs.declared.fault.Fault.{Fault}
+use Rattle.hip_grammar.specs.declared.fault.TextFault.{TextFault}
 use Rattle.hip_grammar.specs.Words.{is_word, is_mark, is_local, comma, a_local, too_deep, a_word_of, is_word_of, width_word, scalar_word, type_word}
 use Rattle.hip_grammar.specs.Numbers.{a_literal, an_int_const}
 use Rattle.hip_grammar.specs.Grammar.{word, maybe_word, array_type, struct_type, type_by, type_within, type, literal_index, a_pointer, gep_inside, gep_const, pointer_by, pointer_within, zero_const, typed_const, const_list, array_const, struct_const, const_by, const_within, scalar_const, register, fixed_operand, operand, arg, index}
@@ -35,20 +35,20 @@ begins_type = joined (is_mark 91) (joined (is_mark 123) (is_word_of type_word))
 too_deep_read : {A : Type 0} (b : ℕ) → IsRead (token (too_deep {A = A} b)) (is_mark b) never
 too_deep_read b = token_read (too_deep b) (is_mark b) never (λ t e. rw e refl)
 
-array_type_read : (element : Part Fault Ty) → Exact element never → IsRead (array_type element) (is_mark 91) never
+array_type_read : (element : Production TextFault Ty) → Exact element never → IsRead (array_type element) (is_mark 91) never
 unfolding array_type
 array_type_read element p =
     begins _ _ _ (λ _. link _ _ _ (λ count. link _ _ _
     (λ _. part_link _ _ _ p (λ ty. link _ _ _ (λ _. gives_exact _ _)))))
 
-struct_type_read : (field : Part Fault Ty) → IsRead field begins_type never
+struct_type_read : (field : Production TextFault Ty) → IsRead field begins_type never
     → IsRead (struct_type field) (is_mark 123) never
 unfolding struct_type
 struct_type_read field p =
     begins _ _ _ (λ _. maps_exact _ _ never (listed_read field comma (is_mark 125) begins_type p
     (mark_apart 44 (is_mark 125) refl) (mark_apart 125 begins_type refl)).exact)
 
-type_by_read : (array struct : Part Fault Ty) → IsRead array (is_mark 91) never → IsRead struct (is_mark 123) never
+type_by_read : (array struct : Production TextFault Ty) → IsRead array (is_mark 91) never → IsRead struct (is_mark 123) never
     → IsRead (type_by array struct) begins_type never
 unfolding type_by
 type_by_read array struct p q = either_read array _ (is_mark 91) _ never p
@@ -78,7 +78,7 @@ not_int_const w (Label t) e = refl
 not_int_const w (Local t) e = refl
 not_int_const w (Global t) e = refl
 not_int_const w (Str t) e = refl
-not_int_const w (Mark b) e = refl
+not_int_const w (Punctuation b) e = refl
 not_int_const w (Odd b) e = refl
 
 pub int_const_read : (w : Width) → IsRead (token (an_int_const w)) begins_int_const never
@@ -113,10 +113,10 @@ not_pointer (Num t) e = refl
 not_pointer (Label t) e = refl
 not_pointer (Local t) e = refl
 not_pointer (Str t) e = refl
-not_pointer (Mark b) e = refl
+not_pointer (Punctuation b) e = refl
 not_pointer (Odd b) e = refl
 
-gep_const_read : (inside : Bool → Part Fault Const)
+gep_const_read : (inside : Bool → Production TextFault Const)
     → ((inbounds : Bool) → IsRead (inside inbounds) (is_mark 40) never)
     → IsRead (gep_const inside) (is_word (codes "getelementptr")) never
 unfolding gep_const
@@ -124,7 +124,7 @@ gep_const_read inside p =
     begins _ _ _ (λ _. next_exact _ _ (is_word (codes "inbounds")) (is_mark 40) never
     (maybe_word_exact (codes "inbounds")) p (word_apart (codes "inbounds") (is_mark 40) refl))
 
-gep_inside_read : (base : Part Fault Const) (inbounds : Bool) → Exact base never
+gep_inside_read : (base : Production TextFault Const) (inbounds : Bool) → Exact base never
     → IsRead (gep_inside base inbounds) (is_mark 40) never
 unfolding gep_inside
 gep_inside_read base inbounds p =
@@ -138,7 +138,7 @@ gep_inside_read base inbounds p =
 abbrev pub begins_pointer_const : Tok → Bool
 begins_pointer_const = joined (is_word (codes "getelementptr")) begins_pointer
 
-pointer_by_read : (inside : Bool → Part Fault Const)
+pointer_by_read : (inside : Bool → Production TextFault Const)
     → ((inbounds : Bool) → IsRead (inside inbounds) (is_mark 40) never)
     → IsRead (pointer_by inside) begins_pointer_const never
 unfolding pointer_by
@@ -158,13 +158,13 @@ not_zero t e = rw e refl
 zero_read : IsRead (token zero_const) (is_word (codes "zeroinitializer")) never
 zero_read = token_read zero_const _ never not_zero
 
-pub typed_const_read : (value : Ty → Part Fault Const) → ((ty : Ty) → Exact (value ty) never)
+pub typed_const_read : (value : Ty → Production TextFault Const) → ((ty : Ty) → Exact (value ty) never)
     → IsRead (typed_const value) begins_type never
 unfolding typed_const
 typed_const_read value p =
     then_read type _ begins_type never (type_read 32) (λ ty. maps_exact (value ty) _ never (p ty))
 
-const_list_read : (open_mark close_mark : ℕ) (value : Ty → Part Fault Const)
+const_list_read : (open_mark close_mark : ℕ) (value : Ty → Production TextFault Const)
     → ((ty : Ty) → Exact (value ty) never)
     → Apart comma (is_mark close_mark) → Apart (is_mark close_mark) begins_type
     → IsRead (const_list open_mark close_mark value) (is_mark open_mark) never
@@ -173,17 +173,17 @@ const_list_read open_mark close_mark value p a b =
     begins _ _ _ (λ _. (listed_read (typed_const value) comma (is_mark close_mark) begins_type
     (typed_const_read value p) a b).exact)
 
-array_const_read : (items : Part Fault (List TypedConst)) → IsRead items (is_mark 91) never
+array_const_read : (items : Production TextFault (List TypedConst)) → IsRead items (is_mark 91) never
     → IsRead (array_const items) (is_mark 91) never
 unfolding array_const
 array_const_read items p = maps_read items _ _ _ p
 
-struct_const_read : (items : Part Fault (List TypedConst)) → IsRead items (is_mark 123) never
+struct_const_read : (items : Production TextFault (List TypedConst)) → IsRead items (is_mark 123) never
     → IsRead (struct_const items) (is_mark 123) never
 unfolding struct_const
 struct_const_read items p = maps_read items _ _ _ p
 
-const_by_exact : (elements fields : Part Fault (List TypedConst)) (L : Ty-F Ty) → IsRead elements (is_mark 91) never
+const_by_exact : (elements fields : Production TextFault (List TypedConst)) (L : Ty-F Ty) → IsRead elements (is_mark 91) never
     → IsRead fields (is_mark 123) never → Exact (const_by elements fields L) never
 unfolding const_by
 const_by_exact elements fields (Ty-F.Int w) p q = (int_const_read w).exact
@@ -220,7 +220,7 @@ not_number w (Global t) e = absurd cc
 not_number w (Label t) e = refl
 not_number w (Local t) e = refl
 not_number w (Str t) e = refl
-not_number w (Mark b) e = refl
+not_number w (Punctuation b) e = refl
 not_number w (Odd b) e = refl
 
 begins_pointer_wide : (t : Tok) → begins_const t ≡ false → begins_pointer_const t ≡ false
@@ -230,7 +230,7 @@ begins_pointer_wide (Global t) e = absurd cc
 begins_pointer_wide (Label t) e = refl
 begins_pointer_wide (Local t) e = refl
 begins_pointer_wide (Str t) e = refl
-begins_pointer_wide (Mark b) e = refl
+begins_pointer_wide (Punctuation b) e = refl
 begins_pointer_wide (Odd b) e = refl
 
 scalar_const_read : (s : Scalar) → IsRead (scalar_const s) begins_const never

@@ -1,7 +1,7 @@
 -- The rules on the tree are exactly what lets a program be read back.
 use Rattle.std.specs.Prelude.{◌≡◌, ◌↔◌, ℕ, true, List}
 use Rattle.hip_tree.specs.declared.program.Program.{Program}
-use Rattle.hip_grammar.specs.Reading.{Reads, IsSpelled}
+use Rattle.hip_grammar.specs.ReadTexts.{Reads, IsSpelled}
 use Rattle.hip_grammar.specs.Show.{show}
 use Rattle.hip_grammar.specs.Spelling.{spelled_program}
 use Rattle.hip_grammar.specs.Laws.TextSpelling.{reads_spelled}

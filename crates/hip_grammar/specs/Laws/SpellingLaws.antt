@@ -17,15 +17,15 @@ use Rattle.hip_types.specs.declared.ty.Ty.TheOpen.{Ty-F}
 use Rattle.hip_tokens.specs.Tokens.{Tok, Word, Label, Local, Global, Num}
 use Rattle.hip_tokens.specs.Longest.{is_name}
 use Rattle.hip_tokens.specs.Formed.{is_formed}
-use Rattle.hip_rules.specs.Rule.{Verdict, Yes, Because, No}
-use Rattle.hip_rules.specs.Part.{Part, token}
-use Rattle.hip_rules.specs.Laws.Yields.{Yields, token_yields, gives_yields, then_yields, after_token, either_yields, optional_yields, separated_yields, listed_yields}
+use Rattle.hip_grammar.specs.Rule.{Verdict, Yes, Because, No}
+use Rattle.hip_grammar.specs.Production.{Production, token}
+use Rattle.hip_grammar.specs.Laws.Yields.{Yields, token_yields, gives_yields, then_yields, after_token, either_yields, optional_yields, separated_yields, listed_yields}
 use Rattle.hip_tree.specs.declared.constant.Const.{Const, out-Const}
 use Rattle.hip_tree.specs.declared.constant.Const.TheVariants as consts
 use Rattle.hip_tree.specs.declared.constant.ConstGep.{ConstGep}
 use Rattle.hip_tree.specs.declared.constant.TypedConst.{TypedConst}
-use Rattle.hip_grammar.specs.declared.fault.Fault.{Fault}
-use Rattle.hip_grammar.specs.declared.fault.Fault.TheVariants.{TooDeep}
+use Rattle.hip_grammar.specs.declared.fault.TextFault.{TextFault}
+use Rattle.hip_grammar.specs.declared.fault.TextFault.TheVariants.{TooDeep}
 use Rattle.hip_grammar.specs.Words.{is_word, is_mark, comma, a_local, a_global, a_label, too_deep, a_word_of, or_no, written_as, scalar_word, type_of, type_word}
 use Rattle.hip_grammar.specs.Numbers.{magnitude, is_negative, or_range, below, bits_in_range, value_of, truth_word, a_literal, as_const, an_int_const, a_count, is_alignment, an_alignment}
 use Rattle.hip_grammar.specs.Grammar.{array_type, struct_type, type_by, type_within, literal_index, a_pointer, gep_inside, gep_const, pointer_by, pointer_within, zero_const, typed_const, const_list, array_const, struct_const, const_by, const_within, maybe_word, scalar_const, register, fixed_operand, operand, arg, index}
@@ -34,7 +34,7 @@ use Rattle.hip_grammar.specs.Spelling.{not_empty, spelled_type_within, of_width,
 
 -- ---- single tokens
 
-pub yes_is : {A : Type 0} (x y : A) → ◌≡◌ {A = Verdict Fault A} (Yes x) (Yes y) → x ≡ y
+pub yes_is : {A : Type 0} (x y : A) → ◌≡◌ {A = Verdict TextFault A} (Yes x) (Yes y) → x ≡ y
 yes_is x y e = cc
 
 pub local_is : (t : Tok) (n : List ℕ) → is_formed t ≡ true → a_local t ≡ Yes n → is_name n ≡ true
@@ -119,7 +119,7 @@ literal_is w (Num t) b f e = in_range_is w (value_of w t) b e
 literal_is w (Word t) b f e = truth_is w t b e
 literal_is w t b f e = absurd cc
 
-int_const_by : (w : Width) (z : Bool) (v : Verdict Fault Bits) (c : Const)
+int_const_by : (w : Width) (z : Bool) (v : Verdict TextFault Bits) (c : Const)
     → ((b : Bits) → v ≡ Yes b → of_width w b ≡ true) → (if z then Yes consts.Zero else as_const v) ≡ Yes c
     → spelled_int w (out-Const c) ≡ true
 int_const_by w true v c h e =
@@ -136,7 +136,7 @@ int_const_is w t c f e =
 
 -- A fact that holds of `zeroinitializer` holds of the constant that its token gives.
 zero_by : (b : Bool) (c : Const) (Q : Const → Type 0) → Q consts.Zero
-    → ◌≡◌ {A = Verdict Fault Const} (if b then Yes consts.Zero else No) (Yes c) → Q c
+    → ◌≡◌ {A = Verdict TextFault Const} (if b then Yes consts.Zero else No) (Yes c) → Q c
 zero_by true c Q q e = subst Q (yes_is consts.Zero c e) q
 zero_by false c Q q e = absurd cc
 
@@ -145,7 +145,7 @@ zero_is : (Q : Const → Type 0) → Q consts.Zero → (t : Tok) (c : Const) →
 zero_is Q q t c f e = zero_by (is_word (codes "zeroinitializer") t) c Q q e
 
 simple_by : (n z : Bool) (c : Const) (Q : Const → Type 0) → Q consts.Null → Q consts.Zero
-    → ◌≡◌ {A = Verdict Fault Const} (if n then Yes consts.Null else (if z then Yes consts.Zero else No)) (Yes c)
+    → ◌≡◌ {A = Verdict TextFault Const} (if n then Yes consts.Null else (if z then Yes consts.Zero else No)) (Yes c)
     → Q c
 simple_by true z c Q p q e = subst Q (yes_is consts.Null c e) p
 simple_by false z c Q p q e = zero_by z c Q q e
@@ -162,7 +162,7 @@ simple_is g t c f e = absurd cc
 
 -- A token that opens one level too many derives nothing.
 deep_by : {A : Type 0} (b : Bool) (Q : A → Type 0) (a : A)
-    → ◌≡◌ {A = Verdict Fault A} (if b then Because TooDeep else No) (Yes a) → Q a
+    → ◌≡◌ {A = Verdict TextFault A} (if b then Because TooDeep else No) (Yes a) → Q a
 deep_by true Q a e = absurd cc
 deep_by false Q a e = absurd cc
 
@@ -199,7 +199,7 @@ struct_type_yields n p =
     (listed_yields comma (is_mark 125) (type_within n) (spelled_type_within n) p)
     (λ fields h. gives_yields _ _ (rw (out-Ty-Struct fields) h)))
 
-type_by_yields : (n : ℕ) (array struct : Part Fault Ty) → Yields array (λ t. spelled_type_within n t ≡ true)
+type_by_yields : (n : ℕ) (array struct : Production TextFault Ty) → Yields array (λ t. spelled_type_within n t ≡ true)
     → Yields struct (λ t. spelled_type_within n t ≡ true)
     → Yields (type_by array struct) (λ t. spelled_type_within n t ≡ true)
 unfolding type_by
@@ -239,13 +239,13 @@ maybe_word_yields w =
     then_yields _ _ _ _ (optional_yields _ _ (λ u. Unit {0}) (λ o. Unit {0}) (token_yields _ _ (λ t a f e. tt)) tt
     (λ a h. tt)) (λ found h. gives_yields _ _ tt)
 
-gep_const_yields : (inside : Bool → Part Fault Const) (Q : Const → Type 0)
+gep_const_yields : (inside : Bool → Production TextFault Const) (Q : Const → Type 0)
     → ((inbounds : Bool) → Yields (inside inbounds) Q) → Yields (gep_const inside) Q
 unfolding gep_const
 gep_const_yields inside Q p =
     after_token _ _ _ (λ _. then_yields _ _ _ _ (maybe_word_yields (codes "inbounds")) (λ inbounds h. p inbounds))
 
-pointer_by_yields : (inside : Bool → Part Fault Const) (Q : Const → Type 0)
+pointer_by_yields : (inside : Bool → Production TextFault Const) (Q : Const → Type 0)
     → ((inbounds : Bool) → Yields (inside inbounds) Q) → Yields (token a_pointer) Q
     → Yields (pointer_by inside) Q
 unfolding pointer_by
@@ -262,7 +262,7 @@ pointer_yields zero = pointer_by_yields _ _ (λ inbounds. deep_yields 40 _) (sim
 pointer_yields (suc n) =
     pointer_by_yields _ _ (λ inbounds. gep_inside_yields n inbounds (pointer_yields n)) (simple_yields (suc n))
 
-typed_const_yields : (value : Ty → Part Fault Const) (test : Ty → Const → Bool)
+typed_const_yields : (value : Ty → Production TextFault Const) (test : Ty → Const → Bool)
     → ((ty : Ty) → Yields (value ty) (λ c. test ty c ≡ true))
     → Yields (typed_const value) (λ item. spelled_item test item ≡ true)
 unfolding typed_const
@@ -270,7 +270,7 @@ typed_const_yields value test p =
     then_yields _ _ _ _ (type_yields 32) (λ ty t.
     then_yields _ _ _ _ (p ty) (λ c h. gives_yields _ _ (both_true t h)))
 
-const_list_yields : (open_mark close_mark : ℕ) (value : Ty → Part Fault Const) (test : Ty → Const → Bool)
+const_list_yields : (open_mark close_mark : ℕ) (value : Ty → Production TextFault Const) (test : Ty → Const → Bool)
     → ((ty : Ty) → Yields (value ty) (λ c. test ty c ≡ true))
     → Yields (const_list open_mark close_mark value) (λ items. list_all (spelled_item test) items ≡ true)
 unfolding const_list
@@ -278,19 +278,19 @@ const_list_yields open_mark close_mark value test p =
     after_token _ _ _ (λ _. listed_yields comma (is_mark close_mark) (typed_const value) (spelled_item test)
     (typed_const_yields value test p))
 
-array_const_yields : (items : Part Fault (List TypedConst)) (inner : List TypedConst → Bool)
+array_const_yields : (items : Production TextFault (List TypedConst)) (inner : List TypedConst → Bool)
     → Yields items (λ xs. inner xs ≡ true)
     → Yields (array_const items) (λ c. spelled_array inner (out-Const c) ≡ true)
 unfolding array_const
 array_const_yields items inner p = then_yields _ _ _ _ p (λ xs h. gives_yields _ _ (rw (out-Const-Array xs) h))
 
-struct_const_yields : (items : Part Fault (List TypedConst)) (inner : List TypedConst → Bool)
+struct_const_yields : (items : Production TextFault (List TypedConst)) (inner : List TypedConst → Bool)
     → Yields items (λ xs. inner xs ≡ true)
     → Yields (struct_const items) (λ c. spelled_struct inner (out-Const c) ≡ true)
 unfolding struct_const
 struct_const_yields items inner p = then_yields _ _ _ _ p (λ xs h. gives_yields _ _ (rw (out-Const-Struct xs) h))
 
-const_by_yields : (elements fields : Part Fault (List TypedConst)) (inner : List TypedConst → Bool) (L : Ty-F Ty)
+const_by_yields : (elements fields : Production TextFault (List TypedConst)) (inner : List TypedConst → Bool) (L : Ty-F Ty)
     → Yields elements (λ xs. inner xs ≡ true) → Yields fields (λ xs. inner xs ≡ true)
     → Yields (const_by elements fields L) (λ c. spelled_const_by inner L c ≡ true)
 unfolding const_by

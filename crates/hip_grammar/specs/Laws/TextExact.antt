@@ -1,17 +1,17 @@
 -- The reading of a whole text is exact for the grammar.
 use Rattle.std.proofs.Common.{◌≡◌, ℕ, true, false, Bool, ◌||◌, List, [], ◌∷◌, Option, Some, None, Ok, Err, inl, inr, refl, sym, ap, subst, ◌∙◌, codes}
 use Rattle.hip_tokens.specs.Tokens.{Tok, Word, At}
-use Rattle.hip_rules.specs.Part.{token, repeated, optional}
-use Rattle.hip_rules.specs.Reader.{Outcome, on_ok, next}
-use Rattle.hip_rules.specs.Laws.Exact.{never, joined, Exactly, Accepts, Rejects}
-use Rattle.hip_rules.specs.Laws.Parts.{Exact, IsRead, Apart, apart_sym, apart_joined, joined_apart, begins, token_begins, link, part_link, token_read, gives_exact, next_exact, then_read, maps_exact, either_read, optional_exact, optional_same, repeated_same, skipped_same, repeated_exact, listed_read, widens}
-use Rattle.hip_grammar.specs.declared.fault.Fault.{Fault}
+use Rattle.hip_grammar.specs.Production.{token, repeated, optional}
+use Rattle.hip_grammar.specs.Reader.{Outcome, on_ok, next}
+use Rattle.hip_grammar.specs.Laws.Exact.{never, joined, Exactly, Accepts, Rejects}
+use Rattle.hip_grammar.specs.Laws.Productions.{Exact, IsRead, Apart, apart_sym, apart_joined, joined_apart, begins, token_begins, link, part_link, token_read, gives_exact, next_exact, then_read, maps_exact, either_read, optional_exact, optional_same, repeated_same, skipped_same, repeated_exact, listed_read, widens}
+use Rattle.hip_grammar.specs.declared.fault.TextFault.{TextFault}
 use Rattle.hip_tree.specs.declared.program.Program.{Program}
 use Rattle.hip_grammar.specs.Words.{is_word, is_mark, is_global, is_label, comma, a_global, a_word_of, is_word_of, scalar_word, ret_word, link_word, unnamed_word, linkage_word, fixed_word}
 use Rattle.hip_grammar.specs.Grammar.{scalar}
 use Rattle.hip_grammar.specs.Bodies.{maybe_align, block}
 use Rattle.hip_grammar.specs.Text.{linkages, links, source_filename, target_item, section, only_align, placement, place, global, maybe_unnamed, extern_item, param, blocks, function, item, begins_item, text}
-use Rattle.hip_grammar.specs.Reading.{IsRefusedAt}
+use Rattle.hip_grammar.specs.ReadTexts.{IsRefusedAt}
 use Rattle.hip_grammar.specs.Unsupported.{usual}
 use Rattle.hip_grammar.specs.Laws.Apart.{mark_apart, word_apart, global_apart, label_apart, words_apart, entry_apart, no_entry_apart, not_global, not_word_of}
 use Rattle.hip_grammar.specs.Laws.Exactness.{type_read, const_exact}
@@ -177,21 +177,21 @@ text_exact =
 -- ---- whole texts
 
 -- The whole text as it is read: if a token is left, it is refused.
-abbrev pub ended : Program → List At → Outcome Fault Program
+abbrev pub ended : Program → List At → Outcome TextFault Program
 ended program [] = Ok (program, [])
 ended program (t ∷ ts) = Err (None, t ∷ ts)
 
 -- The program that all of these tokens read as, or the refused place, perhaps with a reason of that place.
-unfoldable pub whole_text : List At → Outcome Fault Program
+unfoldable pub whole_text : List At → Outcome TextFault Program
 whole_text ts = on_ok (text.read ts) ended
 
 -- The reason of the place if it has one, else the usual fault.
-abbrev pub fault_at : Option Fault → List At → Fault
+abbrev pub fault_at : Option TextFault → List At → TextFault
 fault_at (Some why) rest = why
 fault_at None rest = usual rest
 
 -- What an outcome says: the tokens derive the program, with none left, or are refused at its place for its fault.
-abbrev Says : List At → Outcome Fault Program → Type 0
+abbrev Says : List At → Outcome TextFault Program → Type 0
 Says ts (Ok x) = text.rule.Derives ts x.0 [] × (x.1 ≡ [])
 Says ts (Err e) = IsRefusedAt ts (fault_at e.0 e.1) e.1
 
@@ -206,7 +206,7 @@ at_end ts program (t ∷ rest) r = record {
   other = λ h. refl;
 }
 
-stopped : (ts : List At) (why : Option Fault) (rest : List At) → Rejects text.rule goes_on_text ts why rest
+stopped : (ts : List At) (why : Option TextFault) (rest : List At) → Rejects text.rule goes_on_text ts why rest
     → IsRefusedAt ts (fault_at why rest) rest
 stopped ts (Some v) rest r = record {
   here = text_exact.later ts rest r.front;
@@ -223,7 +223,7 @@ stopped ts None rest r = record {
   other = λ h. refl;
 }
 
-says : (ts : List At) (o : Outcome Fault Program) → Exactly text.rule goes_on_text ts o → Says ts (on_ok o ended)
+says : (ts : List At) (o : Outcome TextFault Program) → Exactly text.rule goes_on_text ts o → Says ts (on_ok o ended)
 says ts (Ok x) r = at_end ts x.0 x.1 r
 says ts (Err e) r = stopped ts e.0 e.1 r
 
@@ -235,7 +235,7 @@ pub read_is : (ts : List At) (program : Program) (rest : List At) → whole_text
     → text.rule.Derives ts program []
 read_is ts program rest e = let s : Says ts (Ok (program, rest)) = subst (Says ts) e (whole_says ts) in s.0
 
-pub refused_is : (ts : List At) (why : Option Fault) (rest : List At) → whole_text ts ≡ Err (why, rest)
+pub refused_is : (ts : List At) (why : Option TextFault) (rest : List At) → whole_text ts ≡ Err (why, rest)
     → IsRefusedAt ts (fault_at why rest) rest
 refused_is ts why rest e = subst (Says ts) e (whole_says ts)
 
@@ -247,7 +247,7 @@ ended_is program found (t ∷ ts) e k = absurd cc
 none_next : {X : Type 0} → next goes_on_text [] ≡ true → X
 none_next e = absurd cc
 
-taken : (ts : List At) (program : Program) (o : Outcome Fault Program) → Exactly text.rule goes_on_text ts o
+taken : (ts : List At) (program : Program) (o : Outcome TextFault Program) → Exactly text.rule goes_on_text ts o
     → text.rule.Derives ts program [] → on_ok o ended ≡ Ok (program, [])
 taken ts program (Ok x) r t =
     elim (r.only program [] t) [ inl e ↦ ended_is program x.0 x.1 e.0 e.1 | inr g ↦ none_next g ]
@@ -258,20 +258,20 @@ pub derived_is : (ts : List At) (program : Program) → text.rule.Derives ts pro
 unfolding whole_text
 derived_is ts program t = taken ts program (text.read ts) (text_exact.reads ts) t
 
-ok_is : (x y : Program × List At) → ◌≡◌ {A = Outcome Fault Program} (Ok x) (Ok y) → x ≡ y
+ok_is : (x y : Program × List At) → ◌≡◌ {A = Outcome TextFault Program} (Ok x) (Ok y) → x ≡ y
 ok_is x y e = cc
 
 -- The tokens derive no program but the one that is read.
 pub only_is : (ts : List At) (found program : Program) (rest : List At) → whole_text ts ≡ Ok (found, rest)
     → text.rule.Derives ts program [] → found ≡ program
 only_is ts found program rest e t =
-    let q : ◌≡◌ {A = Outcome Fault Program} (Ok (found, rest)) (Ok (program, [])) =
+    let q : ◌≡◌ {A = Outcome TextFault Program} (Ok (found, rest)) (Ok (program, [])) =
     sym e ∙ derived_is ts program t in ap (λ (p : Program × List At). p.0) (ok_is (found, rest) (program, []) q)
 
-pub never_derived : (ts : List At) (why : Option Fault) (rest : List At) (program : Program)
+pub never_derived : (ts : List At) (why : Option TextFault) (rest : List At) (program : Program)
     → whole_text ts ≡ Err (why, rest) → text.rule.Derives ts program [] → ⊥
 never_derived ts why rest program e t =
-    let q : ◌≡◌ {A = Outcome Fault Program} (Err (why, rest)) (Ok (program, [])) = sym e
+    let q : ◌≡◌ {A = Outcome TextFault Program} (Err (why, rest)) (Ok (program, [])) = sym e
     ∙ derived_is ts program t in cc
 
 -- The tokens of a text derive one program at most.

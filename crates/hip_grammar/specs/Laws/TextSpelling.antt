@@ -6,21 +6,21 @@ use Rattle.std.proofs.lemmas.Bool.{and_parts}
 use Rattle.std.proofs.lemmas.List.Folds.{list_all-append}
 use Rattle.hip_tokens.specs.Formed.{tokens_formed}
 use Rattle.hip_tokens.specs.Tokens.{tokens}
-use Rattle.hip_rules.specs.Reader.{folded}
-use Rattle.hip_rules.specs.Laws.Yields.{Yields, Any, token_yields, gives_yields, then_yields, after_token, either_yields, repeated_yields, optional_yields, listed_yields, skipped_yields}
+use Rattle.hip_grammar.specs.Reader.{folded}
+use Rattle.hip_grammar.specs.Laws.Yields.{Yields, Any, token_yields, gives_yields, then_yields, after_token, either_yields, repeated_yields, optional_yields, listed_yields, skipped_yields}
 use Rattle.hip_tree.specs.declared.program.Program.{Program}
 use Rattle.hip_grammar.specs.Words.{is_mark, is_label, comma, a_global, a_local}
 use Rattle.hip_grammar.specs.Numbers.{an_alignment}
 use Rattle.hip_grammar.specs.Grammar.{scalar}
 use Rattle.hip_grammar.specs.Bodies.{block}
-use Rattle.hip_grammar.specs.Text.{Item, GlobalItem, ExternItem, FunctionItem, DroppedItem, source_filename, target_item, section, only_align, placement, placed, place, global, extern_item, param, blocks, function, item, begins_item, no_items, with_item, text}
-use Rattle.hip_grammar.specs.Reading.{Reads}
+use Rattle.hip_grammar.specs.Text.{TextItem, GlobalItem, ExternItem, FunctionItem, DroppedItem, source_filename, target_item, section, only_align, placement, placed, place, global, extern_item, param, blocks, function, item, begins_item, no_items, with_item, text}
+use Rattle.hip_grammar.specs.ReadTexts.{Reads}
 use Rattle.hip_grammar.specs.Spelling.{not_empty, spelled_align, spelled_global, spelled_extern, spelled_param, spelled_function, spelled_block, spelled_program}
 use Rattle.hip_grammar.specs.Laws.SpellingLaws.{local_is, global_is, alignment_is, type_yields, const_yields}
 use Rattle.hip_grammar.specs.Laws.BodiesSpelling.{maybe_align_yields, block_yields}
 
 -- An item meets the rules of its kind; an item that is dropped has none.
-abbrev spelled_as_item : Item → Bool
+abbrev spelled_as_item : TextItem → Bool
 spelled_as_item (GlobalItem g) = spelled_global g
 spelled_as_item (ExternItem e) = spelled_extern e
 spelled_as_item (FunctionItem f) = spelled_function f
@@ -126,7 +126,7 @@ spelled_parts p h =
     let b = and_parts (list_all spelled_extern p.externs) _ a.1 in
     (a.0, b.0, b.1)
 
-with_item_spelled : (p : Program) (i : Item) → spelled_program p ≡ true → spelled_as_item i ≡ true
+with_item_spelled : (p : Program) (i : TextItem) → spelled_program p ≡ true → spelled_as_item i ≡ true
     → spelled_program (with_item p i) ≡ true
 with_item_spelled p (GlobalItem g) h k =
     let a = spelled_parts p h in both_true (one_more spelled_global p.globals g a.0 k) (both_true a.1 a.2)
@@ -136,7 +136,7 @@ with_item_spelled p (FunctionItem f) h k =
     let a = spelled_parts p h in both_true a.0 (both_true a.1 (one_more spelled_function p.functions f a.2 k))
 with_item_spelled p DroppedItem h k = h
 
-all_spelled : (p : Program) (items : List Item) → spelled_program p ≡ true
+all_spelled : (p : Program) (items : List TextItem) → spelled_program p ≡ true
     → list_all spelled_as_item items ≡ true
     → spelled_program (folded with_item p items) ≡ true
 all_spelled p [] h k = h

@@ -9,16 +9,16 @@ use Rattle.hip_types.specs.declared.number.Width.TheVariants.{W1}
 use Rattle.hip_types.specs.Laws.WidthLaws.{own_width, equal_widths}
 use Rattle.hip_tokens.specs.Longest.{is_name}
 use Rattle.hip_tokens.specs.Written.{ends_word}
-use Rattle.hip_rules.specs.Rule.{Rule, both}
-use Rattle.hip_rules.specs.Part.{one_more_by}
-use Rattle.hip_rules.specs.Laws.Texts.{IsTextOf, anything, then_text, last_text, nothing_text, anywhere_text, word_text, word_then, local_text, label_then, mark_text, mark_then, blank_text, blank_past, left_text, right_text, many_texts}
+use Rattle.hip_grammar.specs.Rule.{Rule, both}
+use Rattle.hip_grammar.specs.Production.{one_more_by}
+use Rattle.hip_grammar.specs.Laws.Texts.{DerivesText, anything, then_text, last_text, nothing_text, anywhere_text, word_text, word_then, local_text, label_then, mark_text, mark_then, blank_text, blank_past, left_text, right_text, many_texts}
 use Rattle.hip_tree.specs.declared.block.Block.{Block}
 use Rattle.hip_tree.specs.declared.block.Case.{Case}
 use Rattle.hip_tree.specs.declared.block.Edge.{Edge}
 use Rattle.hip_tree.specs.declared.block.End.{End}
 use Rattle.hip_tree.specs.declared.block.End.TheVariants as ends
 use Rattle.hip_tree.specs.declared.block.Phi.{Phi}
-use Rattle.hip_grammar.specs.declared.fault.Fault.{Fault}
+use Rattle.hip_grammar.specs.declared.fault.TextFault.{TextFault}
 use Rattle.hip_tree.specs.declared.instr.Instr.{Instr}
 use Rattle.hip_tree.specs.declared.instr.Operand.{Operand}
 use Rattle.hip_grammar.specs.Words.{comma, width_text, scalar_text}
@@ -34,13 +34,13 @@ use Rattle.hip_grammar.specs.Laws.WrittenInstrs.{assigned_is, instr_is}
 -- ---- phis
 
 edge_label_is : (label : List ℕ) → is_name label ≡ true
-    → IsTextOf anything edge_label.rule (codes ", %" ++ (label ++ codes " ]")) label
+    → DerivesText anything edge_label.rule (codes ", %" ++ (label ++ codes " ]")) label
 unfolding edge_label
 edge_label_is label e =
     mark_then _ _ 44 refl refl (blank_text 32 refl (then_text _ (local_text _ label e refl)
     (blank_text 32 refl (last_text _ (mark_text _ 93 refl refl) (nothing_text anything))) (λ rest h. refl)))
 
-edge_is : (s : Scalar) (e : Edge) → spelled_edge s e ≡ true → IsTextOf ends_word (edge s).rule (edge_text e) e
+edge_is : (s : Scalar) (e : Edge) → spelled_edge s e ≡ true → DerivesText ends_word (edge s).rule (edge_text e) e
 unfolding edge
 edge_is s e h =
     let p = and_parts (spelled_operand s e.value) (is_name e.label) h in
@@ -50,7 +50,7 @@ edge_is s e h =
 
 phi_by : (dest : List ℕ) (s : Scalar) (edges : List Edge) → is_name dest ≡ true → not_empty edges ≡ true
     → list_all (spelled_edge s) edges ≡ true
-    → IsTextOf ends_word (both assigned.rule (λ x. (phi x).rule))
+    → DerivesText ends_word (both assigned.rule (λ x. (phi x).rule))
     (assigned_text dest ++ (codes "phi " ++ (scalar_text s ++ (codes " " ++ commas (map edge_text edges)))))
     (record { dest = dest; ty = s; edges = edges })
 unfolding phi
@@ -62,7 +62,7 @@ phi_by dest s (e ∷ es) n some h =
     (λ rest h. refl))) (λ rest h. refl)
 
 phi_is : (p : Phi) → spelled_phi p ≡ true
-    → IsTextOf ends_word (both assigned.rule (λ x. (phi x).rule)) (phi_text p) p
+    → DerivesText ends_word (both assigned.rule (λ x. (phi x).rule)) (phi_text p) p
 phi_is p h =
     let q = and_parts (is_name p.dest) (not_empty p.edges && list_all (spelled_edge p.ty) p.edges) h in
     let r = and_parts (not_empty p.edges) (list_all (spelled_edge p.ty) p.edges) q.1 in
@@ -71,17 +71,17 @@ phi_is p h =
 -- ---- ends
 
 target_is : (label : List ℕ) → is_name label ≡ true
-    → IsTextOf ends_word target.rule (codes "label %" ++ label) label
+    → DerivesText ends_word target.rule (codes "label %" ++ label) label
 unfolding target
 target_is label e = word_then _ _ (codes "label") refl refl (local_text _ label e refl)
 
 next_target_is : (label : List ℕ) → is_name label ≡ true
-    → IsTextOf ends_word (one_more_by comma target).rule (codes ", label %" ++ label) label
+    → DerivesText ends_word (one_more_by comma target).rule (codes ", label %" ++ label) label
 next_target_is label e = after_comma target (target_is label e)
 
 branch_is : (cond : Operand) (yes_label no_label : List ℕ) → spelled_operand (scalars.Int W1) cond ≡ true
     → is_name yes_label ≡ true → is_name no_label ≡ true
-    → IsTextOf ends_word branch.rule (codes "i1 " ++
+    → DerivesText ends_word branch.rule (codes "i1 " ++
     (operand_text cond ++ (codes ", label %" ++ (yes_label ++ (codes ", label %" ++ no_label))))) (ends.CondBr cond
     yes_label no_label)
 unfolding branch
@@ -90,7 +90,7 @@ branch_is cond yes_label no_label e f g =
     (then_text _ (next_target_is yes_label f) (last_text _ (next_target_is no_label g) (nothing_text anything))
     (λ rest h. refl)) (λ rest h. refl))
 
-own_case : (c : Case) → is_name c.label ≡ true → IsTextOf anything (case c.value.width).rule (case_text c) c
+own_case : (c : Case) → is_name c.label ≡ true → DerivesText anything (case c.value.width).rule (case_text c) c
 unfolding case
 own_case c e =
     let past : List ℕ = codes ", label %" ++ (c.label ++ codes " ") in
@@ -100,13 +100,13 @@ own_case c e =
     (last_text _ (blank_past 32 refl (λ rest h. refl) (next_target_is c.label e)) (nothing_text anything))
     (λ rest h. refl))) (λ rest h. refl))
 
-case_is : (w : Width) (c : Case) → spelled_case w c ≡ true → IsTextOf anything (case w).rule (case_text c) c
+case_is : (w : Width) (c : Case) → spelled_case w c ≡ true → DerivesText anything (case w).rule (case_text c) c
 case_is w c e =
     let p = and_parts (of_width w c.value) (is_name c.label) e in
-    subst (λ v. IsTextOf anything (case v).rule (case_text c) c) (equal_widths c.value.width w p.0) (own_case c p.1)
+    subst (λ v. DerivesText anything (case v).rule (case_text c) c) (equal_widths c.value.width w p.0) (own_case c p.1)
 
 cases_are : (w : Width) (cs : List Case) → list_all (spelled_case w) cs ≡ true
-    → IsTextOf anything (cases w).rule (codes "[ " ++ (flat_map case_text cs ++ codes "]")) cs
+    → DerivesText anything (cases w).rule (codes "[ " ++ (flat_map case_text cs ++ codes "]")) cs
 unfolding cases
 cases_are w cs e =
     mark_then _ _ 91 refl refl (blank_text 32 refl
@@ -116,7 +116,7 @@ cases_are w cs e =
 switch_is : (w : Width) (value : Operand) (other : List ℕ) (cs : List Case)
     → spelled_operand (scalars.Int w) value ≡ true → is_name other ≡ true
     → list_all (spelled_case w) cs ≡ true
-    → IsTextOf anything switch.rule (codes "switch " ++
+    → DerivesText anything switch.rule (codes "switch " ++
     (width_text w ++
     (codes " " ++
     (operand_text value ++
@@ -130,7 +130,7 @@ switch_is w value other cs e f g =
     (blank_text 32 refl (last_text _ (cases_are w cs g) (nothing_text anything))) (λ rest h. refl))
     (λ rest h. refl))) (λ rest h. refl))
 
-end_is : (e : End) → spelled_end e ≡ true → IsTextOf ends_word end.rule (end_text e) e
+end_is : (e : End) → spelled_end e ≡ true → DerivesText ends_word end.rule (end_text e) e
 unfolding end br jump ret_end ret_void ret_arg unreachable
 end_is (ends.Br label) h =
     left_text _ (word_then _ _ (codes "br") refl refl
@@ -156,13 +156,13 @@ end_is ends.Unreachable h =
 -- ---- blocks
 
 -- The text of a part on its own line reads as the part.
-line_is : {A : Type 0} {l : Rule Fault A} {s : List ℕ} {x : A} → IsTextOf ends_word l s x
-    → IsTextOf anything l (line_of s) x
+line_is : {A : Type 0} {l : Rule TextFault A} {s : List ℕ} {x : A} → DerivesText ends_word l s x
+    → DerivesText anything l (line_of s) x
 line_is p = blank_text 32 refl (blank_text 32 refl (blank_past 10 refl (λ rest h. refl) p))
 
 block_by : (label : List ℕ) (phis : List Phi) (body : List Instr) (last : End) → is_name label ≡ true
     → list_all spelled_phi phis ≡ true → list_all spelled_instr body ≡ true → spelled_end last ≡ true
-    → IsTextOf anything block.rule (label ++
+    → DerivesText anything block.rule (label ++
     (codes ":\n" ++ (flat_map phi_line phis ++ (flat_map instr_line body ++ line_of (end_text last))))) (record {
       label
           = label;
@@ -179,7 +179,7 @@ block_by label phis body last n e f g =
     (λ i rest. refl) body f)
     (last_text _ (line_is (end_is last g)) (nothing_text anything)) (λ rest h. refl)) (λ rest h. refl)))
 
-pub block_is : (b : Block) → spelled_block b ≡ true → IsTextOf anything block.rule (block_text b) b
+pub block_is : (b : Block) → spelled_block b ≡ true → DerivesText anything block.rule (block_text b) b
 block_is b h =
     let p =
     and_parts (is_name b.label) (list_all spelled_phi b.phis

@@ -16,9 +16,9 @@ use Rattle.hip_types.specs.declared.ty.Ty.{Ty}
 use Rattle.hip_tokens.specs.Longest.{is_name}
 use Rattle.hip_tokens.specs.Tokens.{Word}
 use Rattle.hip_tokens.specs.Written.{ends_word}
-use Rattle.hip_rules.specs.Rule.{Yes, one, many}
-use Rattle.hip_rules.specs.Part.{one_more_by, separated}
-use Rattle.hip_rules.specs.Laws.Texts.{IsTextOf, Leaves, anything, then_text, last_text, nothing_text, anywhere_text, word_text, word_then, local_text, global_text, mark_text, mark_then, blank_text, blank_past, left_text, right_text, none_text, some_text, no_more_text, more_text}
+use Rattle.hip_grammar.specs.Rule.{Yes, one, many}
+use Rattle.hip_grammar.specs.Production.{one_more_by, separated}
+use Rattle.hip_grammar.specs.Laws.Texts.{DerivesText, Leaves, anything, then_text, last_text, nothing_text, anywhere_text, word_text, word_then, local_text, global_text, mark_text, mark_then, blank_text, blank_past, left_text, right_text, none_text, some_text, no_more_text, more_text}
 use Rattle.hip_tree.specs.declared.instr.Arg.{Arg}
 use Rattle.hip_tree.specs.declared.instr.Flag.{Flag}
 use Rattle.hip_tree.specs.declared.instr.Flag.TheVariants.{Nuw, Nsw, Exact}
@@ -38,7 +38,7 @@ use Rattle.hip_grammar.specs.Laws.WrittenConsts.{inbounds_then, operand_is, arg_
 
 -- ---- alignments
 
-pub align_is : (n : Option ℕ) → spelled_align n ≡ true → IsTextOf ends_word maybe_align.rule (align_text n) n
+pub align_is : (n : Option ℕ) → spelled_align n ≡ true → DerivesText ends_word maybe_align.rule (align_text n) n
 unfolding align
 align_is None e = none_text _ ends_word
 align_is (Some n) e =
@@ -51,7 +51,7 @@ align_leaves (Some n) rest e = refl
 
 -- ---- words
 
-binary_is : (op : BinaryOp) → IsTextOf ends_word (one (a_word_of binary_word)) (binary_text op) op
+binary_is : (op : BinaryOp) → DerivesText ends_word (one (a_word_of binary_word)) (binary_text op) op
 binary_is ops.Add = word_text _ _ refl refl
 binary_is ops.Sub = word_text _ _ refl refl
 binary_is ops.Mul = word_text _ _ refl refl
@@ -66,7 +66,7 @@ binary_is ops.Shl = word_text _ _ refl refl
 binary_is ops.Lshr = word_text _ _ refl refl
 binary_is ops.Ashr = word_text _ _ refl refl
 
-pred_is : (p : Pred) → IsTextOf ends_word (one (a_word_of pred_word)) (pred_text p) p
+pred_is : (p : Pred) → DerivesText ends_word (one (a_word_of pred_word)) (pred_text p) p
 pred_is preds.Eq = word_text _ _ refl refl
 pred_is preds.Ne = word_text _ _ refl refl
 pred_is preds.Ugt = word_text _ _ refl refl
@@ -80,7 +80,7 @@ pred_is preds.Sle = word_text _ _ refl refl
 
 -- `%x = `.
 pub assigned_is : (dest : List ℕ) → is_name dest ≡ true
-    → IsTextOf anything assigned.rule (assigned_text dest) dest
+    → DerivesText anything assigned.rule (assigned_text dest) dest
 unfolding assigned
 assigned_is dest e =
     then_text _ (local_text _ dest e refl) (blank_text 32 refl
@@ -117,22 +117,22 @@ or_false false e = absurd cc
 
 one_flag : (op : BinaryOp) (flag : Flag) → is_name (flag_text flag) ≡ true
     → a_word_of (flag_word op) (Word (flag_text flag)) ≡ Yes flag
-    → IsTextOf anything (one (a_word_of (flag_word op))) (flag_text flag ++ codes " ") flag
+    → DerivesText anything (one (a_word_of (flag_word op))) (flag_text flag ++ codes " ") flag
 one_flag op flag n e = blank_past 32 refl (λ rest h. refl) (word_text _ (flag_text flag) n e)
 
 nuw_is : (op : BinaryOp) → may_wrap op ≡ true
-    → IsTextOf anything (one (a_word_of (flag_word op))) (flag_if Nuw true) Nuw
+    → DerivesText anything (one (a_word_of (flag_word op))) (flag_if Nuw true) Nuw
 nuw_is op e = one_flag op Nuw refl (rw (wraps_are op e) refl)
 
 nsw_is : (op : BinaryOp) → may_wrap op ≡ true
-    → IsTextOf anything (one (a_word_of (flag_word op))) (flag_if Nsw true) Nsw
+    → DerivesText anything (one (a_word_of (flag_word op))) (flag_if Nsw true) Nsw
 nsw_is op e = one_flag op Nsw refl (rw (wraps_are op e) refl)
 
 exact_flag_is : (op : BinaryOp) → may_be_exact op ≡ true
-    → IsTextOf anything (one (a_word_of (flag_word op))) (flag_if Exact true) Exact
+    → DerivesText anything (one (a_word_of (flag_word op))) (flag_if Exact true) Exact
 exact_flag_is op e = one_flag op Exact refl (rw (exacts_are op (wraps_alone op e) e) refl)
 
-no_flag_is : (op : BinaryOp) → IsTextOf anything (many (one (a_word_of (flag_word op)))) [] []
+no_flag_is : (op : BinaryOp) → DerivesText anything (many (one (a_word_of (flag_word op)))) [] []
 no_flag_is op = no_more_text _ anything
 
 exact_wraps : (op : BinaryOp) → may_wrap op ≡ true → may_be_exact op ≡ true → ⊥
@@ -140,7 +140,7 @@ exact_wraps op e f = let g = wraps_alone op f in absurd cc
 
 flags_by : (op : BinaryOp) (nuw nsw exact : Bool) → (may_wrap op || not (nuw || nsw)) ≡ true
     → (may_be_exact op || not exact) ≡ true
-    → IsTextOf anything (flags op).rule (flags_text (record { nuw = nuw; nsw = nsw; exact = exact }))
+    → DerivesText anything (flags op).rule (flags_text (record { nuw = nuw; nsw = nsw; exact = exact }))
     (record { nuw = nuw; nsw = nsw; exact = exact })
 unfolding flags
 flags_by op false false false e f = last_text _ (no_flag_is op) (nothing_text anything)
@@ -161,7 +161,7 @@ flags_by op true nsw true e f = absurd (exact_wraps op (or_false (may_wrap op) e
 flags_by op false true true e f = absurd (exact_wraps op (or_false (may_wrap op) e) (or_false (may_be_exact op) f))
 
 flags_are : (op : BinaryOp) (set : Flags) → spelled_flags op set ≡ true
-    → IsTextOf anything (flags op).rule (flags_text set) set
+    → DerivesText anything (flags op).rule (flags_text set) set
 flags_are op set e =
     let p = and_parts (may_wrap op || not (set.nuw || set.nsw)) (may_be_exact op || not set.exact) e in
     flags_by op set.nuw set.nsw set.exact p.0 p.1
@@ -173,13 +173,13 @@ abbrev two_operands : Operand → Operand → List ℕ
 two_operands a b = operand_text a ++ (codes ", " ++ operand_text b)
 
 next_operand_is : (s : Scalar) (o : Operand) → spelled_operand s o ≡ true
-    → IsTextOf ends_word (one_more_by comma (operand s)).rule (codes ", " ++ operand_text o) o
+    → DerivesText ends_word (one_more_by comma (operand s)).rule (codes ", " ++ operand_text o) o
 next_operand_is s o e = after_comma (operand s) (operand_is s o e)
 
 binary_instr_is : (dest : List ℕ) (op : BinaryOp) (set : Flags) (w : Width) (a b : Operand)
     → spelled_flags op set ≡ true → spelled_operand (scalars.Int w) a ≡ true
     → spelled_operand (scalars.Int w) b ≡ true
-    → IsTextOf ends_word (binary dest).rule (binary_text op ++
+    → DerivesText ends_word (binary dest).rule (binary_text op ++
     (codes " " ++ (flags_text set ++ (width_text w ++ (codes " " ++ two_operands a b))))) (instrs.Binary dest op set w
     a b)
 unfolding binary
@@ -192,7 +192,7 @@ binary_instr_is dest op set w a b e f g =
 
 compare_is : (dest : List ℕ) (p : Pred) (s : Scalar) (a b : Operand) → spelled_operand s a ≡ true
     → spelled_operand s b ≡ true
-    → IsTextOf ends_word (compare dest).rule (codes "icmp " ++
+    → DerivesText ends_word (compare dest).rule (codes "icmp " ++
     (pred_text p ++ (codes " " ++ (scalar_text s ++ (codes " " ++ two_operands a b))))) (instrs.Compare dest p s a b)
 unfolding compare
 compare_is dest p s a b f g =
@@ -202,14 +202,14 @@ compare_is dest p s a b f g =
     (λ rest h. refl))) (λ rest h. refl))
 
 next_of_type_is : (s : Scalar) (o : Operand) → spelled_operand s o ≡ true
-    → IsTextOf ends_word (next_of_type s).rule (codes ", " ++ (scalar_text s ++ (codes " " ++ operand_text o))) o
+    → DerivesText ends_word (next_of_type s).rule (codes ", " ++ (scalar_text s ++ (codes " " ++ operand_text o))) o
 unfolding next_of_type
 next_of_type_is s o e =
     mark_then _ _ 44 refl refl (blank_text 32 refl
     (then_text _ (same_scalar_is s) (blank_text 32 refl (operand_is s o e)) (λ rest h. refl)))
 
 alternatives_are : (s : Scalar) (a b : Operand) → spelled_operand s a ≡ true → spelled_operand s b ≡ true
-    → IsTextOf ends_word alternatives.rule (codes ", " ++
+    → DerivesText ends_word alternatives.rule (codes ", " ++
     (scalar_text s ++
     (codes " " ++ (operand_text a ++ (codes ", " ++ (scalar_text s ++ (codes " " ++ operand_text b))))))) (s, a, b)
 unfolding alternatives
@@ -221,7 +221,7 @@ alternatives_are s a b f g =
 select_is : (dest : List ℕ) (cond : Operand) (s : Scalar) (a b : Operand)
     → spelled_operand (scalars.Int W1) cond ≡ true
     → spelled_operand s a ≡ true → spelled_operand s b ≡ true
-    → IsTextOf ends_word (select dest).rule (codes "select i1 " ++
+    → DerivesText ends_word (select dest).rule (codes "select i1 " ++
     (operand_text cond ++
     (codes ", " ++
     (scalar_text s ++
@@ -240,13 +240,13 @@ abbrev cast_form : List ℕ → Scalar → Operand → Scalar → List ℕ
 cast_form word from a to =
     word ++ (codes " " ++ (scalar_text from ++ (codes " " ++ (operand_text a ++ (codes " to " ++ scalar_text to)))))
 
-to_int_is : (v : Width) → IsTextOf ends_word to_int.rule (codes "to " ++ width_text v) v
+to_int_is : (v : Width) → DerivesText ends_word to_int.rule (codes "to " ++ width_text v) v
 unfolding to_int
 to_int_is v = word_then _ _ (codes "to") refl refl (int_is v)
 
 int_cast_is : (dest : List ℕ) (op : CastOp) (word : List ℕ) (w v : Width) (a : Operand) → is_name word ≡ true
     → a_word_of int_cast_word (Word word) ≡ Yes op → spelled_operand (scalars.Int w) a ≡ true
-    → IsTextOf ends_word (int_cast dest).rule (cast_form word (scalars.Int w) a (scalars.Int v))
+    → DerivesText ends_word (int_cast dest).rule (cast_form word (scalars.Int w) a (scalars.Int v))
     (instrs.Cast dest op (scalars.Int w) a (scalars.Int v))
 unfolding int_cast
 int_cast_is dest op word w v a n e f =
@@ -254,7 +254,7 @@ int_cast_is dest op word w v a n e f =
     (blank_text 32 refl (last_text _ (to_int_is v) (nothing_text anything))) (λ rest h. refl))) (λ rest h. refl))
 
 ptrtoint_is : (dest : List ℕ) (v : Width) (a : Operand) → spelled_operand scalars.Ptr a ≡ true
-    → IsTextOf ends_word (ptrtoint dest).rule (cast_form (cast_text casts.Ptrtoint) scalars.Ptr a (scalars.Int v))
+    → DerivesText ends_word (ptrtoint dest).rule (cast_form (cast_text casts.Ptrtoint) scalars.Ptr a (scalars.Int v))
     (instrs.Cast dest casts.Ptrtoint scalars.Ptr a (scalars.Int v))
 unfolding ptrtoint
 ptrtoint_is dest v a f =
@@ -263,7 +263,7 @@ ptrtoint_is dest v a f =
     (blank_text 32 refl (last_text _ (to_int_is v) (nothing_text anything))) (λ rest h. refl)))
 
 inttoptr_is : (dest : List ℕ) (w : Width) (a : Operand) → spelled_operand (scalars.Int w) a ≡ true
-    → IsTextOf ends_word (inttoptr dest).rule (cast_form (cast_text casts.Inttoptr) (scalars.Int w) a scalars.Ptr)
+    → DerivesText ends_word (inttoptr dest).rule (cast_form (cast_text casts.Inttoptr) (scalars.Int w) a scalars.Ptr)
     (instrs.Cast dest casts.Inttoptr (scalars.Int w) a scalars.Ptr)
 unfolding inttoptr
 inttoptr_is dest w a f =
@@ -276,7 +276,7 @@ inttoptr_is dest w a f =
 cast_is : (dest : List ℕ) (op : CastOp) (from : Scalar) (a : Operand) (to : Scalar)
     → spelled_cast op from to ≡ true
     → spelled_operand from a ≡ true
-    → IsTextOf ends_word (cast_instr dest).rule (cast_form (cast_text op) from a to) (instrs.Cast dest op from a to)
+    → DerivesText ends_word (cast_instr dest).rule (cast_form (cast_text op) from a to) (instrs.Cast dest op from a to)
 unfolding cast_instr
 cast_is dest casts.Zext (scalars.Int w) a (scalars.Int v) e f =
     left_text _ (int_cast_is dest casts.Zext (cast_text casts.Zext) w v a refl refl f)
@@ -301,7 +301,7 @@ cast_is dest casts.Inttoptr (scalars.Int w) a (scalars.Int v) e f = absurd cc
 -- ---- memory and calls
 
 alloca_is : (dest : List ℕ) (ty : Ty) (n : Option ℕ) → spelled_type ty ≡ true → spelled_align n ≡ true
-    → IsTextOf ends_word (alloca dest).rule (codes "alloca " ++ (type_text ty ++ align_text n))
+    → DerivesText ends_word (alloca dest).rule (codes "alloca " ++ (type_text ty ++ align_text n))
     (instrs.Alloca dest ty n)
 unfolding alloca
 alloca_is dest ty n e f =
@@ -309,7 +309,7 @@ alloca_is dest ty n e f =
     (last_text _ (align_is n f) (nothing_text anything)) (align_leaves n))
 
 next_address_is : (addr : Operand) → spelled_operand scalars.Ptr addr ≡ true
-    → IsTextOf ends_word next_address.rule (codes ", ptr " ++ operand_text addr) addr
+    → DerivesText ends_word next_address.rule (codes ", ptr " ++ operand_text addr) addr
 unfolding next_address
 next_address_is addr e =
     mark_then _ _ 44 refl refl (blank_text 32 refl
@@ -317,14 +317,14 @@ next_address_is addr e =
 
 aligned_address_is : (addr : Operand) (n : Option ℕ) → spelled_operand scalars.Ptr addr ≡ true
     → spelled_align n ≡ true
-    → IsTextOf ends_word aligned_address.rule (codes ", ptr " ++ (operand_text addr ++ align_text n)) (addr, n)
+    → DerivesText ends_word aligned_address.rule (codes ", ptr " ++ (operand_text addr ++ align_text n)) (addr, n)
 unfolding aligned_address
 aligned_address_is addr n e f =
     then_text _ (next_address_is addr e) (last_text _ (align_is n f) (nothing_text anything)) (align_leaves n)
 
 load_is : (dest : List ℕ) (s : Scalar) (addr : Operand) (n : Option ℕ) → spelled_operand scalars.Ptr addr ≡ true
     → spelled_align n ≡ true
-    → IsTextOf ends_word (load dest).rule (codes "load " ++
+    → DerivesText ends_word (load dest).rule (codes "load " ++
     (scalar_text s ++ (codes ", ptr " ++ (operand_text addr ++ align_text n)))) (instrs.Load dest s addr n)
 unfolding load
 load_is dest s addr n e f =
@@ -333,7 +333,7 @@ load_is dest s addr n e f =
 
 store_is : (s : Scalar) (value addr : Operand) (n : Option ℕ) → spelled_operand s value ≡ true
     → spelled_operand scalars.Ptr addr ≡ true → spelled_align n ≡ true
-    → IsTextOf ends_word store.rule (codes "store " ++
+    → DerivesText ends_word store.rule (codes "store " ++
     (scalar_text s ++ (codes " " ++ (operand_text value ++ (codes ", ptr " ++ (operand_text addr ++ align_text n))))))
     (instrs.Store s value addr n)
 unfolding store
@@ -346,7 +346,7 @@ gep_is : (dest : List ℕ) (inbounds : Bool) (ty : Ty) (base : Operand) (indices
     → spelled_type ty ≡ true
     → spelled_operand scalars.Ptr base ≡ true → not_empty indices ≡ true
     → list_all spelled_index indices ≡ true
-    → IsTextOf ends_word (gep dest).rule (codes "getelementptr " ++
+    → DerivesText ends_word (gep dest).rule (codes "getelementptr " ++
     (inbounds_text inbounds ++
     (type_text ty ++ (codes ", ptr " ++ (operand_text base ++ after_commas (map arg_text indices)))))) (instrs.Gep dest
     inbounds ty base indices)
@@ -362,7 +362,7 @@ gep_is dest inbounds ty base (i ∷ is) e f some g =
 call_is : (dest : Option (List ℕ)) (ret : Option Scalar) (callee : List ℕ) (args : List Arg)
     → is_name callee ≡ true
     → list_all spelled_arg args ≡ true
-    → IsTextOf anything (call dest).rule (codes "call " ++
+    → DerivesText anything (call dest).rule (codes "call " ++
     (ret_text ret ++ (codes " @" ++ (callee ++ parenthesized (map arg_text args))))) (instrs.Call dest ret callee args)
 unfolding call plain_call
 call_is dest ret callee args e f =
@@ -375,22 +375,22 @@ call_is dest ret callee args e f =
 -- ---- all instructions
 
 past_register : (dest text : List ℕ) (i : Instr) → is_name dest ≡ true
-    → IsTextOf ends_word (value_instr dest).rule text i
-    → IsTextOf ends_word instr.rule (assigned_text dest ++ text) i
+    → DerivesText ends_word (value_instr dest).rule text i
+    → DerivesText ends_word instr.rule (assigned_text dest ++ text) i
 unfolding instr assigning_instr
 past_register dest text i n p = left_text _ (then_text _ (assigned_is dest n) p (λ rest h. refl))
 
-as_cast : (dest text : List ℕ) (i : Instr) → IsTextOf ends_word (cast_instr dest).rule text i
-    → IsTextOf ends_word (value_instr dest).rule text i
+as_cast : (dest text : List ℕ) (i : Instr) → DerivesText ends_word (cast_instr dest).rule text i
+    → DerivesText ends_word (value_instr dest).rule text i
 unfolding value_instr
 as_cast dest text i p = right_text _ (right_text _ (right_text _ p))
 
-as_memory : (dest text : List ℕ) (i : Instr) → IsTextOf ends_word (memory_instr dest).rule text i
-    → IsTextOf ends_word (value_instr dest).rule text i
+as_memory : (dest text : List ℕ) (i : Instr) → DerivesText ends_word (memory_instr dest).rule text i
+    → DerivesText ends_word (value_instr dest).rule text i
 unfolding cast_instr
 as_memory dest text i p = as_cast dest text i (right_text _ (right_text _ (right_text _ p)))
 
-pub instr_is : (i : Instr) → spelled_instr i ≡ true → IsTextOf ends_word instr.rule (instr_text i) i
+pub instr_is : (i : Instr) → spelled_instr i ≡ true → DerivesText ends_word instr.rule (instr_text i) i
 unfolding value_instr memory_instr instr effect_instr
 instr_is (instrs.Binary dest op set w a b) e =
     let p =

@@ -6,12 +6,12 @@ use Rattle.hip_types.specs.declared.number.Scalar.{Scalar}
 use Rattle.hip_tokens.specs.Longest.{is_name}
 use Rattle.hip_tokens.specs.Tokens.{Str, At, cut, piece_at, string_piece, tokens}
 use Rattle.hip_tokens.specs.Written.{ends_word}
-use Rattle.hip_rules.specs.Rule.{Rule, one, both, many}
-use Rattle.hip_rules.specs.Reader.{folded}
-use Rattle.hip_rules.specs.Part.{skipped}
-use Rattle.hip_rules.specs.Laws.Texts.{IsTextOf, Leaves, anything, then_text, last_text, nothing_text, token_text, word_then, local_text, global_text, mark_text, mark_then, blank_text, blank_past, left_text, right_text, none_text, some_text, no_more_text, mapped_texts, many_texts, joined_texts}
+use Rattle.hip_grammar.specs.Rule.{Rule, one, both, many}
+use Rattle.hip_grammar.specs.Reader.{folded}
+use Rattle.hip_grammar.specs.Production.{skipped}
+use Rattle.hip_grammar.specs.Laws.Texts.{DerivesText, Leaves, anything, then_text, last_text, nothing_text, token_text, word_then, local_text, global_text, mark_text, mark_then, blank_text, blank_past, left_text, right_text, none_text, some_text, no_more_text, mapped_texts, many_texts, joined_texts}
 use Rattle.hip_tree.specs.declared.block.Block.{Block}
-use Rattle.hip_grammar.specs.declared.fault.Fault.{Fault}
+use Rattle.hip_grammar.specs.declared.fault.TextFault.{TextFault}
 use Rattle.hip_tree.specs.declared.program.Extern.{Extern}
 use Rattle.hip_tree.specs.declared.program.Function.{Function}
 use Rattle.hip_tree.specs.declared.program.GlobalVar.{GlobalVar}
@@ -20,10 +20,10 @@ use Rattle.hip_tree.specs.declared.program.Program.{Program}
 use Rattle.hip_grammar.specs.Words.{a_section, a_word_of, fixed_word, scalar_text}
 use Rattle.hip_grammar.specs.Grammar.{scalar}
 use Rattle.hip_grammar.specs.Bodies.{block}
-use Rattle.hip_grammar.specs.Text.{Item, GlobalItem, ExternItem, FunctionItem, links, linkages, section, only_align, placement, place, global, extern_item, param, blocks, function, item, with_item, text}
+use Rattle.hip_grammar.specs.Text.{TextItem, GlobalItem, ExternItem, FunctionItem, links, linkages, section, only_align, placement, place, global, extern_item, param, blocks, function, item, with_item, text}
 use Rattle.hip_grammar.specs.Show.{align_text, block_text, section_text, fixed_text, global_text as global_item_text, extern_text, param_text, function_text, show}
 use Rattle.hip_grammar.specs.Spelling.{not_empty, spelled_align, spelled_type, spelled_const, spelled_block, spelled_global, spelled_extern, spelled_param, spelled_function, spelled_program}
-use Rattle.hip_grammar.specs.Reading.{IsSpelled}
+use Rattle.hip_grammar.specs.ReadTexts.{IsSpelled}
 use Rattle.hip_grammar.specs.Laws.WrittenNumbers.{alignment_text}
 use Rattle.hip_grammar.specs.Laws.WrittenLists.{listed_are}
 use Rattle.hip_grammar.specs.Laws.WrittenTypes.{scalar_is, ret_is, type_is}
@@ -33,19 +33,19 @@ use Rattle.hip_grammar.specs.Laws.WrittenBlocks.{block_is}
 
 -- ---- globals
 
-fixed_is : (fixed : Bool) (t : List ℕ) {B : Type 0} (f : Bool → Rule Fault B) (y : B)
-    → IsTextOf anything (f fixed) t y
-    → IsTextOf anything (both (one (a_word_of fixed_word)) f) (fixed_text fixed ++ t) y
+fixed_is : (fixed : Bool) (t : List ℕ) {B : Type 0} (f : Bool → Rule TextFault B) (y : B)
+    → DerivesText anything (f fixed) t y
+    → DerivesText anything (both (one (a_word_of fixed_word)) f) (fixed_text fixed ++ t) y
 fixed_is true t f y q = word_then _ f (codes "constant") refl refl q
 fixed_is false t f y q = word_then _ f (codes "global") refl refl q
 
 -- `".pm"`.
-section_name : IsTextOf anything (one a_section) (codes "\".pm\"") tt
+section_name : DerivesText anything (one a_section) (codes "\".pm\"") tt
 unfolding cut piece_at string_piece
 section_name = token_text _ (Str (codes ".pm")) (λ line rest e. refl) refl
 
 place_is : (persistent : Bool) (n : Option ℕ) → spelled_align n ≡ true
-    → IsTextOf ends_word place.rule (section_text persistent ++ align_text n) (persistent, n)
+    → DerivesText ends_word place.rule (section_text persistent ++ align_text n) (persistent, n)
 unfolding place placement section only_align
 place_is true n e =
     last_text _ (some_text (mark_then _ _ 44 refl refl
@@ -59,9 +59,9 @@ place_is false (Some n) e =
     (last_text _ (alignment_text n e) (nothing_text anything))))))) (nothing_text anything)
 
 place_line : (persistent : Bool) (n : Option ℕ) → spelled_align n ≡ true
-    → IsTextOf anything place.rule (section_text persistent ++ (align_text n ++ codes "\n")) (persistent, n)
+    → DerivesText anything place.rule (section_text persistent ++ (align_text n ++ codes "\n")) (persistent, n)
 place_line persistent n e =
-    subst (λ s. IsTextOf anything place.rule s (persistent, n))
+    subst (λ s. DerivesText anything place.rule s (persistent, n))
     (append_assoc (section_text persistent) (align_text n) (codes "\n"))
     (blank_past 10 refl (λ rest h. refl) (place_is persistent n e))
 
@@ -71,16 +71,16 @@ place_leaves true n rest e = refl
 place_leaves false None rest e = refl
 place_leaves false (Some n) rest e = refl
 
-no_linkages : IsTextOf anything linkages.rule [] tt
+no_linkages : DerivesText anything linkages.rule [] tt
 unfolding skipped
 no_linkages = last_text _ (no_more_text _ anything) (nothing_text anything)
 
-no_links : IsTextOf anything links.rule [] tt
+no_links : DerivesText anything links.rule [] tt
 unfolding skipped
 no_links = last_text _ (no_more_text _ anything) (nothing_text anything)
 
 global_is : (g : GlobalVar) → spelled_global g ≡ true
-    → IsTextOf anything global.rule (global_item_text g) (GlobalItem g)
+    → DerivesText anything global.rule (global_item_text g) (GlobalItem g)
 unfolding global
 global_is g h =
     let p = and_parts (is_name g.name) (spelled_type g.ty && (spelled_const g.ty g.init && spelled_align g.align)) h in
@@ -97,11 +97,11 @@ global_is g h =
 
 -- ---- externs and functions
 
-scalar_listed : (s : Scalar) → true ≡ true → IsTextOf ends_word scalar.rule (scalar_text s) s
+scalar_listed : (s : Scalar) → true ≡ true → DerivesText ends_word scalar.rule (scalar_text s) s
 scalar_listed s e = scalar_is s
 
 extern_is : (e : Extern) → spelled_extern e ≡ true
-    → IsTextOf anything extern_item.rule (extern_text e) (ExternItem e)
+    → DerivesText anything extern_item.rule (extern_text e) (ExternItem e)
 unfolding extern_item
 extern_is e h =
     word_then _ _ (codes "declare") refl refl
@@ -112,14 +112,14 @@ extern_is e h =
     (blank_text 10 refl (last_text _ (none_text _ anything) (nothing_text anything))) (λ rest h. refl)))
     (λ rest h. refl))) (λ rest h. refl))
 
-param_is : (p : Param) → spelled_param p ≡ true → IsTextOf ends_word param.rule (param_text p) p
+param_is : (p : Param) → spelled_param p ≡ true → DerivesText ends_word param.rule (param_text p) p
 unfolding param
 param_is p e =
     then_text _ (scalar_is p.ty) (blank_text 32 refl (last_text _ (local_text _ p.name e refl) (nothing_text anything)))
     (λ rest h. refl)
 
 blocks_are : (bs : List Block) → not_empty bs ≡ true → list_all spelled_block bs ≡ true
-    → IsTextOf anything blocks.rule (flat_map block_text bs) bs
+    → DerivesText anything blocks.rule (flat_map block_text bs) bs
 unfolding blocks
 blocks_are [] some h = absurd cc
 blocks_are (b ∷ bs) some h =
@@ -129,7 +129,7 @@ blocks_are (b ∷ bs) some h =
     (nothing_text anything)) (λ rest h. refl)
 
 function_is : (f : Function) → spelled_function f ≡ true
-    → IsTextOf anything function.rule (function_text f) (FunctionItem f)
+    → DerivesText anything function.rule (function_text f) (FunctionItem f)
 unfolding function
 function_is f h =
     let p =
@@ -151,25 +151,25 @@ function_is f h =
 -- ---- texts
 
 global_listed : (g : GlobalVar) → spelled_global g ≡ true
-    → IsTextOf anything item.rule (global_item_text g) (GlobalItem g)
+    → DerivesText anything item.rule (global_item_text g) (GlobalItem g)
 unfolding item
 global_listed g h = left_text _ (global_is g h)
 
 extern_listed : (e : Extern) → spelled_extern e ≡ true
-    → IsTextOf anything item.rule (extern_text e) (ExternItem e)
+    → DerivesText anything item.rule (extern_text e) (ExternItem e)
 unfolding item
 extern_listed e h = right_text _ (left_text _ (extern_is e h))
 
 function_listed : (f : Function) → spelled_function f ≡ true
-    → IsTextOf anything item.rule (function_text f) (FunctionItem f)
+    → DerivesText anything item.rule (function_text f) (FunctionItem f)
 unfolding item
 function_listed f h = right_text _ (right_text _ (left_text _ (function_is f h)))
 
 -- The items of the canonical text, in its order.
-abbrev items_of : Program → List Item
+abbrev items_of : Program → List TextItem
 items_of p = map GlobalItem p.globals ++ (map ExternItem p.externs ++ map FunctionItem p.functions)
 
-items_are : (p : Program) → spelled_program p ≡ true → IsTextOf anything (many item.rule) (show p) (items_of p)
+items_are : (p : Program) → spelled_program p ≡ true → DerivesText anything (many item.rule) (show p) (items_of p)
 items_are p h =
     let q =
     and_parts (list_all spelled_global p.globals)
@@ -202,10 +202,10 @@ globals_taken : (gs hs : List GlobalVar) (ns : List Extern) (ms : List Function)
 globals_taken gs [] ns ms = rw (append-nil gs) (externs_taken gs [] ns ms)
 globals_taken gs (h ∷ hs) ns ms = rw (← append_assoc gs (h ∷ []) hs) (globals_taken (gs ++ h ∷ []) hs ns ms)
 
-text_is : (p : Program) → spelled_program p ≡ true → IsTextOf anything text.rule (show p) p
+text_is : (p : Program) → spelled_program p ≡ true → DerivesText anything text.rule (show p) p
 unfolding text
 text_is p h =
-    subst (IsTextOf anything text.rule (show p)) (globals_taken [] p.globals p.externs p.functions)
+    subst (DerivesText anything text.rule (show p)) (globals_taken [] p.globals p.externs p.functions)
     (last_text _ (items_are p h) (nothing_text anything))
 
 end_of_tokens : (line : ℕ) → cut line 0 [] ≡ []

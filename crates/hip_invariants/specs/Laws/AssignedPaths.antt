@@ -8,7 +8,7 @@ use Rattle.hip_tree.specs.declared.instr.Instr.{Instr}
 use Rattle.hip_tree.specs.declared.program.Function.{Function}
 use Rattle.hip_names.specs.Laws.NameLaws.{among-left, among-right, among-either}
 use Rattle.hip_names.specs.Names.{IsAmong}
-use Rattle.hip_sound.specs.Paths.{LeadsTo, IsChain, IsPathTo, registers_before, names_of, whole_block_names, names_before, assigned_on}
+use Rattle.hip_sound.specs.Paths.{BlockLeadsTo, IsChain, IsPathTo, registers_before, names_of, whole_block_names, names_before, assigned_on}
 use Rattle.hip_sound.specs.Registers.{assigned_by, phi_registers, body_registers, block_registers, parameter_registers}
 use Rattle.hip_sound.specs.declared.point.Point.{Point}
 use Rattle.hip_sound.specs.declared.point.Point.TheVariants.{Before, AtEnd}
@@ -181,15 +181,15 @@ module _ (fn : Function) where
   -- ---- paths that go on
 
   chain_more : (x : ℕ) (blocks before : List ℕ) (last c : ℕ) → x ∷ blocks ≡ before ++ last ∷ []
-      → IsChain fn x blocks → LeadsTo fn last c → IsChain fn x (blocks ++ c ∷ [])
-  chain_more x [] [] last c e chain leads = let same : last ≡ x = cc in (subst (λ n. LeadsTo fn n c) same leads, tt)
+      → IsChain fn x blocks → BlockLeadsTo fn last c → IsChain fn x (blocks ++ c ∷ [])
+  chain_more x [] [] last c e chain leads = let same : last ≡ x = cc in (subst (λ n. BlockLeadsTo fn n c) same leads, tt)
   chain_more x [] (p ∷ []) last c e chain leads = cc
   chain_more x [] (p ∷ (q ∷ ps)) last c e chain leads = cc
   chain_more x (y ∷ ys) [] last c e chain leads = cc
   chain_more x (y ∷ ys) (p ∷ ps) last c e chain leads = let rest : y ∷ ys ≡ ps ++ last ∷ [] = cc in
       (chain.0, chain_more y ys ps last c rest chain.1 leads)
 
-  pub path_more : (earlier : List ℕ) (b c : ℕ) → IsPathTo fn (earlier ++ b ∷ []) b → LeadsTo fn b c
+  pub path_more : (earlier : List ℕ) (b c : ℕ) → IsPathTo fn (earlier ++ b ∷ []) b → BlockLeadsTo fn b c
       → IsPathTo fn ((earlier ++ b ∷ []) ++ c ∷ []) c
   path_more earlier b c path leads = record {
     blocks = path.blocks ++ c ∷ [];

@@ -9,7 +9,7 @@ use Rattle.hip_names.specs.Laws.NumberLaws.{number_of-there}
 use Rattle.hip_externs.specs.Externs.{call_of}
 use Rattle.hip_sound.specs.Given.{CallsFunction}
 use Rattle.hip_sound.specs.Laws.Decided.{all-at}
-use Rattle.hip_sound.specs.Numbering.{function_names}
+use Rattle.hip_sound.specs.NumberedNames.{function_names}
 use Rattle.hip_sound.specs.Sound.{IsSound, IsFree}
 
 -- No function has the name of an external function in the table.

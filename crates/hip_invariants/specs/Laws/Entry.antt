@@ -19,7 +19,7 @@ use Rattle.hip_sound.specs.Laws.Decided.{all-at}
 use Rattle.hip_sound.specs.Paths.{label_at, names_of}
 use Rattle.hip_sound.specs.Registers.{end_labels, parameter_registers}
 use Rattle.hip_sound.specs.Sound.{IsSound, Precedes, EdgesAgree, PhiItem, EdgesAreSound, label_number, names_in_block, names_in_function}
-use Rattle.hip_sound.specs.Numbering.{label_names}
+use Rattle.hip_sound.specs.NumberedNames.{label_names}
 use Rattle.hip_names.specs.Laws.DifferLaws.{differ_second}
 
 -- ---- what is spelled

@@ -20,7 +20,7 @@ use Rattle.hip_types.specs.Areas.{stack_end}
 use Rattle.hip_num.specs.Arithmetic.{binary_of}
 use Rattle.hip_num.specs.Comparisons.{holds}
 use Rattle.hip_externs.specs.Externs.{call_of}
-use Rattle.hip_sound.specs.Numbering.{function_number}
+use Rattle.hip_sound.specs.NumberedNames.{function_number}
 use Rattle.hip_sound.specs.Sound.{IsBlockAt}
 use Rattle.hip_globals.specs.Values.{element_address}
 use Rattle.hip_externs.specs.declared.call.ExternCall.TheVariants as calls

@@ -16,7 +16,7 @@ use Rattle.hip_runs.specs.Found.Objects.{global_from, slot_in, or_else, slot_at}
 use Rattle.hip_runs.specs.State.{Slot, Frame}
 use Rattle.hip_runs.specs.Step.{run}
 use Rattle.hip_runs.specs.Validity.{IsValid}
-use Rattle.hip_invariants.specs.ObjectsApart.{slots_of, GlobalHas, SlotHas, AreApart}
+use Rattle.hip_invariants.specs.ObjectsApart.{slots_of, GlobalHas, SlotHas, ObjectsAreApart}
 use Rattle.hip_invariants.specs.StackShape.{lie_between, lie_in_order}
 use Rattle.hip_invariants.specs.Laws.GlobalAddresses.{ends_before_end, starts_after, one_after_another}
 use Rattle.hip_invariants.specs.Laws.StackShape.{higher, lower, stack_is_shaped}
@@ -230,7 +230,7 @@ module _ (mark : ℕ) (fs : List Frame) (order : lie_in_order mark fs) where
         go true e w = let z : ⊥ = omega (arith, w.high e, is_base.low, within, global.from, slot.to, lies.1) in z
         go false e w = let z : ⊥ = omega (arith, w.low e, global.to, slot.from, lies.0) in z
 
-    pub are_apart : AreApart P base fs
+    pub are_apart : ObjectsAreApart P base fs
     are_apart = record {
       globals = λ j k a g h x y. globals_apart P s base is_base j k a g h x y;
       slots = λ j k a x y p q. slots_apart j k a x y p q;
@@ -245,7 +245,7 @@ module _ (mark : ℕ) (fs : List Frame) (order : lie_in_order mark fs) where
     }
 
 pub objects_apart : (P : Program) → IsSound P → (I : Input) → IsValid P I → (n : ℕ)
-    → AreApart P I.base (run P I n).frames
+    → ObjectsAreApart P I.base (run P I n).frames
 objects_apart P s I valid n =
     let shaped = (stack_is_shaped P I n).is in
     are_apart (run P I n).world.mark (run P I n).frames shaped.in_order shaped.within P s I.base valid.base

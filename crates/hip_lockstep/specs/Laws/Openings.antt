@@ -30,8 +30,8 @@ use Rattle.hip_trace.specs.declared.refusal.Progress.TheVariants.{Reading}
 use Rattle.hip_lockstep.specs.Laws.Readings.{next_read, reads_more, stays_more, stated_append, stated_map}
 use Rattle.hip_lockstep.specs.Laws.RunSteps.{IsUnspelled, fits_more, front_taken, later_faults, no_entry, spelled_malformed, spelled_next, spelled_none}
 use Rattle.hip_lockstep.specs.Nexts.{ReadsEntry}
-use Rattle.hip_lockstep.specs.Opening.{HasBase, HasGiven, HasAllGiven, HasHeader}
-use Rattle.hip_lockstep.specs.Reading.{HasReadEntries, IsRead}
+use Rattle.hip_lockstep.specs.HeaderInput.{HasBase, HasGiven, HasAllGiven, HasHeader}
+use Rattle.hip_lockstep.specs.ReadEntries.{HasReadEntries, EntriesAreRead}
 use Rattle.hip_lockstep.specs.Refusals.{HasMisfit, HasStoppedReplay, ShowsNone, Refuses, begun_at}
 use Rattle.hip_lockstep.specs.declared.refusal.ReplayRefusal.{ReplayRefusal}
 use Rattle.hip_lockstep.specs.declared.refusal.ReplayRefusal.TheVariants as refusals
@@ -98,7 +98,7 @@ module _ (P : Program) (start : CabinetState) (es : List Entry) (r : ReaderState
   start_missing r' s' (refusals.Misfit entry Early) (number, none) =
       subst (λ k. HasMisfit P r' start s' k Early) (sym number) (record {
         reading = reads_more start s s' read.reading none.reading;
-        stated = stated_map (λ bytes. IsRead bytes es (ahead r s))
+        stated = stated_map (λ bytes. EntriesAreRead bytes es (ahead r s))
             (λ bytes. IsMisfit P bytes true (length es + 1) Early) start.rest read.stated
             (λ bytes at h. stops_here P bytes es [] Early (spelled_none bytes es r s h none.ended) (stops [] tt)
             (refl, refl));
@@ -107,7 +107,7 @@ module _ (P : Program) (start : CabinetState) (es : List Entry) (r : ReaderState
   start_missing r' s' (refusals.Misfit entry Malformed) (number, bad) =
       subst (λ k. HasMisfit P r' start s' k Malformed) (sym number) (record {
         reading = reads_more start s s' read.reading bad.reading;
-        stated = stated_map (λ bytes. IsRead bytes es (ahead r s))
+        stated = stated_map (λ bytes. EntriesAreRead bytes es (ahead r s))
             (λ bytes. IsMisfit P bytes true (length es + 1) Malformed) start.rest read.stated
             (λ bytes at h.
             let spells = spelled_malformed bytes es r s h bad.entries in
@@ -121,7 +121,7 @@ module _ (P : Program) (start : CabinetState) (es : List Entry) (r : ReaderState
     later = later_faults start s s' read.reading f.later;
     rose = subst (λ k. Rose k s'.faults) read.reading.faults f.rose;
     stated =
-        stated_map (λ bytes. IsRead bytes es (ahead r s)) (λ bytes. ShowsNone P bytes s'.rest) start.rest read.stated
+        stated_map (λ bytes. EntriesAreRead bytes es (ahead r s)) (λ bytes. ShowsNone P bytes s'.rest) start.rest read.stated
         (λ bytes at h.
         let t = front_taken bytes es r r' s s' h f in
         record {
@@ -141,7 +141,7 @@ pub start_differs : (P : Program) (start : CabinetState) (es : List Entry) (e : 
     → HasMisfit P r start s (length es + 1) Differs
 start_differs P start es e r s read stops = record {
   reading = read.reading;
-  stated = stated_map (λ bytes. IsRead bytes (es ++ e ∷ []) (ahead r s))
+  stated = stated_map (λ bytes. EntriesAreRead bytes (es ++ e ∷ []) (ahead r s))
       (λ bytes. IsMisfit P bytes true (length es + 1) Differs) start.rest read.stated
       (λ bytes at h.
       let spells = spelled_next bytes es e (ahead r s) h in
@@ -331,7 +331,7 @@ header_read P start r s given lockstep h =
       valid = so.valid;
       read = subst (λ es. HasReadEntries start r s (es ++ lockstep.next ∷ [])) so.are h.read;
       counted = h.counted ∙ ap (λ es. length es) so.are;
-      header = stated_map (λ bytes. IsRead bytes (h.entries ++ lockstep.next ∷ []) (ahead r s))
+      header = stated_map (λ bytes. EntriesAreRead bytes (h.entries ++ lockstep.next ∷ []) (ahead r s))
           (λ bytes. header P (spelled true bytes)
           ≡ Gives (header_entries (filled P given)) (filled P given)) start.rest h.read.stated
           (λ bytes at k.

@@ -14,7 +14,7 @@ use Rattle.hip_trace.specs.Pieces.{is_separator, pieces, spelled}
 use Rattle.hip_trace.specs.Reads.{ReaderState, IsReading, TakesPiece, HasNext, ahead, one_more}
 use Rattle.hip_trace.specs.declared.entry.Entry.{Entry}
 use Rattle.hip_trace.specs.declared.refusal.Progress.TheVariants.{Reading}
-use Rattle.hip_lockstep.specs.Reading.{StopsAtSeparator, StopsAtEnd, IsRead, HasReadEntries}
+use Rattle.hip_lockstep.specs.ReadEntries.{StopsAtSeparator, StopsAtEnd, EntriesAreRead, HasReadEntries}
 
 -- ---- what is known
 
@@ -109,12 +109,12 @@ module _ (bytes : List ℕ) (es : List Entry) (e : Entry) (piece : List ℕ) (sp
         ∙ append-nil (stated es)));
   }
 
-  next_piece : (old new : Option (List ℕ)) → IsRead bytes es old → TakesPiece piece old new
-      → IsRead bytes (es ++ e ∷ []) new
+  next_piece : (old new : Option (List ℕ)) → EntriesAreRead bytes es old → TakesPiece piece old new
+      → EntriesAreRead bytes (es ++ e ∷ []) new
   next_piece old new h (inl s) = go new s.bytes h.spells
     where
       go : (o : Option (List ℕ)) → old ≡ option_map (λ rest. piece ++ s.separator ∷ rest) o
-          → StopsAtSeparator h.text es ⊎ StopsAtEnd h.text es h.left → IsRead bytes (es ++ e ∷ []) o
+          → StopsAtSeparator h.text es ⊎ StopsAtEnd h.text es h.left → EntriesAreRead bytes (es ++ e ∷ []) o
       go None q k = absurd (let is = h.ahead_is in let z : ⊥ = cc in z)
       go (Some left) q (inl k) =
           let is = h.ahead_is in
@@ -136,7 +136,7 @@ module _ (bytes : List ℕ) (es : List Entry) (e : Entry) (piece : List ℕ) (sp
   next_piece old new h (inr s) = go new s.bytes s.left h.spells
     where
       go : (o : Option (List ℕ)) → old ≡ option_map (λ rest. piece ++ rest) o → IfSome o (λ rest. rest ≡ [])
-          → StopsAtSeparator h.text es ⊎ StopsAtEnd h.text es h.left → IsRead bytes (es ++ e ∷ []) o
+          → StopsAtSeparator h.text es ⊎ StopsAtEnd h.text es h.left → EntriesAreRead bytes (es ++ e ∷ []) o
       go None q end k = absurd (let is = h.ahead_is in let z : ⊥ = cc in z)
       go (Some left) q end (inl k) =
           let is = h.ahead_is in
@@ -168,8 +168,8 @@ next_read start s s' r r' es e few h n = record {
   count = n.count ∙ ap one_more h.count ∙ fits_more (length es) few ∙ sym (length-append es (e ∷ []));
   fit = subst FitAll (sym (stated_append es (e ∷ [])))
       (fit_append (stated es) (Some e ∷ []) h.fit (spelled_fits n.piece e n.spells, tt));
-  stated = stated_map (λ bytes. IsRead bytes es (ahead r s))
-      (λ bytes. IsRead bytes (es ++ e ∷ []) (ahead r' s')) start.rest h.stated
+  stated = stated_map (λ bytes. EntriesAreRead bytes es (ahead r s))
+      (λ bytes. EntriesAreRead bytes (es ++ e ∷ []) (ahead r' s')) start.rest h.stated
       (λ bytes at read. next_piece bytes es e n.piece n.spells (ahead r s) (ahead r' s') read n.taken);
 }
 
@@ -188,7 +188,7 @@ nothing_read start r new current = subst (λ (x : ReaderState). HasReadEntries s
   stated = go start.rest;
 })
   where
-    go : (o : Option (List ℕ)) → IfSome o (λ bytes. IsRead bytes [] (option_map (λ rest. [] ++ rest) o))
+    go : (o : Option (List ℕ)) → IfSome o (λ bytes. EntriesAreRead bytes [] (option_map (λ rest. [] ++ rest) o))
     go None = tt
     go (Some b) = record {
       text = [];
@@ -201,7 +201,7 @@ nothing_read start r new current = subst (λ (x : ReaderState). HasReadEntries s
 
 -- ---- what the whole file spells, and its front
 
-pub read_whole : (bytes : List ℕ) (es : List Entry) (o : Option (List ℕ)) (h : IsRead bytes es o)
+pub read_whole : (bytes : List ℕ) (es : List Entry) (o : Option (List ℕ)) (h : EntriesAreRead bytes es o)
     → spelled true bytes ≡ stated es ++ spelled true h.left
 read_whole bytes es o h = go h.spells
   where
@@ -221,7 +221,7 @@ empty_front [] rest e = refl
 empty_front (b ∷ bs) rest e = absurd (let z : ⊥ = cc in z)
 
 -- The bytes that were taken, the last of which are not a whole piece yet, spell a front of the entries.
-pub read_front : (bytes : List ℕ) (es : List Entry) (o : Option (List ℕ)) (h : IsRead bytes es o)
+pub read_front : (bytes : List ℕ) (es : List Entry) (o : Option (List ℕ)) (h : EntriesAreRead bytes es o)
     (held rest : List ℕ) → h.left ≡ held ++ rest → pieces false held ≡ [] → (last : List (Option Entry))
     × (stated es ≡ spelled false (h.text ++ held) ++ last)
 read_front bytes es o h held rest split none = go h.spells

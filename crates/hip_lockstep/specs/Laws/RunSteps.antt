@@ -22,11 +22,11 @@ use Rattle.hip_runs.specs.declared.event.Event.{Event}
 use Rattle.hip_runs.specs.declared.event.Event.TheVariants as events
 use Rattle.hip_runs.specs.declared.input.Input.{Input}
 use Rattle.hip_trace.specs.Pieces.{spelled}
-use Rattle.hip_trace.specs.Reads.{ReaderState, IsReading, HasFailed, ahead, entries_left, one_more}
+use Rattle.hip_trace.specs.Reads.{ReaderState, IsReading, ReadHasFailed, ahead, entries_left, one_more}
 use Rattle.hip_trace.specs.declared.entry.Entry.{Entry}
 use Rattle.hip_lockstep.specs.Laws.Readings.{read_front, read_whole, reads_more, stays_more, stated_append, stated_at, stated_map}
 use Rattle.hip_lockstep.specs.Nexts.{ReadsEntry}
-use Rattle.hip_lockstep.specs.Reading.{HasReadEntries, IsRead}
+use Rattle.hip_lockstep.specs.ReadEntries.{HasReadEntries, EntriesAreRead}
 use Rattle.hip_lockstep.specs.Refusals.{HasMisfit, HasReadFault, IsTaken, ShowsNone, Refuses, begun_at}
 use Rattle.hip_lockstep.specs.declared.refusal.ReplayRefusal.{ReplayRefusal}
 use Rattle.hip_lockstep.specs.declared.refusal.ReplayRefusal.TheVariants as refusals
@@ -140,7 +140,7 @@ IsUnspelled (None ∷ rest) = Unit {0}
 IsUnspelled (Some e ∷ rest) = ⊥
 
 pub spelled_none : (bytes : List ℕ) (es : List Entry) (r : ReaderState) (s : CabinetState)
-    → IsRead bytes es (ahead r s) → IfSome (ahead r s) (λ left. left ≡ [])
+    → EntriesAreRead bytes es (ahead r s) → IfSome (ahead r s) (λ left. left ≡ [])
     → spelled true bytes ≡ stated es ++ []
 spelled_none bytes es r s h ended =
     let none : h.left ≡ [] = stated_at (λ left. left ≡ []) (ahead r s) h.left h.ahead_is ended in
@@ -152,7 +152,7 @@ first_none [] h = absurd (let z : ⊥ = cc in z)
 first_none (x ∷ xs) h = let same : x ≡ None = cc in (xs, ap (λ o. o ∷ xs) same)
 
 pub spelled_malformed : (bytes : List ℕ) (es : List Entry) (r : ReaderState) (s : CabinetState)
-    → IsRead bytes es (ahead r s) → IfSome (entries_left r s) (λ xs. slice_get xs 0 ≡ Some None)
+    → EntriesAreRead bytes es (ahead r s) → IfSome (entries_left r s) (λ xs. slice_get xs 0 ≡ Some None)
     → (rest : List (Option Entry)) × (spelled true bytes ≡ stated es ++ None ∷ rest)
 spelled_malformed bytes es r s h bad =
     let left : entries_left r s ≡ Some (spelled true h.left) = ap (option_map (spelled true)) h.ahead_is in
@@ -161,7 +161,7 @@ spelled_malformed bytes es r s h bad =
     (first.0, read_whole bytes es (ahead r s) h ∙ ap (λ xs. stated es ++ xs) first.1)
 
 pub spelled_next : (bytes : List ℕ) (es : List Entry) (e : Entry) (o : Option (List ℕ))
-    → IsRead bytes (es ++ e ∷ []) o → (rest : List (Option Entry))
+    → EntriesAreRead bytes (es ++ e ∷ []) o → (rest : List (Option Entry))
     × (spelled true bytes ≡ stated es ++ Some e ∷ rest)
 spelled_next bytes es e o h = (
   spelled true h.left,
@@ -178,7 +178,7 @@ pub record HasFront (es : List Entry) (bytes : List ℕ) (rest : Option (List �
   pub spells : stated es ≡ spelled false front ++ last
 
 pub front_taken : (bytes : List ℕ) (es : List Entry) (r r' : ReaderState) (s s' : CabinetState)
-    → IsRead bytes es (ahead r s) → HasFailed r r' s s' → HasFront es bytes s'.rest
+    → EntriesAreRead bytes es (ahead r s) → ReadHasFailed r r' s s' → HasFront es bytes s'.rest
 front_taken bytes es r r' s s' h f = go s'.rest (f.ahead ∙ h.ahead_is)
   where
     go : (o : Option (List ℕ)) → option_map (λ rest. r'.held ++ rest) o ≡ Some h.left → HasFront es bytes o
@@ -229,12 +229,12 @@ module _ (P : Program) (I : Input) (start : CabinetState) (valid : IsValid P I) 
   }
 
   pub read_fault : (n : ℕ) (r r' : ReaderState) (s s' : CabinetState) → HasReadEntries start r s (trace P I n)
-      → HasFailed r r' s s' → HasReadFault P start s'
+      → ReadHasFailed r r' s s' → HasReadFault P start s'
   read_fault n r r' s s' read f = record {
     stays = stays_more start s s' read.reading.stays f.stays;
     later = later_faults start s s' read.reading f.later;
     rose = subst (λ k. Rose k s'.faults) read.reading.faults f.rose;
-    stated = stated_map (λ bytes. IsRead bytes (trace P I n) (ahead r s))
+    stated = stated_map (λ bytes. EntriesAreRead bytes (trace P I n) (ahead r s))
         (λ bytes. ShowsNone P bytes s'.rest) start.rest read.stated
         (λ bytes at h.
         let t = front_taken bytes (trace P I n) r r' s s' h f in
@@ -257,7 +257,7 @@ module _ (P : Program) (I : Input) (start : CabinetState) (valid : IsValid P I) 
     no_entry r' s' (refusals.Misfit entry Early) (number, none) =
         subst (λ k. HasMisfit P r' start s' k Early) (sym number) (record {
           reading = reads_more start s s' read.reading none.reading;
-          stated = stated_map (λ bytes. IsRead bytes (trace P I n) (ahead r s))
+          stated = stated_map (λ bytes. EntriesAreRead bytes (trace P I n) (ahead r s))
               (λ bytes. IsMisfit P bytes true (length (trace P I n) + 1) Early) start.rest read.stated
               (λ bytes at h.
               let more = more_entries P I n going in
@@ -270,7 +270,7 @@ module _ (P : Program) (I : Input) (start : CabinetState) (valid : IsValid P I) 
     no_entry r' s' (refusals.Misfit entry Malformed) (number, bad) =
         subst (λ k. HasMisfit P r' start s' k Malformed) (sym number) (record {
           reading = reads_more start s s' read.reading bad.reading;
-          stated = stated_map (λ bytes. IsRead bytes (trace P I n) (ahead r s))
+          stated = stated_map (λ bytes. EntriesAreRead bytes (trace P I n) (ahead r s))
               (λ bytes. IsMisfit P bytes true (length (trace P I n) + 1) Malformed) start.rest read.stated
               (λ bytes at h.
               let more = more_entries P I n going in

@@ -211,12 +211,12 @@ abbrev pub push_write : ℕ → Areas → Write
 push_write mark r = record { addr = mark_of r; bytes = zeros (mark - mark_of r) }
 
 -- The areas do not overlap. The volatile globals come first, then the stack, then the region.
-pub record AreApart (r : Areas) : Type 0 where
+pub record AreasAreApart (r : Areas) : Type 0 where
   pub volatile : volatile_start + length r.volatile ≤ stack_start
   pub stack : mark_of r ≤ stack_end
   pub region : stack_end ≤ r.base
 
-pub laid_out-apart : (r : Areas) → IsLaidOut r → AreApart r
+pub laid_out-apart : (r : Areas) → IsLaidOut r → AreasAreApart r
 laid_out-apart r h =
     record { volatile = omega (arith, h.volatile); stack = omega (arith, h.stack); region = omega (arith, h.low) }
 
@@ -224,7 +224,7 @@ pub mark_of-after_push : (mark : ℕ) (r : Areas) → mark_of r ≤ mark → mar
 mark_of-after_push mark r h =
     omega (arith, length-append r.stack (zeros (mark - mark_of r)), length-zeros (mark - mark_of r))
 
-pub holds-push : (mark : ℕ) (r : Areas) (m : Memory) → AreApart r → mark_of r ≤ mark → mark ≤ stack_end
+pub holds-push : (mark : ℕ) (r : Areas) (m : Memory) → AreasAreApart r → mark_of r ≤ mark → mark ≤ stack_end
     → Holds r m
     → Holds (after_push mark r) (with_write (push_write mark r) m)
 holds-push mark r m p low high h = record {
@@ -294,7 +294,7 @@ holds-push mark r m p low high h = record {
         absurd (let i = x.0 in let j = s.0 in let k = z.0 in
         let e : is_valid (after_push mark r) a ≡ false = rw (i, j, k) refl in let n : ⊥ = cc in n)
 
-pub holds-pop : (mark : ℕ) (r : Areas) (m : Memory) → AreApart r → stack_start ≤ mark → mark ≤ mark_of r
+pub holds-pop : (mark : ℕ) (r : Areas) (m : Memory) → AreasAreApart r → stack_start ≤ mark → mark ≤ mark_of r
     → Holds r m
     → Holds (after_pop mark r) m
 holds-pop mark r m p low high h = record {

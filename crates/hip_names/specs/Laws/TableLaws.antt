@@ -8,7 +8,7 @@ use Rattle.std.proofs.lemmas.List.{length-append}
 use Rattle.std.proofs.lemmas.Slice.Eq.{bytes_eq-Decides}
 use Rattle.hip_names.specs.Names.{is_among}
 use Rattle.hip_names.specs.Laws.NameLaws.{bytes_eq-sym}
-use Rattle.hip_names.specs.Tables.{Entry, value_of, value_beside, StandsFor}
+use Rattle.hip_names.specs.Tables.{Entry, value_of, value_beside, TableStandsFor}
 
 module _ {V : Type 0} where
   abbrev or_later : Option V → Option V → Option V
@@ -64,8 +64,8 @@ module _ {V : Type 0} where
 
   -- After a new name is added, the table finds it.
   pub entry_added : (ns : List (List ℕ)) (vs : List V) (es : List (Entry V)) (n : List ℕ) (v : V)
-      → StandsFor ns vs es
-      → StandsFor (ns ++ n ∷ []) (vs ++ v ∷ []) (es ++ record { name = n; value = v } ∷ [])
+      → TableStandsFor ns vs es
+      → TableStandsFor (ns ++ n ∷ []) (vs ++ v ∷ []) (es ++ record { name = n; value = v } ∷ [])
   entry_added ns vs es n v s = record {
     as_long = omega (arith, s.as_long, length-append ns (n ∷ []), length-append vs (v ∷ []));
     finds = λ name.
@@ -96,7 +96,7 @@ module _ {V : Type 0} where
   -- A name that is there keeps its value.
   pub entry_kept : (ns : List (List ℕ)) (vs : List V) (es : List (Entry V)) (n : List ℕ) (v : V)
       → is_among ns n ≡ true
-      → StandsFor ns vs es → StandsFor ns vs (es ++ record { name = n; value = v } ∷ [])
+      → TableStandsFor ns vs es → TableStandsFor ns vs (es ++ record { name = n; value = v } ∷ [])
   entry_kept ns vs es n v there s = record {
     as_long = s.as_long;
     finds =

@@ -3,12 +3,12 @@ use Rattle.std.proofs.Common.{◌≡◌, ◌<◌, ℕ, List, [], ◌∷◌, ◌+
 use Rattle.std.specs.Prelude.{◌⊎◌}
 use Rattle.std.proofs.lemmas.Bool.{cases_order}
 use Rattle.std.proofs.lemmas.List.Elements.{All-head, All-tail}
-use Rattle.hip_grammar.specs.Reading.{IsSpelled}
+use Rattle.hip_grammar.specs.ReadTexts.{IsSpelled}
 use Rattle.hip_tree.specs.declared.program.Function.{Function}
 use Rattle.hip_tree.specs.declared.program.Program.{Program}
 use Rattle.hip_program_files.specs.Laws.{without_path}
 use Rattle.hip_sound.specs.Refusals.{fault_of}
-use Rattle.hip_sound.specs.Rules.{AllAssigned, IsFirstFault, IsFirstUnassigned, RegisterUse, UseIsAssigned, register_uses, rules_check}
+use Rattle.hip_sound.specs.Rules.{AllAssigned, IsFirstFault, IsFirstUnassigned, RegisterUse, UseIsAssigned, register_uses, rules_required}
 use Rattle.hip_sound.specs.declared.fault.Fault.{Fault}
 use Rattle.hip_sound.specs.declared.fault.Fault.TheVariants as breaks
 use Rattle.hip_sound.specs.declared.fault.Finding.{Finding}
@@ -82,28 +82,28 @@ pub record Unspelled (P : Program) (fault : TypeFault) (place : Place) : Type 0 
   pub fault_is : fault ≡ faults.BadShape
   pub place_is : place ≡ places.Whole
 
--- The program is spelled, and the first finding of the checks is this fault at this place.
+-- The program is spelled, and the first finding of the requirements is this fault at this place.
 pub record Breaks (P : Program) (fault : TypeFault) (place : Place) : Type 0 where
   pub spelled : IsSpelled P
   pub rule : Fault
   pub fault_is : fault ≡ fault_of rule
-  pub found : (rules_check P).found ≡ Some (record { fault = rule; place = place })
+  pub found : (rules_required P).found ≡ Some (record { fault = rule; place = place })
 
--- The program is spelled, the checks find nothing, and at this place is the first use of a register that is not
+-- The program is spelled, the requirements find nothing, and at this place is the first use of a register that is not
 -- assigned on every path.
 pub record LacksAssignment (P : Program) (fault : TypeFault) (place : Place) : Type 0 where
   pub spelled : IsSpelled P
-  pub passed : (rules_check P).found ≡ None
+  pub passed : (rules_required P).found ≡ None
   pub path : List ℕ
   pub fault_is : fault ≡ faults.Unassigned path
   pub first : IsFirstUnassigned P place path
 
--- How a program breaks a rule: by its spelling, by a check, or by a path.
+-- How a program breaks a rule: by its spelling, by a requirement, or by a path.
 abbrev BreaksARule : Program → TypeFault → Place → Type 0
 BreaksARule P fault place = Unspelled P fault place ⊎ (Breaks P fault place ⊎ LacksAssignment P fault place)
 
 broken : (P : Program) (rule : Fault) (place : Place)
-    → IsSpelled P × ((rules_check P).found ≡ Some (record { fault = rule; place = place }))
+    → IsSpelled P × ((rules_required P).found ≡ Some (record { fault = rule; place = place }))
     → BreaksARule P (fault_of rule) place
 broken P rule place h = inr (inl (record { spelled = h.0; rule = rule; fault_is = refl; found = h.1 }))
 
@@ -123,11 +123,11 @@ by_fault P faults.TooLarge place f = broken P breaks.TooLarge place f
 by_fault P faults.NoMemory place f = absurd f
 
 -- The places are equal, and so are the faults, except for the path that shows a register without an assignment.
-pub record IsSame (a b : TypeFault) (p q : Place) : Type 0 where
+pub record SameRefusal (a b : TypeFault) (p q : Place) : Type 0 where
   pub fault : without_path a ≡ without_path b
   pub place : p ≡ q
 
-one_rule : (P : Program) (a b : TypeFault) (p q : Place) → BreaksARule P a p → BreaksARule P b q → IsSame a b p q
+one_rule : (P : Program) (a b : TypeFault) (p q : Place) → BreaksARule P a p → BreaksARule P b q → SameRefusal a b p q
 one_rule P a b p q (inl u) (inl v) =
     record { fault = ap without_path (u.fault_is ∙ sym v.fault_is); place = u.place_is ∙ sym v.place_is }
 one_rule P a b p q (inl u) (inr (inl v)) = absurd (u.unspelled v.spelled)
@@ -154,6 +154,6 @@ one_rule P a b p q (inr (inr u)) (inr (inr v)) =
     }
 
 pub one_form_refusal : (P : Program) (a b : TypeRefusal) → IsFirstFault P a → IsFirstFault P b
-    → IsSame a.fault b.fault a.place b.place
+    → SameRefusal a.fault b.fault a.place b.place
 one_form_refusal P a b p q =
     one_rule P a.fault b.fault a.place b.place (by_fault P a.fault a.place p) (by_fault P b.fault b.place q)

@@ -3,15 +3,15 @@ use Rattle.std.proofs.Common.{◌≡◌, ℕ, List, Option, Some, None, length, 
 use Rattle.hip_io.specs.Cabinets.{file_of}
 use Rattle.hip_io.specs.declared.cabinet.NamedFile.{NamedFile}
 use Rattle.hip_grammar.specs.Laws.TextExact.{one_program}
-use Rattle.hip_grammar.specs.Reading.{Reads}
+use Rattle.hip_grammar.specs.ReadTexts.{Reads}
 use Rattle.hip_tree.specs.declared.program.Program.{Program}
 use Rattle.hip_program_files.specs.Laws.{LoadsOne, without_paths}
-use Rattle.hip_program_files.specs.Loading.{HasNoProgram, IsBadProgram, IsProgramOf, RefusesProgram, RefusesText}
+use Rattle.hip_program_files.specs.LoadedPrograms.{HasNoProgram, IsBadProgram, IsProgramOf, RefusesProgram, RefusesText}
 use Rattle.hip_program_files.specs.declared.refusal.LoadRefusal.{LoadRefusal}
 use Rattle.hip_program_files.specs.declared.refusal.LoadRefusal.TheVariants as loads
 use Rattle.hip_program_files.specs.declared.refusal.ProgramRefusal.{ProgramRefusal}
 use Rattle.hip_program_files.specs.declared.refusal.ProgramRefusal.TheVariants as refusals
-use Rattle.hip_program_files.specs.Laws.FormRefusals.{IsSame, one_form_refusal}
+use Rattle.hip_program_files.specs.Laws.FormRefusals.{SameRefusal, one_form_refusal}
 use Rattle.hip_program_files.specs.Laws.TextRefusals.{one_text_refusal}
 use Rattle.hip_grammar.specs.declared.refusal.ParseRefusal.{ParseRefusal}
 use Rattle.hip_grammar.specs.declared.refusal.ParseRefusal.TheVariants as parse
@@ -61,7 +61,7 @@ excluded files name P (loads.Bad (refusals.Form why)) p h =
     let same = same_program p.text h.refused.0 P (subst (λ t. Reads t h.refused.0) text h.refused.1) p.reads in
     h.refused.2.unsound (subst IsSound (sym same) p.sound)
 
-same_form : (a b : TypeRefusal) → IsSame a.fault b.fault a.place b.place
+same_form : (a b : TypeRefusal) → SameRefusal a.fault b.fault a.place b.place
     → without_paths (loads.Bad (refusals.Form a)) ≡ without_paths (loads.Bad (refusals.Form b))
 same_form a b s = made s.fault s.place
   where

@@ -1,10 +1,10 @@
 -- A text that is not read is refused in one way.
 use Rattle.std.proofs.Common.{◌≡◌, ◌≤◌, ℕ, List, [], ◌∷◌, ◌++◌, length, length-append, refl, sym, ap, ◌∙◌, subst, arith}
-use Rattle.hip_grammar.specs.declared.fault.Fault.{Fault}
-use Rattle.hip_grammar.specs.declared.fault.Fault.TheVariants as faults
-use Rattle.hip_grammar.specs.Reading.{IsRefusedAt, line_at}
+use Rattle.hip_grammar.specs.declared.fault.TextFault.{TextFault}
+use Rattle.hip_grammar.specs.declared.fault.TextFault.TheVariants as faults
+use Rattle.hip_grammar.specs.ReadTexts.{IsRefusedAt, line_at}
 use Rattle.hip_grammar.specs.Text.{text}
-use Rattle.hip_program_files.specs.Loading.{IsRefusedText, RefusesText}
+use Rattle.hip_program_files.specs.LoadedPrograms.{IsRefusedText, RefusesText}
 use Rattle.hip_grammar.specs.Refusals.{refusal_of}
 use Rattle.hip_grammar.specs.declared.refusal.ParseRefusal.{ParseRefusal}
 use Rattle.hip_grammar.specs.declared.refusal.ParseRefusal.TheVariants as parse
@@ -20,21 +20,21 @@ same_end (x ∷ v) [] a b e same =
 same_end (x ∷ v) (y ∷ w) a b e same = same_end v w a b (let tails : v ++ a ≡ w ++ b = cc in tails) same
 
 -- Faults that are not different are equal.
-stable : (a b : Fault) → ((a ≡ b → ⊥) → ⊥) → a ≡ b
+stable : (a b : TextFault) → ((a ≡ b → ⊥) → ⊥) → a ≡ b
 stable faults.Syntax faults.Syntax h = refl
 stable faults.Unsupported faults.Unsupported h = refl
 stable faults.Range faults.Range h = refl
 stable faults.TooDeep faults.TooDeep h = refl
 stable a b h = absurd (h (λ e. let z : ⊥ = cc in z))
 
-same_fault : (ts : List At) (why other : Fault) (rest : List At) → IsRefusedAt ts why rest
+same_fault : (ts : List At) (why other : TextFault) (rest : List At) → IsRefusedAt ts why rest
     → IsRefusedAt ts other rest
     → why ≡ other
 same_fault ts why other rest p q =
     stable why other (λ differ. differ (p.other (λ w r. differ (p.own w r ∙ sym (q.own w r)))
     ∙ sym (q.other (λ w r. differ (p.own w r ∙ sym (q.own w r))))))
 
-same_place : (ts : List At) (why other : Fault) (a b : List At) → IsRefusedAt ts why a → IsRefusedAt ts other b
+same_place : (ts : List At) (why other : TextFault) (a b : List At) → IsRefusedAt ts why a → IsRefusedAt ts other b
     → a ≡ b
 same_place ts why other a b p q =
     let front_a : text.rule.Front ts a = p.viable a p.here ([], refl) in
@@ -43,7 +43,7 @@ same_place ts why other a b p q =
     let short : length a ≤ length b = p.no_further b front_b in
     same_end p.here.0 q.here.0 a b (sym p.here.1 ∙ q.here.1) (omega (arith, long, short))
 
-same_refusal : (bytes : List ℕ) (why other : Fault) (l m : ℕ) → IsRefusedText bytes why l
+same_refusal : (bytes : List ℕ) (why other : TextFault) (l m : ℕ) → IsRefusedText bytes why l
     → IsRefusedText bytes other m
     → refusal_of why l ≡ refusal_of other m
 same_refusal bytes why other l m p q =
@@ -56,7 +56,7 @@ same_refusal bytes why other l m p q =
 
 -- A refusal by its fault and its line.
 pub record IsRefusedAs (bytes : List ℕ) (refusal : ParseRefusal) : Type 0 where
-  pub why : Fault
+  pub why : TextFault
   pub line : ℕ
   pub is : refusal ≡ refusal_of why line
   pub refused : IsRefusedText bytes why line

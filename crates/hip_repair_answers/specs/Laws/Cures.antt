@@ -7,7 +7,7 @@ use Rattle.hip_repair_answers.specs.Cured.{IsCured, IsCuredBy}
 use Rattle.hip_repairs.proofs.Theorems as theorem
 use Rattle.hip_repairs.specs.Choice.{Contains, plan_for}
 use Rattle.hip_repairs.specs.Direct.{direct}
-use Rattle.hip_repairs.specs.Quiet.{IsQuiet}
+use Rattle.hip_repairs.specs.StayOutside.{StayOutside}
 use Rattle.hip_repairs.specs.declared.plan.Plan.{Plan}
 use Rattle.hip_runs.specs.Found.Marks.{IsFound}
 use Rattle.hip_runs.specs.Validity.{IsValid}
@@ -19,7 +19,7 @@ itself : (plan : Plan) → Contains plan plan
 itself plan = record { flush_after = λ s h. h; fence_after = λ s h. h; hoist = λ s h. h }
 
 pub cures_by : (P : Program) (I : Input) (plan : Plan) (skip : Site → Bool) (found : Findings) → IsSound P
-    → IsValid P I → IsQuiet P skip → IsFound P I found → Contains plan (plan_for P found)
+    → IsValid P I → StayOutside P skip → IsFound P I found → Contains plan (plan_for P found)
     → IsCuredBy P I plan skip
 cures_by P I plan skip found sound valid quiet is contains =
     let again = theorem.repaired_is_sound P plan skip sound in
@@ -37,4 +37,4 @@ pub cures : (P : Program) (I : Input) (found : Findings) → IsSound P → IsVal
     → IsCured P I found
 cures P I found sound valid is =
     let plan = plan_for P found in
-    cures_by P I plan (direct P) found sound valid (theorem.direct_stores_are_quiet P sound) is (itself plan)
+    cures_by P I plan (direct P) found sound valid (theorem.direct_stores_stay_outside P sound) is (itself plan)

@@ -8,7 +8,7 @@ use Rattle.hip_io.specs.Cabinets.{file_of}
 use Rattle.hip_io.specs.declared.cabinet.NamedFile.{NamedFile}
 use Rattle.hip_grammar.specs.Show.{show}
 use Rattle.hip_tree.specs.declared.program.Program.{Program}
-use Rattle.hip_program_files.specs.Loading.{IsProgramOf}
+use Rattle.hip_program_files.specs.LoadedPrograms.{IsProgramOf}
 use Rattle.hip_repair_answers.specs.Laws.Cures.{cures}
 use Rattle.hip_repair_answers.specs.Answers.{HasChecked, HasRepaired, HasRerun}
 use Rattle.hip_repair_answers.specs.Cured.{repaired_for}

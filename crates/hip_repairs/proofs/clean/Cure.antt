@@ -1,25 +1,23 @@
 -- A plan that has what was reported leaves nothing to report.
-use Rattle.std.proofs.Common.{◌≡◌, ◌⊎◌, inl, inr, ℕ, zero, suc, ◌+◌, ◌<◌, ◌≤◌, Bool, true, false, cond, not, ◌&&◌, ◌||◌, nat_lt, nat_le, nat_eq, List, [], ◌∷◌, ◌++◌, map, length, Option, Some, None, slice_get, refl, sym, ap, ap₂, ◌∙◌, subst, arith, le-leb, leb-true}
+use Rattle.std.proofs.Common.{◌≡◌, ◌⊎◌, inl, inr, ℕ, zero, suc, ◌+◌, ◌<◌, ◌≤◌, Bool, true, false, cond, not, ◌&&◌, ◌||◌, nat_lt, nat_le, nat_eq, List, [], ◌∷◌, ◌++◌, map, length, Option, Some, None, option_map, slice_get, refl, sym, ap, ap₂, ◌∙◌, subst, arith, le-leb, leb-true}
 use Rattle.std.specs.List.{list_any, range_with_len}
 use Rattle.std.proofs.lemmas.Bool.Decides.{nat_tests}
-use Rattle.hip_tree.specs.Laws.SiteLaws.{site_same}
-use Rattle.hip_tree.specs.Sites.{instr_of, has_site}
-use Rattle.hip_tree.specs.declared.instr.Instr.{Instr}
+use Rattle.hip_tree.specs.Sites.{has_site}
 use Rattle.hip_tree.specs.declared.program.Program.{Program}
 use Rattle.hip_tree.specs.declared.site.Site.{Site}
 use Rattle.hip_lines.specs.Line.{Line}
-use Rattle.hip_runs.specs.declared.report.Findings.{Findings}
+use Rattle.hip_runs.specs.declared.report.Kind.TheVariants.{MissingFlush}
 use Rattle.hip_runs.specs.declared.report.Report.{Report}
 use Rattle.hip_runs.specs.Crash.{covers}
 use Rattle.hip_runs.specs.StoredParts.History.{HasHistory}
 use Rattle.hip_runs.specs.StoredParts.Parts.{In, PartOf}
 use Rattle.hip_runs.specs.Laws.PartLaws.{in-append, append-left, append-right}
-use Rattle.hip_runs.specs.Found.Reports.{LoosePart, Range, shows, is_last, loose_from, loose_in, loose_parts, all_flushed, latest_flush, later_flush, is_open, closed_count, report_by, report_of, check_reports}
+use Rattle.hip_runs.specs.Found.Reports.{LoosePart, Range, shows, is_last, loose_from, loose_in, loose_parts, all_flushed, latest_flush, later_flush, kind_of, flush_site_of, is_open, report_by, report_of, check_reports}
 use Rattle.hip_runs.specs.State.{Level, Flush, StorePart, State, levels_of}
 use Rattle.hip_repairs.specs.declared.plan.Plan.{Plan}
-use Rattle.hip_repairs.specs.Choice.{Contains, choice, plan_for, best_on, asks_flush, asks_fence, asks_hoist}
+use Rattle.hip_repairs.specs.Mending.{FencesFlush, FlushesStore, HoistsCall, Mends}
 use Rattle.hip_repairs.specs.Harmless.{Content}
-use Rattle.hip_repairs.proofs.clean.Asked.{has_flush, has_fence, has_hoist, IsLevel, best_on_is, returned_at, in_open, in_range, in_flat}
+use Rattle.hip_repairs.proofs.clean.Asked.{returned_at, in_open, in_range, in_flat}
 use Rattle.hip_repairs.proofs.simulation.Ahead.{Ahead}
 use Rattle.hip_repairs.proofs.simulation.Facts.{Lines, Known}
 use Rattle.hip_repairs.proofs.clean.Kept.{Safe, AllSafe, AllKept}
@@ -207,7 +205,7 @@ module _ (plan : Plan) (up : List Level) (F : Flush → Type 0) (o n : ℕ) (Who
 
 -- ---- a check of the program, and the line across
 
-module _ (P : Program) (plan : Plan) (found : Findings) (contains : Contains plan (plan_for P found)) (s : State) (history : HasHistory P s) (range : Range) (there : (r : Report) → In r (check_reports s (Some range)) → In r found.reports) where
+module _ (P : Program) (plan : Plan) (s : State) (history : HasHistory P s) (range : Range) (mends : (r : Report) → In r (check_reports s (Some range)) → Mends plan r) where
   abbrev up : List Level
   up = levels_of s.frames
 
@@ -217,11 +215,11 @@ module _ (P : Program) (plan : Plan) (found : Findings) (contains : Contains pla
   abbrev report : LoosePart → List LoosePart → Report
   report p ps = report_by up (suc s.counts.entries) p.part (p ∷ ps)
 
-  -- The report of a store that has loose parts is one of those found.
-  found_there : (made : ℕ) (p : LoosePart) (ps : List LoosePart) → loose made ≡ p ∷ ps → made < s.counts.steps → In (report p ps) found.reports
-  found_there made p ps e lt =
-      there (report p ps) (in_flat (λ m. report_of up (suc s.counts.entries) (loose m)) (range_with_len 0 s.counts.steps) made (report p ps) (in_range 0 s.counts.steps made (omega arith) (omega arith))
-      (subst (λ (qs : List LoosePart). In (report p ps) (report_of up (suc s.counts.entries) qs)) (sym e) (inl refl)))
+  -- The report of a store that has loose parts is one of the check.
+  report_there : (made : ℕ) (p : LoosePart) (ps : List LoosePart) → loose made ≡ p ∷ ps → made < s.counts.steps → In (report p ps) (check_reports s (Some range))
+  report_there made p ps e lt =
+      in_flat (λ m. report_of up (suc s.counts.entries) (loose m)) (range_with_len 0 s.counts.steps) made (report p ps) (in_range 0 s.counts.steps made (omega arith) (omega arith))
+      (subst (λ (qs : List LoosePart). In (report p ps) (report_of up (suc s.counts.entries) qs)) (sym e) (inl refl))
 
   -- A loose part x at place k of a line; g' parts of the repaired program's line are durable, and p' are flushed.
   module _ (x : StorePart) (k p g' p' : ℕ) (safe : Safe plan up (Known s.lines) g' p' k x) (noted : k < p → (f : Flush) × (x.first_flush ≡ Some f)) (made : PartOf s.lines x) where
@@ -229,14 +227,11 @@ module _ (P : Program) (plan : Plan) (found : Findings) (contains : Contains pla
     here = record { part = x; flushed = nat_lt k p }
 
     module _ (q : LoosePart) (qs : List LoosePart) (e : loose x.step ≡ q ∷ qs) (is_loose : In here (q ∷ qs)) where
-      r : Report
-      r = report q qs
-
       q_in : PartOf s.lines q.part × (q.part.step ≡ x.step)
       q_in = loose_part range.offset range.size x.step s.lines q (subst (In q) (sym e) (inl refl))
 
-      r_found : In (report q qs) found.reports
-      r_found = found_there x.step q qs e (history.made x made)
+      mended : Mends plan (report q qs)
+      mended = mends (report q qs) (report_there x.step q qs e (history.made x made))
 
       same_site_as : q.part.site ≡ x.site
       same_site_as = history.site q.part x q_in.0 made q_in.1
@@ -247,75 +242,71 @@ module _ (P : Program) (plan : Plan) (found : Findings) (contains : Contains pla
       same_fenced : q.part.fenced ≡ x.fenced
       same_fenced = history.fenced q.part x q_in.0 made q_in.1
 
-      -- All loose parts are flushed.
-      by_fence : all_flushed (q ∷ qs) ≡ true → k < g'
-      by_fence all =
-          let lt : k < p = all_in (q ∷ qs) is_loose all in
-          let f1 = noted lt in
-          let l = latest_there (q ∷ qs) here f1.0 is_loose f1.1 in
-          let from = loose_part range.offset range.size x.step s.lines l.2.of.0 (subst (In l.2.of.0) (sym e) l.2.of.1) in
-          let at = history.flush_there l.2.of.0.part l.0 from.0 l.2.of.2 in
-          safe.fences f1.0 l.0 f1.1 (l.2.of.0.part, from.0, l.2.of.2) (l.2.last here f1.0 is_loose f1.1)
-          (has_fence P plan found contains (report q qs) r_found l.0.site at.0 at.1 (asks l.0 l.1 all))
+      -- All loose parts are flushed, and a fence comes after the flush that is named.
+      by_fence : FencesFlush plan (report q qs) → k < g'
+      by_fence h = go (all_flushed (q ∷ qs)) refl h.at
         where
           all_in : (ps : List LoosePart) → In here ps → all_flushed ps ≡ true → k < p
           all_in [] i h = absurd i
           all_in (y ∷ ps) (inl same) h = let f : nat_lt k p ≡ true = ap (λ (z : LoosePart). z.flushed) same ∙ (and_true y.flushed (all_flushed ps) h).0 in grind (arith, nat_tests)
           all_in (y ∷ ps) (inr i) h = all_in ps i (and_true y.flushed (all_flushed ps) h).1
 
-          asks : (f : Flush) → latest_flush (q ∷ qs) ≡ Some f → all_flushed (q ∷ qs) ≡ true → asks_fence (report q qs).kind (choice P found (report q qs)) (report q qs).flush_site (report q qs).path f.site ≡ true
-          asks f is all = rw (all, is) (site_same f.site)
+          site_is : (f : Flush) (site : Site) (o : Option Flush) → o ≡ Some f → option_map (λ (f : Flush). f.site) o ≡ Some site → f.site ≡ site
+          site_is f site o t e = let z : Some f.site ≡ Some site = sym (ap (option_map (λ (f : Flush). f.site)) t) ∙ e in cc
+
+          go : (t : Bool) → all_flushed (q ∷ qs) ≡ t → flush_site_of t (q ∷ qs) ≡ Some h.site → k < g'
+          go false all e = absurd (let z : ⊥ = cc in z)
+          go true all at =
+              let lt : k < p = all_in (q ∷ qs) is_loose all in
+              let f1 = noted lt in
+              let l = latest_there (q ∷ qs) here f1.0 is_loose f1.1 in
+              let from = loose_part range.offset range.size x.step s.lines l.2.of.0 (subst (In l.2.of.0) (sym e) l.2.of.1) in
+              safe.fences f1.0 l.0 f1.1 (l.2.of.0.part, from.0, l.2.of.2) (l.2.last here f1.0 is_loose f1.1)
+              (subst (λ (t : Site). has_site plan.fence_after t ≡ true) (sym (site_is l.0 h.site (latest_flush (q ∷ qs)) l.1 at)) h.planned)
 
       -- The store itself is repaired.
-      level_0 : all_flushed (q ∷ qs) ≡ false → best_on P found (closed_count up q.part.levels) (q.part.site ∷ map (λ l. l.call) q.part.levels) ≡ 0 → k < g'
-      level_0 some level = go q.part.fenced refl
+      by_flush : FlushesStore plan (report q qs) → k < g'
+      by_flush h = go h.fence
         where
-          at : (i : Instr) × (instr_of P q.part.site ≡ Some i)
-          at = history.site_there q.part q_in.0
+          head_is : (a b : Site) → Some a ≡ Some b → a ≡ b
+          head_is a b e = cc
 
-          flush_asked : has_site plan.flush_after q.part.site ≡ true
-          flush_asked = has_flush P plan found contains (report q qs) r_found q.part.site at.0 at.1 (asks q.part.fenced refl)
-            where
-              asks : (t : Bool) → q.part.fenced ≡ t → asks_flush (report q qs).kind (choice P found (report q qs)) (report q qs).path q.part.site ≡ true
-              asks true t = rw (some, t, level) (site_same q.part.site)
-              asks false t = rw (some, t, level) (site_same q.part.site)
+          site_is : h.site ≡ x.site
+          site_is = sym (head_is q.part.site h.site h.at) ∙ same_site_as
 
           x_flush : has_site plan.flush_after x.site ≡ true
-          x_flush = subst (λ (t : Site). has_site plan.flush_after t ≡ true) same_site_as flush_asked
+          x_flush = subst (λ (t : Site). has_site plan.flush_after t ≡ true) site_is h.planned
 
-          fence_asked : q.part.fenced ≡ false → has_site plan.fence_after q.part.site ≡ true
-          fence_asked t = has_fence P plan found contains (report q qs) r_found q.part.site at.0 at.1 (rw (some, t, level) (site_same q.part.site))
+          fenced_of : (all fenced : Bool) → kind_of all fenced ≡ MissingFlush → fenced ≡ true
+          fenced_of true fenced e = absurd (let z : ⊥ = cc in z)
+          fenced_of false true e = refl
+          fenced_of false false e = absurd (let z : ⊥ = cc in z)
 
-          go : (t : Bool) → q.part.fenced ≡ t → k < g'
-          go true t = safe.fenced x_flush (sym same_fenced ∙ t)
-          go false t = safe.both x_flush (subst (λ (y : Site). has_site plan.fence_after y ≡ true) same_site_as (fence_asked t))
+          go : ((report q qs).kind ≡ MissingFlush) ⊎ (has_site plan.fence_after h.site ≡ true) → k < g'
+          go (inl kind) = safe.fenced x_flush (sym same_fenced ∙ fenced_of (all_flushed (q ∷ qs)) q.part.fenced kind)
+          go (inr fence) = safe.both x_flush (subst (λ (t : Site). has_site plan.fence_after t ≡ true) site_is fence)
 
       -- A call that has returned is hoisted.
-      level_up : all_flushed (q ∷ qs) ≡ false → IsLevel 1 (closed_count up q.part.levels) (map (λ l. l.call) q.part.levels) (best_on P found (closed_count up q.part.levels) (q.part.site ∷ map (λ l. l.call) q.part.levels)) → k < g'
-      level_up some level =
-          let v = returned_at up q.part.levels (history.split q.part q_in.0) level.0 level.1 in
-          let at = history.call_there q.part v.call q_in.0 v.of in
-          let level_is : best_on P found (closed_count up q.part.levels) (q.part.site ∷ map (λ l. l.call) q.part.levels) ≡ suc level.0 = omega (arith, level.3) in
-          durable v.call v.closed (safe.closed v.call (subst (In v.call) same_levels v.of) (has_hoist P plan found contains (report q qs) r_found v.call.call at.0 at.1 (asks q.part.fenced refl level.0 v.call level_is v.at)))
+      by_hoist : HoistsCall plan (report q qs) → k < g'
+      by_hoist h =
+          let v = returned_at up q.part.levels (history.split q.part q_in.0) h.number h.returned in
+          durable v.call v.closed (safe.closed v.call (subst (In v.call) same_levels v.of)
+          (subst (λ (t : Site). has_site plan.hoist t ≡ true) (call_is v.call.call h.site _ v.at h.at) h.planned))
         where
-          asks : (t : Bool) → q.part.fenced ≡ t → (n : ℕ) (v : Level) → best_on P found (closed_count up q.part.levels) (q.part.site ∷ map (λ l. l.call) q.part.levels) ≡ suc n → slice_get (map (λ l. l.call) q.part.levels) n ≡ Some v.call → asks_hoist (report q qs).kind (choice P found (report q qs)) (report q qs).path v.call ≡ true
-          asks true t n v is at = rw (some, t, is, at) (site_same v.call)
-          asks false t n v is at = rw (some, t, is, at) (site_same v.call)
+          call_is : (a b : Site) (o : Option Site) → o ≡ Some a → o ≡ Some b → b ≡ a
+          call_is a b o e f = let z : Some b ≡ Some a = sym f ∙ e in cc
 
           durable : (v : Level) → is_open up v ≡ false → (k < g') ⊎ In v up → k < g'
           durable v closed (inl lt) = lt
           durable v closed (inr i) = let z = in_open up v i in absurd (let y : ⊥ = cc in y)
 
       cured_here : k < g'
-      cured_here = go (all_flushed (q ∷ qs)) refl
+      cured_here = go mended
         where
-          go : (t : Bool) → all_flushed (q ∷ qs) ≡ t → k < g'
-          go true all = by_fence all
-          go false some = by (best_on_is P found (closed_count up q.part.levels) q.part.site (map (λ l. l.call) q.part.levels))
-            where
-              by : (best_on P found (closed_count up q.part.levels) (q.part.site ∷ map (λ l. l.call) q.part.levels) ≡ 0) ⊎ IsLevel 1 (closed_count up q.part.levels) (map (λ l. l.call) q.part.levels) (best_on P found (closed_count up q.part.levels) (q.part.site ∷ map (λ l. l.call) q.part.levels)) → k < g'
-              by (inl e) = level_0 some e
-              by (inr l) = level_up some l
+          go : Mends plan (report q qs) → k < g'
+          go (inl h) = by_fence h
+          go (inr (inl h)) = by_flush h
+          go (inr (inr h)) = by_hoist h
 
     cured_part : In here (loose x.step) → k < g'
     cured_part i = go (loose x.step) refl i

@@ -4,7 +4,7 @@ use Rattle.std.specs.Prelude.{is_some}
 use Rattle.std.specs.List.{flat_map, range_with_len}
 use Rattle.hip_tree.specs.declared.program.Program.{Program}
 use Rattle.hip_tree.specs.declared.site.Site.{Site}
-use Rattle.hip_sound.specs.Rules.{Passes}
+use Rattle.hip_sound.specs.Rules.{PassesVerifier}
 use Rattle.hip_runs.specs.declared.event.Ending.{Ending}
 use Rattle.hip_runs.specs.declared.input.Input.{Input}
 use Rattle.hip_runs.specs.declared.report.Findings.{Findings}
@@ -19,11 +19,13 @@ use Rattle.hip_runs.specs.Validity.{IsValid}
 use Rattle.hip_repairs.specs.declared.plan.Plan.{Plan}
 use Rattle.hip_repairs.specs.Choice.{Contains, plan_for}
 use Rattle.hip_repairs.specs.Clean.{IsClean}
+use Rattle.hip_repairs.specs.Mending.{MendsAll}
 use Rattle.hip_repairs.specs.Harmless.{stands_inserted, matched}
-use Rattle.hip_repairs.specs.Quiet.{IsQuiet}
+use Rattle.hip_repairs.specs.StayOutside.{StayOutside}
 use Rattle.hip_repairs.specs.Repaired.{repaired}
 use Rattle.hip_repairs.proofs.simulation.Ahead.{Ahead}
 use Rattle.hip_repairs.proofs.clean.Cure.{none_loose}
+use Rattle.hip_repairs.proofs.clean.Mended.{contained_mends}
 use Rattle.hip_repairs.proofs.clean.Events.{Checks, checks}
 use Rattle.hip_repairs.proofs.simulation.Facts.{Lines}
 use Rattle.hip_runs.specs.Laws.HistoryLaws.{has_history}
@@ -68,7 +70,7 @@ lines_ahead (related t r b a h le) = a
 same_world : {P : Program} {plan : Plan} {skip : Site → Bool} {I : Input} {Holds : List Level → Lines → Lines → Type 0} {size : ℕ} {s s' : State} → Related P plan skip I Holds size s s' → s'.world ≡ s.world
 same_world (related t r b a h le) = refl
 
-module _ (P : Program) (plan : Plan) (skip : Site → Bool) (I : Input) (good : IsCallable P) (valid : IsValid P I) (still : IsQuiet P skip) (found : Findings) (is_found : IsFound P I found) (contains : Contains plan (plan_for P found)) where
+module _ (P : Program) (plan : Plan) (skip : Site → Bool) (I : Input) (good : IsCallable P) (valid : IsValid P I) (still : StayOutside P skip) (found : Findings) (is_found : IsFound P I found) (mends : MendsAll plan found) where
   abbrev Q : Program
   Q = repaired P plan skip
 
@@ -123,7 +125,7 @@ module _ (P : Program) (plan : Plan) (skip : Site → Bool) (I : Input) (good : 
               let check : next_check P I (run P I j) ≡ Some range = ap (λ (b : Bool). cond b None (checked_by I (event P I (run P I j)))) not_ended ∙ ap (checked_by I) (sym (c.same t)) ∙ checked_there range e going in
               flat_nothing _ (range_with_len 0 (run Q I n).counts.steps)
               (λ made. ap (report_of (levels_of (run Q I n).frames) (suc (run Q I n).counts.entries))
-              (none_loose P plan found contains (run P I j) (has_history P I j) range (λ r i. report_found j r not_ended (subst (λ (o : Option Range). In r (check_reports (run P I j) o)) (sym check) i)) (run Q I n).lines (lines_ahead f.pair) (c.holds t still) made))
+              (none_loose P plan (run P I j) (has_history P I j) range (λ r i. mends r (report_found j r not_ended (subst (λ (o : Option Range). In r (check_reports (run P I j) o)) (sym check) i))) (run Q I n).lines (lines_ahead f.pair) (c.holds t still) made))
 
       go : (o : Option Range) → next_check Q I (run Q I n) ≡ o → check_reports (run Q I n) o ≡ []
       go None e = refl
@@ -134,5 +136,9 @@ module _ (P : Program) (plan : Plan) (skip : Site → Bool) (I : Input) (good : 
   clean_run zero = refl
   clean_run (suc n) = ap₂ (λ xs ys. xs ++ ys) (clean_run n) (step_clean n)
 
-pub clean : (P : Program) (plan : Plan) (skip : Site → Bool) (I : Input) (found : Findings) → Passes P → IsValid P I → IsQuiet P skip → IsFound P I found → Contains plan (plan_for P found) → IsClean (repaired P plan skip) I
-clean P plan skip I found sound valid still is_found contains = clean_run P plan skip I (sound_callable P sound) valid still found is_found contains
+-- A plan that mends each report that was found, at whatever level, leaves nothing to report.
+pub mended_clean : (P : Program) (plan : Plan) (skip : Site → Bool) (I : Input) (found : Findings) → PassesVerifier P → IsValid P I → StayOutside P skip → IsFound P I found → MendsAll plan found → IsClean (repaired P plan skip) I
+mended_clean P plan skip I found sound valid still is_found mends = clean_run P plan skip I (sound_callable P sound) valid still found is_found mends
+
+pub clean : (P : Program) (plan : Plan) (skip : Site → Bool) (I : Input) (found : Findings) → PassesVerifier P → IsValid P I → StayOutside P skip → IsFound P I found → Contains plan (plan_for P found) → IsClean (repaired P plan skip) I
+clean P plan skip I found sound valid still is_found contains = mended_clean P plan skip I found sound valid still is_found (contained_mends P I plan found is_found contains)

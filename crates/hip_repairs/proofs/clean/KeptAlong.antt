@@ -10,7 +10,7 @@ use Rattle.hip_runs.specs.Laws.PartLaws.{part-fenced, part-flushed, part-stored}
 use Rattle.hip_runs.specs.StoredParts.Persistence.{part_of_store, earlier, noted_flush, flush_line, flushes_lines, flushed_lines, fenced_lines}
 use Rattle.hip_runs.specs.State.{Level, Flush, StorePart, Counts}
 use Rattle.hip_repairs.specs.declared.plan.Plan.{Plan}
-use Rattle.hip_repairs.specs.Quiet.{IsQuiet}
+use Rattle.hip_repairs.specs.StayOutside.{StayOutside}
 use Rattle.hip_repairs.proofs.simulation.Facts.{Lines, Known, fence_if, flush_if, Keeps}
 use Rattle.hip_repairs.proofs.clean.Kept.{AllKept, kept_less, kept_more_fence, kept_more_flush, kept_fence, kept_flush, kept_persist, kept_store_from, kept_call, kept_return, kept_fenced_return, kept_start}
 
@@ -41,7 +41,7 @@ known_stored part o n ls h fresh k = go (part-stored part o n ls k.0 k.1)
 
 module _ (P : Program) (plan : Plan) (skip : Site → Bool) (I : Input) where
   abbrev pub Held : List Level → Lines → Lines → Type 0
-  Held up ls ls' = IsQuiet P skip → AllKept plan up (Known ls) ls ls'
+  Held up ls ls' = StayOutside P skip → AllKept plan up (Known ls) ls ls'
 
   wanted_flush : (x s y : Bool) → s ≡ false → x ≡ true → y || (x && not s) ≡ true
   wanted_flush true true y z e = absurd (let h : ⊥ = cc in h)

@@ -8,7 +8,7 @@ use Rattle.hip_runs.specs.declared.input.Input.{Input}
 use Rattle.hip_runs.specs.StoredParts.Persistence.{part_of_store, noted_flush, noted_fence, flush_line, fence_line, flushes_lines, flushed_lines, fenced_lines}
 use Rattle.hip_runs.specs.State.{Level, Flush, StorePart}
 use Rattle.hip_repairs.specs.declared.plan.Plan.{Plan}
-use Rattle.hip_repairs.specs.Quiet.{IsQuiet}
+use Rattle.hip_repairs.specs.StayOutside.{StayOutside}
 use Rattle.hip_repairs.proofs.simulation.Facts.{Lines, fence_if, flush_if, Keeps}
 
 -- Of the parts from place k on, each part whose site is in a function with a number of at least N is at a place below
@@ -98,7 +98,7 @@ module _ (N : ℕ) (flush : Flush) (part : ℕ → StorePart) (o n len : ℕ) (s
 
 module _ (P : Program) (plan : Plan) (skip : Site → Bool) (I : Input) where
   abbrev pub CloneFlushed : List Level → Lines → Lines → Type 0
-  CloneFlushed up ls ls' = IsQuiet P skip → AllFlushed (length P.functions) ls'
+  CloneFlushed up ls ls' = StayOutside P skip → AllFlushed (length P.functions) ls'
 
   -- A store after which no flush is inserted is not a store of a clone.
   no_clone : (planned clone skipped : Bool) → skipped ≡ false → planned || (clone && not skipped) ≡ false → clone ≡ false

@@ -7,7 +7,7 @@ use Rattle.hip_tree.specs.declared.program.Program.{Program}
 use Rattle.hip_tree.specs.declared.site.Site.{Site}
 use Rattle.hip_lines.specs.Line.{Line}
 use Rattle.hip_externs.specs.Externs.{call_of}
-use Rattle.hip_sound.specs.Rules.{Passes}
+use Rattle.hip_sound.specs.Rules.{PassesVerifier}
 use Rattle.hip_externs.specs.declared.call.ExternCall.{ExternCall}
 use Rattle.hip_externs.specs.declared.call.ExternCall.TheVariants as calls
 use Rattle.hip_runs.specs.declared.input.Input.{Input}
@@ -23,7 +23,7 @@ use Rattle.hip_runs.specs.Validity.{IsValid}
 use Rattle.hip_repairs.specs.declared.plan.Plan.{Plan}
 use Rattle.hip_repairs.specs.Covered.{is_fence, IsFenceCall, IsCallOf, IsAfterCloneCall, IsLastBefore, IsAtCall, CallsClone, IsCovered}
 use Rattle.hip_repairs.specs.Harmless.{marked_body, matched}
-use Rattle.hip_repairs.specs.Quiet.{IsQuiet}
+use Rattle.hip_repairs.specs.StayOutside.{StayOutside}
 use Rattle.hip_repairs.specs.Repaired.{Marked, wanted_by, clones_of, repaired, instrs_of, repaired_body}
 use Rattle.hip_repairs.proofs.functions.Blocks.{body_twin}
 use Rattle.hip_repairs.proofs.covered.CalledClones.{calls_clone_there}
@@ -152,7 +152,7 @@ module _ (P : Program) (plan : Plan) (skip : Site → Bool) (good : IsCallable P
     ap (drop k') (body_twin P plan skip clone g g' tw b) ∙ drop-map (λ (x : Marked). x.0) k' (marked_body P (clones_of P plan) (wanted_by plan skip) clone g b) ∙ ap instrs_of e',
   )
 
-  module _ (I : Input) (still : IsQuiet P skip) where
+  module _ (I : Input) (still : StayOutside P skip) where
     -- At a fence, the lines after it.
     flushed_pending : (w : World) (regs : Registers) (pend more : List Marked) (range : Option (ℕ × ℕ)) (fenced : Bool) (site : Flush) (ls : Lines) (i : Instr) (is : List Instr) → Ready P plan skip I w regs pend range fenced → AllFlushed N (pending_lines I site range fenced ls) →
         instrs_of (pend ++ more) ≡ i ∷ is → ActsFence Q i → AllFlushed N (fenced_lines ls)
@@ -213,7 +213,7 @@ module _ (P : Program) (plan : Plan) (skip : Site → Bool) (good : IsCallable P
           let i = matched P plan skip I j in
           (i, calls_clone_there P plan skip good I (CloneFlushed P plan skip I) r.size (run P I i) (run Q I j) r.pair (going Q I j n (omega arith) after.going) top.0 top.1 top.2 since.call)
 
-pub covered : (P : Program) (plan : Plan) (skip : Site → Bool) → Passes P → IsQuiet P skip → IsCovered P (repaired P plan skip)
+pub covered : (P : Program) (plan : Plan) (skip : Site → Bool) → PassesVerifier P → StayOutside P skip → IsCovered P (repaired P plan skip)
 covered P plan skip sound still = record {
   call = λ I valid. call_found P plan skip (sound_callable P sound) I still valid;
   clone = λ I valid. clone_called P plan skip (sound_callable P sound) I still valid;

@@ -9,8 +9,8 @@ use Rattle.hip_tree.specs.declared.instr.Instr.{Instr}
 use Rattle.hip_tree.specs.declared.instr.Instr.TheVariants.{Call}
 use Rattle.hip_tree.specs.declared.program.Program.{Program}
 use Rattle.hip_tree.specs.declared.site.Site.{Site}
-use Rattle.hip_sound.specs.Numbering.{function_number}
-use Rattle.hip_sound.specs.Rules.{Passes}
+use Rattle.hip_sound.specs.NumberedNames.{function_number}
+use Rattle.hip_sound.specs.Rules.{PassesVerifier}
 use Rattle.hip_runs.specs.Places.{body_at}
 use Rattle.hip_repairs.specs.declared.plan.Plan.{Plan}
 use Rattle.hip_repairs.specs.Covered.{IsFenceCall, IsCallOf, repaired_place, IsFenced, IsHoisted, AreHoistsFenced}
@@ -94,7 +94,7 @@ module _ (P : Program) (plan : Plan) (skip : Site → Bool) (good : IsCallable P
         cloned = λ c e. fenced_in clone.0 clone.2 true (length P.functions + c) (twin_of_clone P plan skip c s.function e);
       }
 
-pub hoists_fenced : (P : Program) (plan : Plan) (skip : Site → Bool) → Passes P → AreHoistsFenced P plan skip
+pub hoists_fenced : (P : Program) (plan : Plan) (skip : Site → Bool) → PassesVerifier P → AreHoistsFenced P plan skip
 hoists_fenced P plan skip sound s dest ret callee args g hoisted i number =
     let good = sound_callable P sound in
     let here = sym (instr_at_place P s.function s.block s.index) ∙ i in

@@ -23,7 +23,7 @@ use Rattle.hip_tree.specs.declared.program.Program.{Program}
 use Rattle.hip_tree.specs.declared.site.Site.{Site}
 use Rattle.hip_externs.specs.Externs.{call_of}
 use Rattle.hip_names.specs.Names.{number_of}
-use Rattle.hip_sound.specs.Numbering.{function_names, function_number, name_in}
+use Rattle.hip_sound.specs.NumberedNames.{function_names, function_number, name_in}
 use Rattle.hip_names.specs.Laws.NumberLaws.{number_of-first, number_of-past, number_of-known, number_of-there}
 use Rattle.hip_sound.specs.Laws.NumberingLaws.{function_number-there}
 use Rattle.hip_sound.specs.Sound.{top_names}

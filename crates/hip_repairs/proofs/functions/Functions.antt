@@ -6,7 +6,7 @@ use Rattle.hip_tree.specs.declared.program.Function.{Function}
 use Rattle.hip_tree.specs.declared.program.Program.{Program}
 use Rattle.hip_tree.specs.declared.site.Site.{Site}
 use Rattle.hip_names.specs.Names.{number_of}
-use Rattle.hip_sound.specs.Numbering.{function_names, function_number}
+use Rattle.hip_sound.specs.NumberedNames.{function_names, function_number}
 use Rattle.hip_names.specs.Laws.NumberLaws.{number_of-front}
 use Rattle.hip_calls.specs.Fresh.{fresh_names}
 use Rattle.hip_runs.specs.Places.{blocks_in}

@@ -10,9 +10,9 @@ use Rattle.hip_tree.specs.declared.program.Program.{Program}
 use Rattle.hip_tree.specs.declared.site.Site.{Site}
 use Rattle.hip_types.specs.declared.number.Scalar.{Scalar}
 use Rattle.hip_externs.specs.Externs.{call_of}
-use Rattle.hip_sound.specs.Numbering.{function_number}
+use Rattle.hip_sound.specs.NumberedNames.{function_number}
 use Rattle.hip_sound.specs.Laws.NumberingLaws.{function_number-there, function_number-within}
-use Rattle.hip_sound.specs.Rules.{Passes}
+use Rattle.hip_sound.specs.Rules.{PassesVerifier}
 use Rattle.hip_externs.specs.declared.call.ExternCall.{ExternCall}
 use Rattle.hip_runs.specs.Places.{body_at}
 use Rattle.hip_runs.specs.Step.{main_number}
@@ -25,7 +25,7 @@ use Rattle.hip_repairs.proofs.functions.Functions.{twin_of_plain, plain_code, pl
 use Rattle.hip_repairs.proofs.functions.Twins.{Twin, CallsTwin}
 
 -- A sound program is callable.
-pub sound_callable : (P : Program) → Passes P → IsCallable P
+pub sound_callable : (P : Program) → PassesVerifier P → IsCallable P
 sound_callable P sound = callable_of P sound
 
 -- A function that has a number is there.

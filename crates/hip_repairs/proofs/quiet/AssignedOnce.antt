@@ -18,7 +18,7 @@ use Rattle.hip_names.specs.Laws.NameLaws.{among-sound}
 use Rattle.hip_names.specs.Names.{AllDiffer, is_among}
 use Rattle.hip_sound.specs.Paths.{names_of}
 use Rattle.hip_sound.specs.Registers.{Register, assigned_by, body_registers, phi_registers, block_registers, parameter_registers}
-use Rattle.hip_sound.specs.Rules.{Passes, inner_check}
+use Rattle.hip_sound.specs.Rules.{PassesVerifier, inner_required}
 use Rattle.hip_sound.specs.Sound.{names_in_block, names_in_function}
 use Rattle.hip_sound.specs.Laws.Decided.{holds-at}
 use Rattle.hip_names.specs.Laws.NameLaws.{bytes_eq-sym}
@@ -161,10 +161,10 @@ no_parameter fn q d h = false_from_ne_true _ (λ all. differ_apart (names_of (pa
 
 -- ---- the functions of a sound program
 
-pub differ_inside : (P : Program) (g : ℕ) (fn : Function) → Passes P → slice_get P.functions g ≡ Some fn → AllDiffer (names_in_function fn)
-differ_inside P g fn sound e = inner-sound g fn (holds-at inner_check P.functions g fn sound.registers e)
+pub differ_inside : (P : Program) (g : ℕ) (fn : Function) → PassesVerifier P → slice_get P.functions g ≡ Some fn → AllDiffer (names_in_function fn)
+differ_inside P g fn sound e = inner-sound g fn (holds-at inner_required P.functions g fn sound.registers e)
 
-pub once : (P : Program) (g : ℕ) → Passes P → Once (blocks_of P g)
+pub once : (P : Program) (g : ℕ) → PassesVerifier P → Once (blocks_of P g)
 once P g sound = go (slice_get P.functions g) refl
   where
     go : (o : Option Function) → slice_get P.functions g ≡ o → Once (blocks_in o)

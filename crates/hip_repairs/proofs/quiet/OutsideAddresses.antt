@@ -17,7 +17,7 @@ use Rattle.hip_globals.specs.Addresses.{start_of, is_persistent, address_in, vol
 use Rattle.hip_names.specs.Laws.NameLaws.{among-sound}
 use Rattle.hip_names.specs.Names.{AllDiffer, is_among, number_of}
 use Rattle.hip_names.specs.Laws.NumberLaws.{number_cases}
-use Rattle.hip_sound.specs.Rules.{Passes}
+use Rattle.hip_sound.specs.Rules.{PassesVerifier}
 use Rattle.hip_sound.specs.Sound.{callee_names}
 use Rattle.hip_globals.specs.Values.{Written, global_address, const_value}
 use Rattle.hip_names.specs.Laws.NameLaws.{bytes_eq-sym}
@@ -56,7 +56,7 @@ volatile_number (g ∷ gs) name k d e f = ⊎_elim (λ h. first h.0 h.2) (λ h. 
 
 -- ---- addresses in a sound program
 
-module _ (P : Program) (sound : Passes P) where
+module _ (P : Program) (sound : PassesVerifier P) where
   globals_differ : AllDiffer (names_of_globals P.globals)
   globals_differ =
       differ_first (names_of_globals P.globals) (callee_names P) (names-sound P sound.names)

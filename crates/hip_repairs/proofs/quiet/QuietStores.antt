@@ -8,7 +8,7 @@ use Rattle.hip_tree.specs.declared.instr.Operand.{Operand}
 use Rattle.hip_tree.specs.declared.instr.Operand.TheVariants.{Reg, Fixed}
 use Rattle.hip_tree.specs.declared.program.Program.{Program}
 use Rattle.hip_types.specs.Bytes.{little_endian}
-use Rattle.hip_sound.specs.Rules.{Passes}
+use Rattle.hip_sound.specs.Rules.{PassesVerifier}
 use Rattle.hip_runs.specs.declared.event.Ending.{Ending}
 use Rattle.hip_runs.specs.declared.event.Ending.TheVariants.{Cut}
 use Rattle.hip_runs.specs.declared.event.Event.TheVariants as events
@@ -22,13 +22,13 @@ use Rattle.hip_runs.specs.Step.{is_cut, event_of, event_at, event_on_frames, eve
 use Rattle.hip_runs.specs.Validity.{IsValid}
 use Rattle.hip_invariants.specs.Laws.Registers.Facts.{values_in_frames}
 use Rattle.hip_repairs.specs.Direct.{is_outside, stores_outside, direct}
-use Rattle.hip_repairs.specs.Quiet.{stores_in_region, IsQuiet}
+use Rattle.hip_repairs.specs.StayOutside.{stores_in_region, StayOutside}
 use Rattle.hip_runs.specs.Laws.Members.{get_drop}
 use Rattle.hip_repairs.proofs.quiet.OutsideAddresses.{constant_low}
 use Rattle.hip_runs.specs.Laws.HistoryLaws.{instr_at_place}
 use Rattle.hip_repairs.proofs.quiet.StackRegisters.{AreLow, IsLow, Any, run_low, are_low}
 
-module _ (P : Program) (sound : Passes P) (I : Input) where
+module _ (P : Program) (sound : PassesVerifier P) (I : Input) where
   -- ---- a store
 
   module _ (valid : IsValid P I) where
@@ -101,5 +101,5 @@ module _ (P : Program) (sound : Passes P) (I : Input) where
         go (Some x) = λ t. t
         go None = subst (λ (gs : List Frame). ¬ stores_in_region (event_on_frames P I s.world gs)) (sym e) (code_quiet s.world f fs (code_at P f) refl (are_low P f.function f.registers here.0) at)
 
-pub quiet_stores : (P : Program) → Passes P → IsQuiet P (direct P)
+pub quiet_stores : (P : Program) → PassesVerifier P → StayOutside P (direct P)
 quiet_stores P sound I valid n f fs e at = step_quiet P sound I valid (run P I n) f fs (run_low P sound I n) e at

@@ -13,7 +13,7 @@ use Rattle.hip_tree.specs.declared.program.Param.{Param}
 use Rattle.hip_tree.specs.declared.program.Program.{Program}
 use Rattle.hip_types.specs.Areas.{stack_end}
 use Rattle.hip_names.specs.Names.{is_among}
-use Rattle.hip_sound.specs.Rules.{Passes}
+use Rattle.hip_sound.specs.Rules.{PassesVerifier}
 use Rattle.hip_sound.specs.Sound.{IsBlockAt}
 use Rattle.hip_runs.specs.declared.input.Input.{Input}
 use Rattle.hip_runs.specs.Operands.{look_up, bound}
@@ -33,7 +33,7 @@ pub record IsLow (P : Program) (g : ℕ) (name : List ℕ) (v : ℕ) : Type 0 wh
 abbrev pub Any : ℕ → ℕ → Type 0
 Any g v = Unit {0}
 
-module _ (P : Program) (sound : Passes P) (I : Input) where
+module _ (P : Program) (sound : PassesVerifier P) (I : Input) where
   beside : (g : ℕ) (name : List ℕ) (v : ℕ) → allocates_in (blocks_of P g) name ≡ false → IsLow P g name v
   beside g name v a = record { is = λ t. absurd (both_ways _ a t) }
 

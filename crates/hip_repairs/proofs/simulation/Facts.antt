@@ -10,7 +10,7 @@ use Rattle.hip_runs.specs.StoredParts.Persistence.{part_of_store, flushes_lines,
 use Rattle.hip_runs.specs.StoredParts.Parts.{In, PartOf}
 use Rattle.hip_runs.specs.State.{Level, Flush, StorePart, Counts}
 use Rattle.hip_repairs.specs.declared.plan.Plan.{Plan}
-use Rattle.hip_repairs.specs.Quiet.{IsQuiet}
+use Rattle.hip_repairs.specs.StayOutside.{StayOutside}
 
 abbrev pub Lines : Type 0
 Lines = List (Line StorePart)
@@ -47,7 +47,7 @@ pub record Keeps (P : Program) (plan : Plan) (skip : Site → Bool) (I : Input) 
       ((j : ℕ) → has_bytes j (a - I.base) n ≡ has_bytes j (a - I.base) (length bytes)) →
       (clone ≡ false → s'.function < length P.functions) →
       ((v : Level) → In v up → has_site plan.hoist v.call ≡ true → clone ≡ true) →
-      (IsQuiet P skip → skip s ≡ false) →
+      (StayOutside P skip → skip s ≡ false) →
       Holds up ls ls' →
       Holds up (stored (part_of_store counts s up (a - I.base) bytes) (a - I.base) (length bytes) ls)
       (fence_if (has_site plan.fence_after s || has_site plan.hoist s) (flush_if (has_site plan.flush_after s || (clone && not (skip s))) I flush' a n (stored (part_of_store counts' s' up' (a - I.base) bytes) (a - I.base) (length bytes) ls')))

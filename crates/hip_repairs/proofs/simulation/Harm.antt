@@ -2,7 +2,7 @@
 use Rattle.std.proofs.Common.{◌≡◌, ◌⊎◌, inl, inr, ℕ, ◌+◌, ◌*◌, Bool, true, false, List, ◌∷◌, length, Option, Some, slice_get, refl, arith}
 use Rattle.hip_tree.specs.declared.program.Program.{Program}
 use Rattle.hip_tree.specs.declared.site.Site.{Site}
-use Rattle.hip_sound.specs.Rules.{Passes}
+use Rattle.hip_sound.specs.Rules.{PassesVerifier}
 use Rattle.hip_runs.specs.declared.input.Input.{Input}
 use Rattle.hip_runs.specs.State.{Level, Frame, State}
 use Rattle.hip_runs.specs.Step.{run}
@@ -54,7 +54,7 @@ module _ (P : Program) (plan : Plan) (skip : Site → Bool) where
     images = λ content. ahead_images I (record { world = w; frames = f ∷ fs; lines = ls; counts = c }) (record { world = w; frames = f' ∷ fs'; lines = ls'; counts = c' }) content a;
   }
 
-pub harmless : (P : Program) (plan : Plan) (skip : Site → Bool) → Passes P → IsHarmless P plan skip
+pub harmless : (P : Program) (plan : Plan) (skip : Site → Bool) → PassesVerifier P → IsHarmless P plan skip
 harmless P plan skip sound =
     let good = sound_callable P sound in
     record {

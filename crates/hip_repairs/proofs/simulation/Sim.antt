@@ -22,7 +22,7 @@ use Rattle.hip_types.specs.Bytes.{bytes_of, little_endian}
 use Rattle.hip_mem.specs.Laws.BytesLaws.{length-bytes_of}
 use Rattle.hip_num.specs.declared.arithmetic.NumTrap.{NumTrap}
 use Rattle.hip_externs.specs.Externs.{call_of, row_of}
-use Rattle.hip_sound.specs.Numbering.{function_number}
+use Rattle.hip_sound.specs.NumberedNames.{function_number}
 use Rattle.hip_externs.specs.declared.call.ExternCall.{ExternCall}
 use Rattle.hip_runs.specs.declared.event.Ending.{Ending}
 use Rattle.hip_runs.specs.declared.event.Ending.TheVariants.{Stop, Trap, Cut}
@@ -37,7 +37,7 @@ use Rattle.hip_runs.specs.Validity.{IsValid}
 use Rattle.hip_runs.specs.Step.{state, stop, with_turn, with_register, with_block, with_bytes, with_output, with_left, next, leave, perform, carry_out, on_frames, on_ending, step, event_at, event, counted, run, start, start_world, start_frame, header_entries, main_number}
 use Rattle.hip_repairs.specs.declared.plan.Plan.{Plan}
 use Rattle.hip_repairs.specs.Harmless.{extents, marked_body, marked_at, is_inserted, inserted_on, stands_inserted, matched}
-use Rattle.hip_repairs.specs.Quiet.{IsQuiet, stores_in_region}
+use Rattle.hip_repairs.specs.StayOutside.{StayOutside, stores_in_region}
 use Rattle.hip_repairs.specs.Repaired.{Marked, flush_of, the_fence, renamed, clone_name, wanted_by, inserted_after, clones_of, cloned, repaired, instrs_of, repaired_body}
 use Rattle.hip_repairs.proofs.simulation.Ahead.{Ahead, ahead_stored, ahead_flushed, ahead_more_flushed, ahead_fenced, ahead_more_fenced, ahead_start}
 use Rattle.hip_runs.specs.Laws.EndLaws.{drop_next}
@@ -317,7 +317,7 @@ module _ (P : Program) (plan : Plan) (skip : Site → Bool) (I : Input) (good : 
       later_flush = record { step = d'.steps; site = record { function = f'; block = b; index = suc k' } }
 
       -- The fact about the lines after the store, whether it is in the region or not.
-      store_holds : length store_bytes ≡ scalar_size ty → store_address % access_align ty align ≡ 0 → (in_region I store_address (length store_bytes) ≡ true → IsQuiet P skip → skip here_site ≡ false) →
+      store_holds : length store_bytes ≡ scalar_size ty → store_address % access_align ty align ≡ 0 → (in_region I store_address (length store_bytes) ≡ true → StayOutside P skip → skip here_site ≡ false) →
           Holds up (stored_lines I c here_site up store_address store_bytes ls)
           (fence_if fenced_here (flush_if flush_wanted I later_flush store_address (flush_size ty align) (stored_lines I c' (record { function = f'; block = b; index = k' }) (level_list lvl' (levels_of fs')) store_address store_bytes ls')))
       store_holds size aligned still = go (in_region I store_address (length store_bytes)) refl
@@ -344,7 +344,7 @@ module _ (P : Program) (plan : Plan) (skip : Site → Bool) (I : Input) (good : 
       pending_store true ms = refl
       pending_store false ms = refl
 
-      stored_both : length store_bytes ≡ scalar_size ty → store_address % access_align ty align ≡ 0 → are_valid P I w store_address (scalar_size ty) ≡ true → (in_region I store_address (length store_bytes) ≡ true → IsQuiet P skip → skip here_site ≡ false) →
+      stored_both : length store_bytes ≡ scalar_size ty → store_address % access_align ty align ≡ 0 → are_valid P I w store_address (scalar_size ty) ≡ true → (in_region I store_address (length store_bytes) ≡ true → StayOutside P skip → skip here_site ≡ false) →
           After (perform I (with_turn w) (at_frame k regs slots) fs ls c d (Stores store_address store_bytes)) (perform I (with_turn w) (at_frame' k' regs slots') fs' ls' c' d' (Stores store_address store_bytes))
       unfolding perform
       stored_both size aligned valid still =
@@ -353,7 +353,7 @@ module _ (P : Program) (plan : Plan) (skip : Site → Bool) (I : Input) (good : 
           (ready_size (ready_store valid flush_wanted))
 
       after_store : length store_bytes ≡ scalar_size ty →
-          (nat_eq (store_address % access_align ty align) 0 ≡ true → are_valid P I w store_address (scalar_size ty) ≡ true → in_region I store_address (length store_bytes) ≡ true → IsQuiet P skip → skip here_site ≡ false) →
+          (nat_eq (store_address % access_align ty align) 0 ≡ true → are_valid P I w store_address (scalar_size ty) ≡ true → in_region I store_address (length store_bytes) ≡ true → StayOutside P skip → skip here_site ≡ false) →
           After (perform I (with_turn w) (at_frame k regs slots) fs ls c d (instr_action P I w (length fs) regs (Store ty value addr align))) (perform I (with_turn w) (at_frame' k' regs slots') fs' ls' c' d' (instr_action Q I w (length fs') regs (Store ty value addr align)))
       unfolding instr_action accessed
       after_store size still = go (nat_eq (store_address % access_align ty align) 0) refl (are_valid P I w store_address (scalar_size ty)) refl
@@ -453,7 +453,7 @@ module _ (P : Program) (plan : Plan) (skip : Site → Bool) (I : Input) (good : 
         (λ cut. after_store ty value addr align h w c d c' d' (length-bytes_of (scalar_size ty) (value_of P.globals I.base regs value)) (λ aligned valid region still. not_skipped cut aligned valid region still (skip here_site) refl))
       where
         not_skipped : not (nat_lt w.turns I.limit) ≡ false → nat_eq (value_of P.globals I.base regs addr % access_align ty align) 0 ≡ true → are_valid P I w (value_of P.globals I.base regs addr) (scalar_size ty) ≡ true →
-            in_region I (value_of P.globals I.base regs addr) (length (bytes_of (scalar_size ty) (value_of P.globals I.base regs value))) ≡ true → IsQuiet P skip → (x : Bool) → skip here_site ≡ x → x ≡ false
+            in_region I (value_of P.globals I.base regs addr) (length (bytes_of (scalar_size ty) (value_of P.globals I.base regs value))) ≡ true → StayOutside P skip → (x : Bool) → skip here_site ≡ x → x ≡ false
         not_skipped cut aligned valid region still false e = refl
         not_skipped cut aligned valid region still true e =
             absurd (still I valid_input reach.0 (at_frame k regs slots) fs (ap (λ (s : State). s.frames) reach.1) e

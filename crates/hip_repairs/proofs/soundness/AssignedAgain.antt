@@ -21,9 +21,9 @@ use Rattle.hip_sound.specs.Laws.AssignedExact.{all-front, all-back, all-joined, 
 use Rattle.hip_globals.specs.Constants.{joined}
 use Rattle.hip_names.specs.Names.{IsAmong}
 use Rattle.hip_sound.specs.Names.{numbered_from}
-use Rattle.hip_sound.specs.Paths.{label_at, labels_named_at, LeadsTo, IsChain, IsPathTo, names_of, whole_block_names, names_before, IsAssigned}
+use Rattle.hip_sound.specs.Paths.{label_at, labels_named_at, BlockLeadsTo, IsChain, IsPathTo, names_of, whole_block_names, names_before, IsAssigned}
 use Rattle.hip_sound.specs.Registers.{assigned_by, body_registers, block_registers, phi_registers, parameter_registers, use_of, instr_uses, used_registers, operand_registers, end_labels, end_uses}
-use Rattle.hip_sound.specs.Rules.{Passes, use_at, block_number_from, edge_register_uses, phi_register_uses, instr_register_uses, end_register_uses, block_register_uses, UseIsAssigned, AllAssigned}
+use Rattle.hip_sound.specs.Rules.{PassesVerifier, use_at, block_number_from, edge_register_uses, phi_register_uses, instr_register_uses, end_register_uses, block_register_uses, UseIsAssigned, AllAssigned}
 use Rattle.hip_sound.specs.declared.point.Point.{Point}
 use Rattle.hip_sound.specs.declared.point.Point.TheVariants.{Before, AtEnd}
 use Rattle.hip_sound.specs.declared.fault.Place.{Place}
@@ -92,7 +92,7 @@ module _ (clones : List Clone) (w : Wanted) (clone : Bool) (f : ℕ) (name : Lis
 
   -- ---- paths
 
-  leads_before : (b c : ℕ) → LeadsTo R b c → LeadsTo fn b c
+  leads_before : (b c : ℕ) → BlockLeadsTo R b c → BlockLeadsTo fn b c
   leads_before b c h = record { label = h.label; here = sym (same_label_at c) ∙ h.here; named = subst (λ ls. IsAmong ls h.label) (same_labels_named b) h.named }
 
   chain_before : (b : ℕ) (cs : List ℕ) → IsChain R b cs → IsChain fn b cs
@@ -228,7 +228,7 @@ module _ (clones : List Clone) (w : Wanted) (clone : Bool) (f : ℕ) (name : Lis
       (subst (λ n. All (UseIsAssigned fn) (block_register_uses fn.blocks f n at.0)) (sym here)
       (all-joined (UseIsAssigned fn) 0 (block_register_uses fn.blocks f) fn.blocks h b at.0 at.1)))))
 
-module _ (P : Program) (plan : Plan) (skip : Site → Bool) (sound : Passes P) where
+module _ (P : Program) (plan : Plan) (skip : Site → Bool) (sound : PassesVerifier P) where
   from_origin : (f' : ℕ) (fn' : Function) → Origin P plan skip f' fn' → AllAssigned fn' f'
   from_origin f' fn' o =
       subst (λ x. AllAssigned x f') (sym o.is) (function_again (clones_of P plan) (wanted_by plan skip) o.clone o.f o.name o.fn f' (sound.assigned o.f o.fn o.at))

@@ -9,15 +9,15 @@ use Rattle.hip_tree.specs.declared.program.Extern.{Extern}
 use Rattle.hip_tree.specs.declared.program.Function.{Function}
 use Rattle.hip_tree.specs.declared.program.Program.{Program}
 use Rattle.hip_tree.specs.declared.site.Site.{Site}
-use Rattle.hip_sound.specs.Check.{each}
+use Rattle.hip_sound.specs.Requirement.{each}
 use Rattle.hip_externs.specs.Externs.{Signature, signature, call_of, known_signature}
 use Rattle.hip_names.specs.Names.{is_among, number_of}
-use Rattle.hip_sound.specs.Numbering.{function_names, function_number}
+use Rattle.hip_sound.specs.NumberedNames.{function_names, function_number}
 use Rattle.hip_names.specs.Laws.NumberLaws.{number_cases}
 use Rattle.hip_sound.specs.Laws.NumberingLaws.{function_number-there}
 use Rattle.hip_sound.specs.Places.{extern_of, function_of, first_of, callee_of}
 use Rattle.hip_sound.specs.Laws.SoundExact.{table-decides}
-use Rattle.hip_sound.specs.Rules.{Passes, is_of, declared}
+use Rattle.hip_sound.specs.Rules.{PassesVerifier, is_of, declared}
 use Rattle.hip_externs.specs.declared.call.ExternCall.{ExternCall}
 use Rattle.hip_sound.specs.Laws.Decided.{holds-at}
 use Rattle.hip_names.specs.Laws.NameLaws.{bytes_eq-sym}
@@ -96,7 +96,7 @@ function_at_number (f ∷ fs) name g fn e c =
 
 -- ---- calls
 
-module _ (P : Program) (plan : Plan) (skip : Site → Bool) (sound : Passes P) where
+module _ (P : Program) (plan : Plan) (skip : Site → Bool) (sound : PassesVerifier P) where
   good : IsCallable P
   good = callable_of P sound
 

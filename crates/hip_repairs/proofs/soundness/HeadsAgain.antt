@@ -17,8 +17,8 @@ use Rattle.hip_names.specs.Laws.NameLaws.{among-whole}
 use Rattle.hip_names.specs.Laws.NameLaws.{among-left, among-right}
 use Rattle.hip_sound.specs.Laws.NameLaws.{names-sound, names-whole}
 use Rattle.hip_names.specs.Names.{AllDiffer, IsAmong, is_among}
-use Rattle.hip_sound.specs.Numbering as numbers
-use Rattle.hip_sound.specs.Rules.{Passes, names_check, is_of, declared, free_function, externs_check, is_main, has_main, main_check}
+use Rattle.hip_sound.specs.NumberedNames as numbers
+use Rattle.hip_sound.specs.Rules.{PassesVerifier, names_required, is_of, declared, free_function, externs_required, is_main, has_main, main_required}
 use Rattle.hip_sound.specs.Laws.Decided.{holds-at, holds-made}
 use Rattle.hip_sound.specs.Sound.{top_names}
 use Rattle.hip_calls.specs.Fresh.{name_of}
@@ -63,7 +63,7 @@ added_distinct false true false = (tt, tt)
 added_distinct false false true = (tt, tt)
 added_distinct false false false = tt
 
-module _ (P : Program) (plan : Plan) (skip : Site → Bool) (sound : Passes P) where
+module _ (P : Program) (plan : Plan) (skip : Site → Bool) (sound : PassesVerifier P) where
   good : IsCallable P
   good = callable_of P sound
 
@@ -143,7 +143,7 @@ module _ (P : Program) (plan : Plan) (skip : Site → Bool) (sound : Passes P) w
       (append_apart E A (F ++ N) (apart_append E F N (differ_apart E F rest) EN) (apart_append A F N (apart_sym F A (free_apart F A functions_free added_taken)) (apart_sym N A (free_apart N A fresh_free added_taken)))))
       (apart_append G (E ++ A) (F ++ N) (apart_append G E A GE (free_apart G A globals_free added_taken)) (apart_append G F N GF GN))
 
-  pub names_again : (names_check (repaired P plan skip)).Holds
+  pub names_again : (names_required (repaired P plan skip)).Holds
   names_again =
       names-whole (repaired P plan skip)
       (subst AllDiffer (sym (ap (λ xs. G ++ xs) (ap₂ (λ xs ys. xs ++ ys) (map-append (λ (e : Extern). e.name) P.externs added) (names_then P plan skip)))) differ_after_repair)
@@ -157,7 +157,7 @@ module _ (P : Program) (plan : Plan) (skip : Site → Bool) (sound : Passes P) w
       named true e = let high = o.high e in ap is_none (fresh_extern P plan skip high.0 o.name high.3)
       named false e = ap (λ n. is_none (call_of n)) (o.plain e).1 ∙ holds-at free_function P.functions o.f o.fn sound.externs.1.1 o.at
 
-  pub externs_again : (externs_check (repaired P plan skip)).Holds
+  pub externs_again : (externs_required (repaired P plan skip)).Holds
   externs_again = (
     sound.externs.0,
     (
@@ -180,5 +180,5 @@ module _ (P : Program) (plan : Plan) (skip : Site → Bool) (sound : Passes P) w
       by_first true g rest = g
       by_first false g rest = rest g
 
-  pub main_again : (main_check (repaired P plan skip)).Holds
+  pub main_again : (main_required (repaired P plan skip)).Holds
   main_again = main_kept 0 P.functions _ sound.main

@@ -24,8 +24,8 @@ use Rattle.hip_sound.specs.Constants.{has_shape, names_in}
 use Rattle.hip_globals.specs.Constants.{types_in}
 use Rattle.hip_externs.specs.Externs.{known_signature}
 use Rattle.hip_names.specs.Names.{is_among}
-use Rattle.hip_sound.specs.Places.{Scope, callee_of, uses_known, use_agrees, uses_agree, signature_agrees, instr_check}
-use Rattle.hip_sound.specs.Numbering.{global_names}
+use Rattle.hip_sound.specs.Places.{Scope, callee_of, uses_known, use_agrees, uses_agree, signature_agrees, instr_required}
+use Rattle.hip_sound.specs.NumberedNames.{global_names}
 use Rattle.hip_sound.specs.Registers.{Use, use_of, find_register, used_registers, used_globals, used_constant_types}
 use Rattle.hip_sound.specs.Laws.AssignedExact.{all-back}
 use Rattle.hip_sound.specs.declared.fault.Place.{Place}
@@ -83,10 +83,10 @@ module _ (n : ℕ) where
 -- ---- the rules of an inserted instruction
 
 module _ (s : Scope) (place place' : Place) where
-  pub fence_check : callee_of s.program sfence_name ≡ known_signature sfence_name → (instr_check s the_fence place).Holds
+  pub fence_check : callee_of s.program sfence_name ≡ known_signature sfence_name → (instr_required s the_fence place).Holds
   fence_check e = (ap is_some e, (All-nil Fits, ap (λ o. signature_agrees None [] o && true) e))
 
-  line_check : (value addr : Operand) (ty : Scalar) (align : Option ℕ) → callee_of s.program clwb_name ≡ known_signature clwb_name → (instr_check s (Store ty value addr align) place').Holds → (instr_check s (line_flush addr) place).Holds
+  line_check : (value addr : Operand) (ty : Scalar) (align : Option ℕ) → callee_of s.program clwb_name ≡ known_signature clwb_name → (instr_required s (Store ty value addr align) place').Holds → (instr_required s (line_flush addr) place).Holds
   line_check value addr ty align e h = (
     and_from (uses_known s (use_of addr Ptr ∷ [])) _ (known_second s value addr ty (and_parts (uses_known s (use_of value ty ∷ use_of addr Ptr ∷ [])) true h.0).0) (ap is_some e),
     (
@@ -96,7 +96,7 @@ module _ (s : Scope) (place place' : Place) where
     ),
   )
 
-  range_check : (value addr : Operand) (ty : Scalar) (align : Option ℕ) (n : ℕ) → callee_of s.program pmem_flush_name ≡ known_signature pmem_flush_name → (instr_check s (Store ty value addr align) place').Holds → (instr_check s (range_flush addr n) place).Holds
+  range_check : (value addr : Operand) (ty : Scalar) (align : Option ℕ) (n : ℕ) → callee_of s.program pmem_flush_name ≡ known_signature pmem_flush_name → (instr_required s (Store ty value addr align) place').Holds → (instr_required s (range_flush addr n) place).Holds
   range_check value addr ty align n e h = (
     and_from (uses_known s (use_of addr Ptr ∷ size_use n ∷ [])) _ (known_sized n s addr ∙ known_second s value addr ty (and_parts (uses_known s (use_of value ty ∷ use_of addr Ptr ∷ [])) true h.0).0) (ap is_some e),
     (
@@ -110,11 +110,11 @@ module _ (s : Scope) (place place' : Place) where
   -- The flush of a store meets the rules of its place.
   pub flush_check : (value addr : Operand) (ty : Scalar) (align : Option ℕ) →
       ((name : List ℕ) → is_call_of name (flush_of ty addr align) ≡ true → (name ≡ clwb_name) ⊎ (name ≡ pmem_flush_name) → callee_of s.program name ≡ known_signature name) →
-      (instr_check s (Store ty value addr align) place').Holds → (instr_check s (flush_of ty addr align) place).Holds
+      (instr_required s (Store ty value addr align) place').Holds → (instr_required s (flush_of ty addr align) place).Holds
   flush_check value addr ty align found h = by_width (is_wide ty align) found
     where
       by_width : (b : Bool) →
           ((name : List ℕ) → is_call_of name (cond b (range_flush addr (scalar_size ty)) (line_flush addr)) ≡ true → (name ≡ clwb_name) ⊎ (name ≡ pmem_flush_name) → callee_of s.program name ≡ known_signature name) →
-          (instr_check s (cond b (range_flush addr (scalar_size ty)) (line_flush addr)) place).Holds
+          (instr_required s (cond b (range_flush addr (scalar_size ty)) (line_flush addr)) place).Holds
       by_width true found = range_check value addr ty align (scalar_size ty) (found pmem_flush_name refl (inr refl)) h
       by_width false found = line_check value addr ty align (found clwb_name refl (inl refl)) h

@@ -16,7 +16,7 @@ use Rattle.hip_tree.specs.declared.site.Site.{Site}
 use Rattle.hip_externs.specs.Externs.{known_signature}
 use Rattle.hip_names.specs.Names.{is_among}
 use Rattle.hip_sound.specs.Places.{first_of, function_of, callee_of}
-use Rattle.hip_sound.specs.Rules.{Passes}
+use Rattle.hip_sound.specs.Rules.{PassesVerifier}
 use Rattle.hip_repairs.specs.declared.plan.Plan.{Plan}
 use Rattle.hip_repairs.specs.Repaired.{Marked, Clone, Wanted, wanted_by, clwb_name, sfence_name, pmem_flush_name, flush_of, the_fence, inserted_after, repaired_body, instrs_of, is_call_of, inserts, inserts_in, inserts_from, inserts_cloned, needs, clones_of, cloned, added_externs, repaired}
 use Rattle.hip_repairs.proofs.soundness.Declarations.{clwb_extern, sfence_extern, pmem_flush_extern, extern_names}
@@ -134,7 +134,7 @@ module _ (P : Program) (plan : Plan) (skip : Site → Bool) where
       by_test true e = front_added P.externs (added_externs P plan w) name e
       by_test false e = back_added P.externs (added_externs P plan w) name (h e)
 
-  module _ (sound : Passes P) where
+  module _ (sound : PassesVerifier P) where
     found_callee : (name : List ℕ) → is_among (extern_names (repaired P plan skip)) name ≡ true → callee_of (repaired P plan skip) name ≡ known_signature name
     found_callee name h =
         let there = extern_there (repaired P plan skip).externs name h in

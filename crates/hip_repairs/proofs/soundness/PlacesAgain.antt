@@ -16,13 +16,13 @@ use Rattle.hip_tree.specs.declared.instr.Instr.TheVariants.{Store, Call}
 use Rattle.hip_tree.specs.declared.program.Function.{Function}
 use Rattle.hip_tree.specs.declared.program.Program.{Program}
 use Rattle.hip_tree.specs.declared.site.Site.{Site}
-use Rattle.hip_sound.specs.Check.{each}
+use Rattle.hip_sound.specs.Requirement.{each}
 use Rattle.hip_externs.specs.Externs.{known_signature}
 use Rattle.hip_names.specs.Names.{is_among}
-use Rattle.hip_sound.specs.Numbering.{function_number, label_names}
-use Rattle.hip_sound.specs.Places.{Scope, scope_of, callee_of, are_among, uses_known, uses_agree, use_agrees, signature_agrees, register_agrees, instr_agrees, callee_known, instr_check, end_agrees, is_entry, end_check, predecessors, phi_check}
+use Rattle.hip_sound.specs.NumberedNames.{function_number, label_names}
+use Rattle.hip_sound.specs.Places.{Scope, scope_of, callee_of, are_among, uses_known, uses_agree, use_agrees, signature_agrees, register_agrees, instr_agrees, callee_known, instr_required, end_agrees, is_entry, end_required, predecessors, phi_required}
 use Rattle.hip_sound.specs.Registers.{Use, registers_of, parameter_registers, find_register, instr_uses, arg_uses, end_uses, end_labels, phi_uses, used_registers, used_globals}
-use Rattle.hip_sound.specs.Rules.{Passes, block_check, places_check}
+use Rattle.hip_sound.specs.Rules.{PassesVerifier, block_required, places_required}
 use Rattle.hip_sound.specs.declared.fault.Place.{Place}
 use Rattle.hip_sound.specs.declared.fault.Place.TheVariants as places
 use Rattle.hip_sound.specs.Laws.Decided.{holds-at, holds-made}
@@ -61,7 +61,7 @@ module _ (clones : List Clone) (w : Wanted) (clone : Bool) (f : ℕ) where
   same_entry first [] ls = refl
   same_entry first (x ∷ xs) ls = refl
 
-module _ (P : Program) (plan : Plan) (skip : Site → Bool) (sound : Passes P) where
+module _ (P : Program) (plan : Plan) (skip : Site → Bool) (sound : PassesVerifier P) where
   abbrev Q : Program
   Q = repaired P plan skip
 
@@ -93,7 +93,7 @@ module _ (P : Program) (plan : Plan) (skip : Site → Bool) (sound : Passes P) w
     labels_again : (ls : List (List ℕ)) → are_among (label_names R) ls ≡ are_among (label_names o.fn) ls
     labels_again ls = ap (λ known. are_among known ls) (same_labels clones w o.clone o.f 0 o.fn.blocks)
 
-    phi_again : (label : List ℕ) (p : Phi) (place place' : Place) → (phi_check s label p place).Holds → (phi_check s' label p place').Holds
+    phi_again : (label : List ℕ) (p : Phi) (place place' : Place) → (phi_required s label p place).Holds → (phi_required s' label p place').Holds
     phi_again label p place place' h =
         let edges = map (λ e. e.label) p.edges in
         let before = predecessors o.fn.blocks label in
@@ -111,7 +111,7 @@ module _ (P : Program) (plan : Plan) (skip : Site → Bool) (sound : Passes P) w
           ),
         )
 
-    end_again : (e : End) (place place' : Place) → (end_check s e place).Holds → (end_check s' e place').Holds
+    end_again : (e : End) (place place' : Place) → (end_required s e place).Holds → (end_required s' e place').Holds
     end_again e place place' h = (
       ap₂ (λ a b. a && b) (known_again (end_uses e)) (labels_again (end_labels e)) ∙ h.0,
       (
@@ -126,11 +126,11 @@ module _ (P : Program) (plan : Plan) (skip : Site → Bool) (sound : Passes P) w
     -- ---- instructions
 
     -- An instruction that stays the same meets the same rules.
-    instr_kept : (i : Instr) (place place' : Place) → callee_known s' i ≡ callee_known s i → instr_agrees s' i ≡ instr_agrees s i → (instr_check s i place).Holds → (instr_check s' i place').Holds
+    instr_kept : (i : Instr) (place place' : Place) → callee_known s' i ≡ callee_known s i → instr_agrees s' i ≡ instr_agrees s i → (instr_required s i place).Holds → (instr_required s' i place').Holds
     instr_kept i place place' k a h = (ap₂ (λ x y. x && y) (known_again (instr_uses i)) k ∙ h.0, (h.1.0, ap₂ (λ x y. x && y) (agree_again (instr_uses i)) a ∙ h.1.1))
 
     call_kept : (dest : Option (List ℕ)) (ret : Option Scalar) (callee callee' : List ℕ) (args : List Arg) (place place' : Place) → callee_of Q callee' ≡ callee_of P callee →
-        (instr_check s (Call dest ret callee args) place).Holds → (instr_check s' (Call dest ret callee' args) place').Holds
+        (instr_required s (Call dest ret callee args) place).Holds → (instr_required s' (Call dest ret callee' args) place').Holds
     call_kept dest ret callee callee' args place place' e h = (
       ap₂ (λ x y. x && y) (known_again (arg_uses args)) (ap is_some e) ∙ h.0,
       (h.1.0, ap₂ (λ x y. x && y) (agree_again (arg_uses args)) (ap (λ c. signature_agrees ret args c && register_agrees dest ret) e) ∙ h.1.1),
@@ -150,19 +150,19 @@ module _ (P : Program) (plan : Plan) (skip : Site → Bool) (sound : Passes P) w
         (ap (λ x. option_and_then (λ y. slice_get y.body j) (option_and_then (λ y. slice_get y.blocks b) x)) o.at ∙ ap (λ x. option_and_then (λ y. slice_get y.body j) x) e ∙ c) n)
         (either o.clone _ t)
 
-    renamed_again : (b j : ℕ) (block : Block) (i : Instr) (place place' : Place) → slice_get o.fn.blocks b ≡ Some block → slice_get block.body j ≡ Some i → (instr_check s i place).Holds →
-        (instr_check s' (renamed clones i (o.clone || has_site plan.hoist (record { function = o.f; block = b; index = j }))) place').Holds
+    renamed_again : (b j : ℕ) (block : Block) (i : Instr) (place place' : Place) → slice_get o.fn.blocks b ≡ Some block → slice_get block.body j ≡ Some i → (instr_required s i place).Holds →
+        (instr_required s' (renamed clones i (o.clone || has_site plan.hoist (record { function = o.f; block = b; index = j }))) place').Holds
     renamed_again b j block (Call dest ret callee args) place place' e c h =
         call_kept dest ret callee _ args place place'
         (callee_again P plan skip sound callee (o.clone || has_site plan.hoist (record { function = o.f; block = b; index = j })) (call_cloned b j block dest ret callee args e c) (and_parts (uses_known s (arg_uses args)) _ h.0).1) h
     renamed_again b j block i place place' e c h = instr_kept i place place' refl refl h
 
     -- An original or an inserted instruction meets the rules of its place in the repaired program.
-    module _ (b : ℕ) (block : Block) (there : slice_get o.fn.blocks b ≡ Some block) (place : ℕ → Place) (place' : Place) (checked : (j : ℕ) (i : Instr) → slice_get block.body j ≡ Some i → (instr_check s i (place j)).Holds) where
-      original_again : (k : ℕ) (i' : Instr) → IsOriginal clones w o.clone o.f b 0 block.body k i' → (instr_check s' i' place').Holds
+    module _ (b : ℕ) (block : Block) (there : slice_get o.fn.blocks b ≡ Some block) (place : ℕ → Place) (place' : Place) (checked : (j : ℕ) (i : Instr) → slice_get block.body j ≡ Some i → (instr_required s i (place j)).Holds) where
+      original_again : (k : ℕ) (i' : Instr) → IsOriginal clones w o.clone o.f b 0 block.body k i' → (instr_required s' i' place').Holds
       original_again k i' x =
           let here : 0 + x.0 ≡ x.0 = omega arith in
-          subst (λ y. (instr_check s' y place').Holds)
+          subst (λ y. (instr_required s' y place').Holds)
           (ap (λ n. renamed clones x.1 (o.clone || has_site plan.hoist (record { function = o.f; block = b; index = n }))) (sym here) ∙ sym x.3)
           (renamed_again b x.0 block x.1 (place x.0) place' there x.2 (checked x.0 x.1 x.2))
 
@@ -172,44 +172,44 @@ module _ (P : Program) (plan : Plan) (skip : Site → Bool) (sound : Passes P) w
           ⊎_elim (λ e. ap (callee_of Q) e ∙ clwb_callee P plan skip sound (ap (needs P plan w) (sym e) ∙ needed) ∙ ap known_signature (sym e))
           (λ e. ap (callee_of Q) e ∙ pmem_flush_callee P plan skip sound (ap (needs P plan w) (sym e) ∙ needed) ∙ ap known_signature (sym e)) which
 
-      inserted_again : (k : ℕ) (i' : Instr) → IsInserted clones w o.clone o.f b 0 block.body k i' → (instr_check s' i' place').Holds
+      inserted_again : (k : ℕ) (i' : Instr) → IsInserted clones w o.clone o.f b 0 block.body k i' → (instr_required s' i' place').Holds
       inserted_again k i' x =
           ⊎_elim
           (λ flush.
-          let store : (instr_check s' (Store flush.0 flush.1 flush.2 flush.3) place').Holds =
-          instr_kept (Store flush.0 flush.1 flush.2 flush.3) (place x.0) place' refl refl (subst (λ y. (instr_check s y (place x.0)).Holds) flush.4 (checked x.0 x.1 x.3)) in
-          subst (λ y. (instr_check s' y place').Holds) (sym flush.5)
+          let store : (instr_required s' (Store flush.0 flush.1 flush.2 flush.3) place').Holds =
+          instr_kept (Store flush.0 flush.1 flush.2 flush.3) (place x.0) place' refl refl (subst (λ y. (instr_required s y (place x.0)).Holds) flush.4 (checked x.0 x.1 x.3)) in
+          subst (λ y. (instr_required s' y place').Holds) (sym flush.5)
           (flush_check s' place' place' flush.1 flush.2 flush.0 flush.3 (λ name c which. found_by k i' x name (ap (is_call_of name) flush.5 ∙ c) which) store))
           (λ fence.
           let needed = inserted_needed P plan skip sfence_name f' fn' o b block x.0 x.2 x.1 i' there x.3 x.4 (ap (is_call_of sfence_name) fence) in
-          subst (λ y. (instr_check s' y place').Holds) (sym fence) (fence_check s' place' place' (sfence_callee P plan skip sound needed)))
+          subst (λ y. (instr_required s' y place').Holds) (sym fence) (fence_check s' place' place' (sfence_callee P plan skip sound needed)))
           (inserted_kind w o.clone (site_at clones w o.clone o.f b (0 + x.0)) x.1 x.2 i' x.4)
 
-      body_again : (k : ℕ) (i' : Instr) → slice_get (repaired_instrs clones w o.clone o.f b 0 block.body) k ≡ Some i' → (instr_check s' i' place').Holds
+      body_again : (k : ℕ) (i' : Instr) → slice_get (repaired_instrs clones w o.clone o.f b 0 block.body) k ≡ Some i' → (instr_required s' i' place').Holds
       body_again k i' e = ⊎_elim (original_again k i') (inserted_again k i') (in_body clones w o.clone o.f b 0 block.body k i' e)
 
-    block_again : (b b' : ℕ) (block : Block) → slice_get o.fn.blocks b ≡ Some block → (block_check s o.f b block).Holds → (block_check s' f' b' (repaired_block clones w o.clone o.f b block)).Holds
+    block_again : (b b' : ℕ) (block : Block) → slice_get o.fn.blocks b ≡ Some block → (block_required s o.f b block).Holds → (block_required s' f' b' (repaired_block clones w o.clone o.f b block)).Holds
     block_again b b' block there h = (
-      holds-made (λ i p. phi_check s' block.label p (places.Phi (record { function = f'; block = b'; index = i }))) block.phis
+      holds-made (λ i p. phi_required s' block.label p (places.Phi (record { function = f'; block = b'; index = i }))) block.phis
           (λ i p e. phi_again block.label p (places.Phi (record { function = o.f; block = b; index = i })) (places.Phi (record { function = f'; block = b'; index = i }))
-          (holds-at (λ i p. phi_check s block.label p (places.Phi (record { function = o.f; block = b; index = i }))) block.phis i p h.0 e)),
+          (holds-at (λ i p. phi_required s block.label p (places.Phi (record { function = o.f; block = b; index = i }))) block.phis i p h.0 e)),
       (
-        holds-made (λ i instr. instr_check s' instr (places.Body (record { function = f'; block = b'; index = i }))) (repaired_instrs clones w o.clone o.f b 0 block.body)
+        holds-made (λ i instr. instr_required s' instr (places.Body (record { function = f'; block = b'; index = i }))) (repaired_instrs clones w o.clone o.f b 0 block.body)
             (λ k i' e. body_again b block there (λ j. places.Body (record { function = o.f; block = b; index = j })) (places.Body (record { function = f'; block = b'; index = k }))
-            (λ j i c. holds-at (λ i instr. instr_check s instr (places.Body (record { function = o.f; block = b; index = i }))) block.body j i h.1.0 c) k i' e),
+            (λ j i c. holds-at (λ i instr. instr_required s instr (places.Body (record { function = o.f; block = b; index = i }))) block.body j i h.1.0 c) k i' e),
         end_again block.end (places.End o.f b) (places.End f' b') h.1.1,
       ),
     )
 
-    blocks_again : (each (block_check (scope_of Q fn') f') fn'.blocks).Holds
+    blocks_again : (each (block_required (scope_of Q fn') f') fn'.blocks).Holds
     blocks_again =
-        subst (λ fn. (each (block_check (scope_of Q fn) f') fn.blocks).Holds) (sym o.is)
-        (holds-made (block_check s' f') R.blocks
+        subst (λ fn. (each (block_required (scope_of Q fn) f') fn.blocks).Holds) (sym o.is)
+        (holds-made (block_required s' f') R.blocks
         (λ b block' e.
         let at = block_there clones w o.clone o.f 0 o.fn.blocks b block' e in
         let here : 0 + b ≡ b = omega arith in
-        let before = holds-at (block_check s o.f) o.fn.blocks b at.0 (holds-at (λ f fn. each (block_check (scope_of P fn) f) fn.blocks) P.functions o.f o.fn sound.places o.at) at.1 in
-        subst (λ x. (block_check s' f' b x).Holds) (sym (at.2 ∙ ap (λ n. repaired_block clones w o.clone o.f n at.0) here)) (block_again b b at.0 at.1 before)))
+        let before = holds-at (block_required s o.f) o.fn.blocks b at.0 (holds-at (λ f fn. each (block_required (scope_of P fn) f) fn.blocks) P.functions o.f o.fn sound.places o.at) at.1 in
+        subst (λ x. (block_required s' f' b x).Holds) (sym (at.2 ∙ ap (λ n. repaired_block clones w o.clone o.f n at.0) here)) (block_again b b at.0 at.1 before)))
 
-  pub places_again : (places_check (repaired P plan skip)).Holds
-  places_again = holds-made (λ f fn. each (block_check (scope_of Q fn) f) fn.blocks) Q.functions (λ f' fn' e. blocks_again f' fn' (origin P plan skip f' fn' e))
+  pub places_again : (places_required (repaired P plan skip)).Holds
+  places_again = holds-made (λ f fn. each (block_required (scope_of Q fn) f) fn.blocks) Q.functions (λ f' fn' e. blocks_again f' fn' (origin P plan skip f' fn' e))

@@ -22,7 +22,7 @@ use Rattle.hip_tree.specs.declared.program.Function.{Function}
 use Rattle.hip_tree.specs.declared.program.Program.{Program}
 use Rattle.hip_tree.specs.declared.site.Site.{Site}
 use Rattle.hip_sound.specs.Sound.{top_names}
-use Rattle.hip_sound.specs.Numbering.{name_in}
+use Rattle.hip_sound.specs.NumberedNames.{name_in}
 use Rattle.hip_calls.specs.Fresh.{name_of}
 use Rattle.hip_calls.specs.Laws.FreshLaws.{fresh_for-first, candidate-name}
 use Rattle.hip_runs.specs.Operands.{scalar_size}

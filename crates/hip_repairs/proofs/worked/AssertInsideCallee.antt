@@ -17,7 +17,7 @@ use Rattle.hip_runs.specs.Found.Marks.{pointed, hit}
 use Rattle.hip_runs.specs.Found.Reports.{reports}
 use Rattle.hip_runs.specs.Step.{start, run, has_ended}
 use Rattle.hip_runs.specs.Laws.Opened.{run_opened}
-use Rattle.hip_repairs.specs.examples.Words.{site, zeroed, IsHoisted}
+use Rattle.hip_repairs.specs.examples.Words.{site, zeroed, ExampleIsHoisted}
 use Rattle.hip_repairs.specs.examples.AssertInsideCallee.{assert_inside_callee, assert_inside_callee_reports, assert_inside_callee_repaired}
 use Rattle.hip_repairs.proofs.worked.Runs.{Follows, done_opened, int_value, address_value, run_is, reports_are}
 use Rattle.hip_repairs.proofs.worked.Marked.{Seen, Sees, written_int, pointed_is, hit_is}
@@ -93,5 +93,5 @@ points = pointed_is assert_inside_callee (zeroed 1) deeds all_seen follows sees
 hits : hit assert_inside_callee (zeroed 1) 6 ≡ 0 ∷ []
 hits = hit_is assert_inside_callee (zeroed 1) deeds all_seen follows sees
 
-pub assert_inside_callee_worked : IsHoisted assert_inside_callee (zeroed 1) 6 assert_inside_callee_reports assert_inside_callee_repaired
+pub assert_inside_callee_worked : ExampleIsHoisted assert_inside_callee (zeroed 1) 6 assert_inside_callee_reports assert_inside_callee_repaired
 assert_inside_callee_worked = record { ended = ended; reports = found; repaired = rw (found, points, hits) refl }

@@ -8,7 +8,7 @@ use Rattle.hip_runs.specs.Found.Marks.{pointed, hit}
 use Rattle.hip_runs.specs.Found.Reports.{reports}
 use Rattle.hip_runs.specs.Step.{start, run, has_ended}
 use Rattle.hip_runs.specs.Laws.Opened.{run_opened}
-use Rattle.hip_repairs.specs.examples.Words.{site, zeroed, IsHoisted}
+use Rattle.hip_repairs.specs.examples.Words.{site, zeroed, ExampleIsHoisted}
 use Rattle.hip_repairs.specs.examples.CopyHoisted.{copy_hoisted, copy_hoisted_report, copy_hoisted_repaired}
 use Rattle.hip_repairs.proofs.worked.Runs.{Follows, done_opened, int_value, address_value, run_is, reports_are}
 use Rattle.hip_repairs.proofs.worked.Marked.{Seen, Sees, pointed_is, hit_is}
@@ -83,5 +83,5 @@ points = pointed_is copy_hoisted (zeroed 1) deeds all_seen follows sees
 hits : hit copy_hoisted (zeroed 1) 12 ≡ 0 ∷ []
 hits = hit_is copy_hoisted (zeroed 1) deeds all_seen follows sees
 
-pub copy_hoisted_worked : IsHoisted copy_hoisted (zeroed 1) 12 (copy_hoisted_report ∷ []) copy_hoisted_repaired
+pub copy_hoisted_worked : ExampleIsHoisted copy_hoisted (zeroed 1) 12 (copy_hoisted_report ∷ []) copy_hoisted_repaired
 copy_hoisted_worked = record { ended = ended; reports = found; repaired = rw (found, points, hits) refl }

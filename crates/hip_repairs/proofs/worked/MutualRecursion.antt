@@ -13,7 +13,7 @@ use Rattle.hip_runs.specs.Laws.Opened.{run_opened}
 use Rattle.hip_repairs.specs.Choice.{plan_for}
 use Rattle.hip_repairs.specs.Repaired.{repaired}
 use Rattle.hip_repairs.specs.declared.plan.Plan.{Plan}
-use Rattle.hip_repairs.specs.examples.Words.{zeroed, IsHoisted}
+use Rattle.hip_repairs.specs.examples.Words.{zeroed, ExampleIsHoisted}
 use Rattle.hip_repairs.specs.examples.MutualRecursion.{mutual_recursion, mutual_recursion_report, mutual_recursion_repaired}
 use Rattle.hip_repairs.proofs.worked.Runs.{Follows, done_opened, int_value, address_value, run_is, reports_are}
 use Rattle.hip_repairs.proofs.worked.Marked.{Seen, Sees, pointed_is, hit_is}
@@ -383,7 +383,7 @@ planned = refl
 hoisted : repaired mutual_recursion hoist_second (λ s. false) ≡ mutual_recursion_repaired
 hoisted = refl
 
-pub mutual_recursion_worked : IsHoisted mutual_recursion (zeroed 1) 38 (mutual_recursion_report ∷ []) mutual_recursion_repaired
+pub mutual_recursion_worked : ExampleIsHoisted mutual_recursion (zeroed 1) 38 (mutual_recursion_report ∷ []) mutual_recursion_repaired
 mutual_recursion_worked =
     record {
       ended = ended;

@@ -3,7 +3,7 @@ use Rattle.std.proofs.Common.{◌≡◌, true, [], ◌∷◌, List, ℕ, Option,
 use Rattle.hip_tree.specs.declared.constant.Const.TheVariants as consts
 use Rattle.hip_tree.specs.Laws.Levels.{out-Ty-Array}
 use Rattle.hip_types.specs.Laws.LayoutLaws.{shape-Int, shape-Array}
-use Rattle.hip_types.specs.Layout.{Shape, Part, size_of, enter, enter_level, further, part_at, gep_of}
+use Rattle.hip_types.specs.Layout.{Shape, TypePart, size_of, enter, enter_level, further, part_at, gep_of}
 use Rattle.hip_types.specs.declared.number.Width.TheVariants.{W8, W64}
 use Rattle.hip_types.specs.declared.ty.Ty.TheVariants as types
 use Rattle.hip_globals.specs.Values.{const_value}
@@ -20,11 +20,11 @@ use Rattle.hip_repairs.proofs.worked.Runs.{Follows, done_opened, element_value, 
 enters : enter (types.Array 128 (types.Int W8)) 60 ≡ Some (record { offset = 60; ty = types.Int W8 })
 enters = ap (enter_level 60) (out-Ty-Array 128 (types.Int W8)) ∙ ap (λ (x : Shape). Some (record { offset = 60 * x.size; ty = types.Int W8 })) (shape-Int W8)
 
-abbrev after_first : Option Part → Option ℕ
+abbrev after_first : Option TypePart → Option ℕ
 after_first o = option_map (λ p. (0 * size_of (types.Array 128 (types.Int W8)) + p.offset) % 2 ^ 64) (option_and_then (λ p. further p.offset (part_at [] p.ty)) o)
 
 offset : gep_of (types.Array 128 (types.Int W8)) (0 ∷ 60 ∷ []) ≡ Some 60
-offset = ap (λ (o : Option Part). after_first o) enters ∙ ap (λ (x : Shape). Some ((0 * x.size + 60) % 2 ^ 64)) (shape-Array 128 (types.Int W8)) ∙ ap (λ (x : Shape). Some ((0 * (128 * x.size) + 60) % 2 ^ 64)) (shape-Int W8)
+offset = ap (λ (o : Option TypePart). after_first o) enters ∙ ap (λ (x : Shape). Some ((0 * x.size + 60) % 2 ^ 64)) (shape-Array 128 (types.Int W8)) ∙ ap (λ (x : Shape). Some ((0 * (128 * x.size) + 60) % 2 ^ 64)) (shape-Int W8)
 
 a_at : const_value (sixteen_words ∷ []) 4294967296 (consts.Address (codes "a")) ≡ 4294967296
 a_at = rw (address_value, shape-Array 16 (types.Int W64), shape-Int W64) refl

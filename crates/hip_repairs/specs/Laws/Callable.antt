@@ -10,14 +10,14 @@ use Rattle.hip_tree.specs.declared.instr.Instr.TheVariants.{Call}
 use Rattle.hip_tree.specs.declared.program.Extern.{Extern}
 use Rattle.hip_tree.specs.declared.program.Function.{Function}
 use Rattle.hip_tree.specs.declared.program.Program.{Program}
-use Rattle.hip_sound.specs.Check.{each}
+use Rattle.hip_sound.specs.Requirement.{each}
 use Rattle.hip_externs.specs.Externs.{Signature, signature, call_of, known_signature}
 use Rattle.hip_names.specs.Names.{number_of}
-use Rattle.hip_sound.specs.Numbering.{function_names, function_number}
+use Rattle.hip_sound.specs.NumberedNames.{function_names, function_number}
 use Rattle.hip_names.specs.Laws.NumberLaws.{number_of-cons, number_of-known}
 use Rattle.hip_sound.specs.Laws.NumberingLaws.{function_number-there}
-use Rattle.hip_sound.specs.Places.{extern_of, function_of, first_of, callee_of, scope_of, instr_check}
-use Rattle.hip_sound.specs.Rules.{Passes, is_main, has_main, is_of, declared, free_function, externs_check, block_check, places_check}
+use Rattle.hip_sound.specs.Places.{extern_of, function_of, first_of, callee_of, scope_of, instr_required}
+use Rattle.hip_sound.specs.Rules.{PassesVerifier, is_main, has_main, is_of, declared, free_function, externs_required, block_required, places_required}
 use Rattle.hip_externs.specs.declared.call.ExternCall.{ExternCall}
 use Rattle.hip_sound.specs.declared.fault.Place.TheVariants as places
 use Rattle.hip_sound.specs.Laws.Decided.{holds-at}
@@ -133,7 +133,7 @@ instr_place P f b k i h = in_function (slice_get P.functions f) refl h
     in_function None e c = cc
     in_function (Some fn) e c = in_block fn e (slice_get fn.blocks b) refl c
 
-pub callee_there : (P : Program) (callee : List ℕ) → (externs_check P).Holds
+pub callee_there : (P : Program) (callee : List ℕ) → (externs_required P).Holds
     → is_some (callee_of P callee) ≡ true
     → IsCalled P callee
 callee_there P callee externs h = in_externs (extern_of P.externs callee) refl h
@@ -151,18 +151,18 @@ callee_there P callee externs h = in_externs (extern_of P.externs callee) refl h
         inl (of_table there.1 callee there.3 (holds-at declared P.externs there.0 there.1 externs.1.0 there.2))
 
 -- Each instruction meets the rules of places.
-pub instr_checked : (P : Program) → (places_check P).Holds
+pub instr_checked : (P : Program) → (places_required P).Holds
     → (f b k : ℕ) (i : Instr) (fn : Function) (block : Block)
     → slice_get P.functions f ≡ Some fn → slice_get fn.blocks b ≡ Some block
     → slice_get block.body k ≡ Some i →
-    (instr_check (scope_of P fn) i (places.Body (record { function = f; block = b; index = k }))).Holds
+    (instr_required (scope_of P fn) i (places.Body (record { function = f; block = b; index = k }))).Holds
 instr_checked P h f b k i fn block e g c =
-    holds-at (λ k instr. instr_check (scope_of P fn) instr
+    holds-at (λ k instr. instr_required (scope_of P fn) instr
     (places.Body (record { function = f; block = b; index = k }))) block.body k i
-    (holds-at (block_check (scope_of P fn) f) fn.blocks b block
-    (holds-at (λ f fn. each (block_check (scope_of P fn) f) fn.blocks) P.functions f fn h e) g).1.0 c
+    (holds-at (block_required (scope_of P fn) f) fn.blocks b block
+    (holds-at (λ f fn. each (block_required (scope_of P fn) f) fn.blocks) P.functions f fn h e) g).1.0 c
 
-pub callable_of : (P : Program) → Passes P → IsCallable P
+pub callable_of : (P : Program) → PassesVerifier P → IsCallable P
 callable_of P sound =
     let main = main_number_of P.functions sound.main in
     record {

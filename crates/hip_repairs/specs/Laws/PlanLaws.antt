@@ -15,7 +15,7 @@ use Rattle.hip_runs.specs.Found.Marks.{IsFound}
 use Rattle.hip_runs.specs.StoredParts.Parts.{In}
 use Rattle.hip_repairs.specs.Choice.{choice, is_site, asks_flush, asks_fence, asks_hoist, wants_flush, wants_fence, wants_hoist, plan_for, Contains}
 use Rattle.hip_repairs.specs.Suits.{IsSuiting}
-use Rattle.hip_repairs.specs.Planned.{IsAsked, IsWithin, union, either_list}
+use Rattle.hip_repairs.specs.Planned.{IsAsked, PlanIsWithin, union, either_list}
 use Rattle.hip_repairs.specs.Laws.SiteOrder.{plan_asked, filter_ascends, in_has, has_in, site_in, filtered_are, filtered_has}
 use Rattle.hip_runs.specs.Sites.{is_store, is_flush_call, is_defined_call}
 use Rattle.hip_runs.specs.Laws.Found.ReportLaws.{reports_formed}
@@ -109,7 +109,7 @@ is_there P s test none e = go (instr_of P s) refl e
     go (Some i) q h = in_has (sites_of P) s (site_in P s i q)
 
 -- A plan that suits the program names only sites of the program.
-pub suiting_within : (P : Program) (plan : Plan) → IsSuiting P plan → IsWithin P plan
+pub suiting_within : (P : Program) (plan : Plan) → IsSuiting P plan → PlanIsWithin P plan
 suiting_within P plan suits = record {
   flush_after = flush;
   fence_after = λ s h. by s (either (is_flush_call (instr_of P s)) (has_site plan.flush_after s) (suits.fences s h));
@@ -130,14 +130,14 @@ module _ (P : Program) (a b : Plan) where
       → has_site (either_list P xs ys) s ≡ true
   in_list xs ys s h e = filtered_has (λ t. has_site xs t || has_site ys t) (sites_of P) s (has_in (sites_of P) s h) e
 
-  pub has_first : IsWithin P a → Contains (union P a b) a
+  pub has_first : PlanIsWithin P a → Contains (union P a b) a
   has_first w = record {
     flush_after = λ s h. in_list a.flush_after b.flush_after s (w.flush_after s h) (or_first _ _ h);
     fence_after = λ s h. in_list a.fence_after b.fence_after s (w.fence_after s h) (or_first _ _ h);
     hoist = λ s h. in_list a.hoist b.hoist s (w.hoist s h) (or_first _ _ h);
   }
 
-  pub has_second : IsWithin P b → Contains (union P a b) b
+  pub has_second : PlanIsWithin P b → Contains (union P a b) b
   has_second w = record {
     flush_after =
         λ s h. in_list a.flush_after b.flush_after s (w.flush_after s h) (or_second (has_site a.flush_after s) _ h);

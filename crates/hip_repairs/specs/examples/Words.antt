@@ -140,7 +140,7 @@ pub record IsWorked (P : Program) (I : Input) (steps : ℕ) (found : List Report
 
 -- The run of a program takes n steps to its end and finds these reports, and some calls are to hoist. The repair of the
 -- program for these reports is the program Q, if its clones flush each store.
-pub record IsHoisted (P : Program) (I : Input) (steps : ℕ) (found : List Report) (Q : Program) : Type 0 where
+pub record ExampleIsHoisted (P : Program) (I : Input) (steps : ℕ) (found : List Report) (Q : Program) : Type 0 where
   pub ended : has_ended (run P I steps) ≡ true
   pub reports : reports P I steps ≡ found
   pub repaired : repaired P (plan_for P (findings P I steps)) (λ s. false) ≡ Q

@@ -68,7 +68,7 @@ record IsGood (P : Program) (J : Input) : Type 0 where
   bytes : All (λ b. b < 256) J.image
 
 -- One more entry was taken.
-record Takes (P : Program) (J K : Input) (e : Entry) : Type 0 where
+record TakesEntry (P : Program) (J K : Input) (e : Entry) : Type 0 where
   good : IsGood P K
   base : K.base ≡ J.base
   limit : K.limit ≡ J.limit
@@ -81,13 +81,13 @@ push_number (y ∷ ys) z = ap (λ (es : List Entry). Number y ∷ es) (push_numb
 
 taken : {K J : Input} (P : Program) (e : Entry) (t : Bool) (there : Input)
     → (if t then Some there else None) ≡ Some K
-    → (t ≡ true → Takes P J there e) → Takes P J K e
+    → (t ≡ true → TakesEntry P J there e) → TakesEntry P J K e
 taken {K = K} {J = J} P e true there q h =
-    let same : there ≡ K = cc in subst (λ (X : Input). Takes P J X e) same (h refl)
+    let same : there ≡ K = cc in subst (λ (X : Input). TakesEntry P J X e) same (h refl)
 taken P e false there q h = absurd (let z : ⊥ = cc in z)
 
 takes_number : (P : Program) (J K : Input) (z : ℤ) → IsGood P J → FitsSigned w64 z → with_number J z ≡ Some K
-    → Takes P J K (Number z)
+    → TakesEntry P J K (Number z)
 takes_number P J K z good fits q =
     taken P (Number z) (is_empty J.image && nat_lt (length J.numbers) MOST_NUMBERS)
     (record J { numbers = J.numbers ++ z ∷ [] }) q make
@@ -97,7 +97,7 @@ takes_number P J K z good fits q =
     none (b ∷ bs) e = absurd (let y : ⊥ = cc in y)
 
     make : is_empty J.image && nat_lt (length J.numbers) MOST_NUMBERS ≡ true
-        → Takes P J (record J { numbers = J.numbers ++ z ∷ [] }) (Number z)
+        → TakesEntry P J (record J { numbers = J.numbers ++ z ∷ [] }) (Number z)
     make t =
         let both = and_parts (is_empty J.image) (nat_lt (length J.numbers) MOST_NUMBERS) t in
         let empty : J.image ≡ [] = none J.image both.0 in
@@ -145,14 +145,14 @@ unfolding zeros
 all_zeros n = All-replicate (λ b. b < 256) n 0 (omega arith)
 
 takes_line : (P : Program) (J K : Input) (addr : ℕ) (line : List ℕ) → IsGood P J → IsLine addr line
-    → with_line P J addr line ≡ Some K → Takes P J K (Image addr line)
+    → with_line P J addr line ≡ Some K → TakesEntry P J K (Image addr line)
 takes_line P J K addr line good fits q =
     taken P (Image addr line) (is_next_line P J addr line)
     (record J { image = J.image ++ (zeros (addr - (J.base + length J.image)) ++ line) }) q
     (λ t. make (addr - (J.base + length J.image)) refl t)
   where
     make : (g : ℕ) → addr - (J.base + length J.image) ≡ g → is_next_line P J addr line ≡ true
-        → Takes P J (record J { image = J.image ++ (zeros g ++ line) }) (Image addr line)
+        → TakesEntry P J (record J { image = J.image ++ (zeros g ++ line) }) (Image addr line)
     make g gap t =
         let a =
         and_parts (nat_le (J.base + length J.image) addr)
@@ -200,7 +200,7 @@ takes_line P J K addr line good fits q =
         }
 
 takes : (P : Program) (J K : Input) (e : Entry) → IsGood P J → ValuesFit e → with_entry P J (Some e) ≡ Some K
-    → Takes P J K e
+    → TakesEntry P J K e
 takes P J K (Number z) good fits q = takes_number P J K z good fits q
 takes P J K (Image addr line) good fits q = takes_line P J K addr line good fits q
 takes P J K (Start limit) good fits q = absurd (let z : ⊥ = cc in z)

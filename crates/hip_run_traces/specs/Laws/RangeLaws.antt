@@ -24,7 +24,7 @@ use Rattle.hip_types.specs.declared.number.Bits.{Bits}
 use Rattle.hip_types.specs.declared.number.Scalar.{Scalar}
 use Rattle.hip_types.specs.declared.number.Scalar.TheVariants.{Int, Ptr}
 use Rattle.hip_types.specs.declared.number.Width.TheVariants.{W1, W8, W16, W32, W64}
-use Rattle.hip_sound.specs.Numbering.{function_number}
+use Rattle.hip_sound.specs.NumberedNames.{function_number}
 use Rattle.hip_sound.specs.Sound.{IsSound}
 use Rattle.hip_runs.specs.Actions.{Action, Traps, Assigns, Allocates, Stores, Flushes, Persists, Fences, Asserts, Prints, Reads, Calls, Jumps, Returns, Deed, are_valid, arg_value, in_region, accessed, calculated, allocated, bound_call, numbered_call, entered, flushing, read_next, call_action, instr_action, jump_to, jump, end_action, deed_of}
 use Rattle.hip_runs.specs.Laws.Members.{both_true, le_true, lt_true}

@@ -7,7 +7,7 @@ use Rattle.hip_runs.specs.declared.event.Ending.{Ending}
 use Rattle.hip_runs.specs.declared.event.Ending.TheVariants.{Cut}
 use Rattle.hip_runs.specs.declared.input.Input.{Input}
 use Rattle.hip_runs.specs.Actions.{Action, Traps, Assigns, Allocates, Stores, Flushes, Persists, Fences, Asserts, Prints, Reads, Calls, Jumps, Returns, Deed}
-use Rattle.hip_runs.specs.Frames.{IsSameCall, Moves, rests, stays, calls, returns}
+use Rattle.hip_runs.specs.Frames.{IsSameCall, FramesMove, rests, stays, calls, returns}
 use Rattle.hip_runs.specs.StoredParts.History.{AreDescending}
 use Rattle.hip_runs.specs.Laws.HistoryLaws.{calls_descend}
 use Rattle.hip_runs.specs.StoredParts.Order.{HasCalls}
@@ -16,7 +16,7 @@ use Rattle.hip_runs.specs.Sites.{is_defined_call}
 use Rattle.hip_runs.specs.State.{Level, StorePart, Frame, World, Counts, State, level_list, levels_of, site_of}
 use Rattle.hip_runs.specs.Step.{stop, with_turn, leave, perform, is_cut, carry_out, deed_at, on_frames, on_ending, step, run}
 use Rattle.hip_runs.specs.Laws.StoreLaws.{part-of_store}
-use Rattle.hip_runs.specs.Laws.Fits.{Fits, deed_fits}
+use Rattle.hip_runs.specs.Laws.Fits.{ActionFits, deed_fits}
 
 same_call : (f : Frame) → IsSameCall f f
 same_call f = record { function = refl; mark = refl; dest = refl; level = refl }
@@ -24,7 +24,7 @@ same_call f = record { function = refl; mark = refl; dest = refl; level = refl }
 module _ (P : Program) (s : State) where
   -- A return moves the frames.
   leave_moves : (v : ℕ) (w : World) (f : Frame) (fs : List Frame) (ls : List (Line StorePart)) (after : Counts)
-      → s.frames ≡ f ∷ fs → after.steps ≡ suc s.counts.steps → Moves P s (leave v w f fs ls after)
+      → s.frames ≡ f ∷ fs → after.steps ≡ suc s.counts.steps → FramesMove P s (leave v w f fs ls after)
   unfolding leave
   leave_moves v w f [] ls after q c = stays f f [] q refl (same_call f) c
   leave_moves v w f (g ∷ fs) ls after q c =
@@ -32,8 +32,8 @@ module _ (P : Program) (s : State) where
 
   perform_moves : (I : Input) (w : World) (f : Frame) (fs : List Frame) (ls : List (Line StorePart)) (after : Counts)
       → s.frames ≡ f ∷ fs → after.steps ≡ suc s.counts.steps → (x : Action)
-      → Fits P x (instr_of P (site_of f))
-      → Moves P s (perform I w f fs ls s.counts after x)
+      → ActionFits P x (instr_of P (site_of f))
+      → FramesMove P s (perform I w f fs ls s.counts after x)
   unfolding perform
   perform_moves I w f fs ls after q c (Traps kind) h = stays f f fs q refl (same_call f) c
   perform_moves I w f fs ls after q c (Assigns to v) h =
@@ -60,39 +60,39 @@ module _ (P : Program) (s : State) where
   perform_moves I w f fs ls after q c (Returns v) h = leave_moves v w f fs ls after q c
 
   carry_moves : (I : Input) (f : Frame) (fs : List Frame) (after : Counts) → s.frames ≡ f ∷ fs
-      → after.steps ≡ suc s.counts.steps → (d : Deed) → Fits P d.action (instr_of P (site_of f))
-      → Moves P s (carry_out I s.world f fs s.lines s.counts after d)
+      → after.steps ≡ suc s.counts.steps → (d : Deed) → ActionFits P d.action (instr_of P (site_of f))
+      → FramesMove P s (carry_out I s.world f fs s.lines s.counts after d)
   unfolding carry_out
   carry_moves I f fs after q c d h = go (is_cut I s.world d)
     where
       go : (b : Bool)
-          → Moves P s (cond b (stop Cut s.world (f ∷ fs) s.lines after)
+          → FramesMove P s (cond b (stop Cut s.world (f ∷ fs) s.lines after)
           (perform I (cond d.turn (with_turn s.world) s.world) f fs s.lines s.counts after d.action))
       go true = stays f f fs q refl (same_call f) c
       go false = perform_moves I _ f fs s.lines after q c d.action h
 
 -- Each step moves the frames or leaves the state as it is, since each state of a run has a frame.
-pub step_moves : (P : Program) (I : Input) (s : State) → Moves P s (step P I s)
+pub step_moves : (P : Program) (I : Input) (s : State) → FramesMove P s (step P I s)
 unfolding step on_ending on_frames
 step_moves P I s = go s.world.ending
   where
-    on_them : (fs : List Frame) → s.frames ≡ fs → Moves P s (on_frames P I s.world s.lines s.counts fs)
+    on_them : (fs : List Frame) → s.frames ≡ fs → FramesMove P s (on_frames P I s.world s.lines s.counts fs)
     on_them [] q =
         rests (ap (λ (fs : List Frame). record { world = s.world; frames = fs; lines = s.lines; counts = s.counts })
         (sym q))
     on_them (f ∷ fs) q = carry_moves P s I f fs _ q refl (deed_at P I s.world f fs) (deed_fits P I s.world f fs)
 
-    go : (o : Option Ending) → Moves P s (on_ending P I s o)
+    go : (o : Option Ending) → FramesMove P s (on_ending P I s o)
     go (Some e) = rests refl
     go None = on_them s.frames refl
 
-pub run_moves : (P : Program) (I : Input) (n : ℕ) → Moves P (run P I n) (run P I (suc n))
+pub run_moves : (P : Program) (I : Input) (n : ℕ) → FramesMove P (run P I n) (run P I (suc n))
 unfolding run
 run_moves P I n = step_moves P I (run P I n)
 
 -- ---- the count of steps
 
-steps_next : (P : Program) (s s' : State) → Moves P s s'
+steps_next : (P : Program) (s s' : State) → FramesMove P s s'
     → (s.counts.steps ≤ s'.counts.steps) × (s'.counts.steps ≤ suc s.counts.steps)
 steps_next P s s' (rests e) =
     let q : s'.counts.steps ≡ s.counts.steps =
@@ -135,7 +135,7 @@ module _ (P : Program) where
   abbrev Defined : List Frame → Type 0
   Defined fs = AreDefined P (levels_of fs)
 
-  defined_next : (s s' : State) → Moves P s s' → Defined s.frames → Defined s'.frames
+  defined_next : (s s' : State) → FramesMove P s s' → Defined s.frames → Defined s'.frames
   defined_next s s' (rests e) h = subst (λ (t : State). Defined t.frames) (sym e) h
   defined_next s s' (stays f f' fs p q k c) h = subst Defined (sym q) (same_calls f f' fs k (subst Defined p h))
   defined_next s s' (calls f g fs p q d l c) h =

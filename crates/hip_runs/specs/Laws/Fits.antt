@@ -11,7 +11,7 @@ use Rattle.hip_num.specs.declared.arithmetic.NumTrap.{NumTrap}
 use Rattle.hip_types.specs.declared.number.Bits.{Bits}
 use Rattle.hip_externs.specs.Externs.{call_of, row_of}
 use Rattle.hip_externs.specs.declared.call.ExternCall.{ExternCall}
-use Rattle.hip_sound.specs.Numbering.{function_number}
+use Rattle.hip_sound.specs.NumberedNames.{function_number}
 use Rattle.hip_runs.specs.declared.event.Ending.{Ending}
 use Rattle.hip_runs.specs.declared.event.Ending.TheVariants.{Stop, Cut}
 use Rattle.hip_types.specs.Numbers.{bits, signed}
@@ -53,15 +53,15 @@ fits P (Calls g rs to) o = called_number P o ≡ Some g
 fits P _ o = Unit {0}
 
 -- The action fits the instruction.
-pub record Fits (P : Program) (x : Action) (o : Option Instr) : Type 0 where
+pub record ActionFits (P : Program) (x : Action) (o : Option Instr) : Type 0 where
   pub is : fits P x o
 
 -- Writing the number of a value's bytes gives the same bytes.
 written : (n v : ℕ) → bytes_of (length (bytes_of n v)) (little_endian (bytes_of n v)) ≡ bytes_of n v
 written n v = bytes_of-little_endian (bytes_of n v) (λ i. bytes_of-below n v i)
 
-fits_cond : {P : Program} (b : Bool) (x y : Action) (o : Option Instr) → Fits P x o → Fits P y o
-    → Fits P (cond b x y) o
+fits_cond : {P : Program} (b : Bool) (x y : Action) (o : Option Instr) → ActionFits P x o → ActionFits P y o
+    → ActionFits P (cond b x y) o
 fits_cond true x y o p q = p
 fits_cond false x y o p q = q
 
@@ -74,14 +74,14 @@ flushes_and_fences calls.ReadI64 e = cc
 flushes_and_fences _ e = cc
 
 module _ (P : Program) (I : Input) (w : World) (below : ℕ) (rs : Registers) where
-  fits_accessed : (a n align : ℕ) (x : Action) (o : Option Instr) → Fits P x o
-      → Fits P (accessed P I w a n align x) o
+  fits_accessed : (a n align : ℕ) (x : Action) (o : Option Instr) → ActionFits P x o
+      → ActionFits P (accessed P I w a n align x) o
   unfolding accessed
   fits_accessed a n align x o h =
       fits_cond (nat_eq (a % align) 0) (cond (are_valid P I w a n) x (Traps traps.Address)) (Traps traps.Misaligned) o
       (fits_cond (are_valid P I w a n) x (Traps traps.Address) o h (record { is = tt {0} })) (record { is = tt {0} })
 
-  fits_flushing : (a n : ℕ) (x : Action) (o : Option Instr) → Fits P x o → Fits P (flushing P I w a n x) o
+  fits_flushing : (a n : ℕ) (x : Action) (o : Option Instr) → ActionFits P x o → ActionFits P (flushing P I w a n x) o
   unfolding flushing
   fits_flushing a n x o h =
       fits_cond (nat_eq n 0) x (cond (are_valid P I w a n) x (Traps traps.Address)) o h
@@ -89,14 +89,14 @@ module _ (P : Program) (I : Input) (w : World) (below : ℕ) (rs : Registers) wh
 
   fits_lines : (effect : LineEffect) (a n : ℕ) (o : Option Instr)
       → (effect ≡ effects.Flush → is_flush_call o ≡ true)
-      → (effect ≡ effects.FlushAndFence → is_persist_call o ≡ true) → Fits P (line_action P I w effect a n) o
+      → (effect ≡ effects.FlushAndFence → is_persist_call o ≡ true) → ActionFits P (line_action P I w effect a n) o
   fits_lines effects.Nothing a n o flush persist = record { is = tt {0} }
   fits_lines effects.Flush a n o flush persist = fits_flushing a n (Flushes a n) o (record { is = flush refl })
   fits_lines effects.Fence a n o flush persist = record { is = tt {0} }
   fits_lines effects.FlushAndFence a n o flush persist =
       fits_flushing a n (Persists a n) o (record { is = persist refl })
 
-  fits_allocated : (dest : List ℕ) (size align : ℕ) (o : Option Instr) → Fits P (allocated w dest size align) o
+  fits_allocated : (dest : List ℕ) (size align : ℕ) (o : Option Instr) → ActionFits P (allocated w dest size align) o
   unfolding allocated
   fits_allocated dest size align o =
       fits_cond (nat_le (next_multiple_of w.mark align + size) stack_end)
@@ -104,28 +104,28 @@ module _ (P : Program) (I : Input) (w : World) (below : ℕ) (rs : Registers) wh
       (record { is = tt {0} })
 
   fits_bound : (f : Option Function) (g : ℕ) (values : List ℕ) (dest : Option (List ℕ)) (o : Option Instr)
-      → called_number P o ≡ Some g → Fits P (bound_call f g values dest) o
+      → called_number P o ≡ Some g → ActionFits P (bound_call f g values dest) o
   fits_bound None g values dest o h = record { is = tt {0} }
   fits_bound (Some f) g values dest o h = record { is = h }
 
   fits_numbered : (n : Option ℕ) (values : List ℕ) (dest : Option (List ℕ)) (o : Option Instr)
       → called_number P o ≡ n
-      → Fits P (numbered_call P n values dest) o
+      → ActionFits P (numbered_call P n values dest) o
   fits_numbered None values dest o h = record { is = tt {0} }
   fits_numbered (Some g) values dest o h = fits_bound (slice_get P.functions g) g values dest o h
 
   fits_entered : (callee values : List ℕ) (dest : Option (List ℕ)) (o : Option Instr)
-      → called_number P o ≡ function_number P callee → Fits P (entered P below callee values dest) o
+      → called_number P o ≡ function_number P callee → ActionFits P (entered P below callee values dest) o
   unfolding entered
   fits_entered callee values dest o h =
       fits_cond (nat_lt below 16383) (numbered_call P (function_number P callee) values dest) (Traps traps.Depth) o
       (fits_numbered (function_number P callee) values dest o h) (record { is = tt {0} })
 
-  fits_calculated : (dest : List ℕ) (r : Result Bits NumTrap) (o : Option Instr) → Fits P (calculated dest r) o
+  fits_calculated : (dest : List ℕ) (r : Result Bits NumTrap) (o : Option Instr) → ActionFits P (calculated dest r) o
   fits_calculated dest (Ok b) o = record { is = tt {0} }
   fits_calculated dest (Err t) o = record { is = tt {0} }
 
-  fits_instr : (i : Instr) → Fits P (instr_action P I w below rs i) (Some i)
+  fits_instr : (i : Instr) → ActionFits P (instr_action P I w below rs i) (Some i)
   unfolding instr_action
   fits_instr (Binary dest op flags width a b) =
       fits_calculated dest (binary_of op (bits width (value_of P.globals I.base rs a))
@@ -140,12 +140,12 @@ module _ (P : Program) (I : Input) (w : World) (below : ℕ) (rs : Registers) wh
   fits_instr (Gep dest inbounds ty base indices) = record { is = tt {0} }
   fits_instr (Call dest ret callee args) = go (call_of callee) refl
     where
-      read : (left : List ℤ) → Fits P (read_next dest left) (Some (Call dest ret callee args))
+      read : (left : List ℤ) → ActionFits P (read_next dest left) (Some (Call dest ret callee args))
       read [] = record { is = tt {0} }
       read (z ∷ rest) = record { is = tt {0} }
 
       go : (c : Option ExternCall) → call_of callee ≡ c
-          → Fits P (call_action P I w below c callee (values_of P.globals I.base rs args) dest)
+          → ActionFits P (call_action P I w below c callee (values_of P.globals I.base rs args) dest)
           (Some (Call dest ret callee args))
       go None q = fits_entered callee (values_of P.globals I.base rs args) dest _ refl
       go (Some calls.ReadI64) q = read w.left
@@ -160,11 +160,11 @@ module _ (P : Program) (I : Input) (w : World) (below : ℕ) (rs : Registers) wh
           (Some (Call dest ret callee args)) (λ e. ap only_flushes q ∙ flushes_alone call e)
           (λ e. ap persists q ∙ flushes_and_fences call e)
 
-fits_jump : (P : Program) (I : Input) (f : Frame) (b : Option ℕ) (o : Option Instr) → Fits P (jump_to P I f b) o
+fits_jump : (P : Program) (I : Input) (f : Frame) (b : Option ℕ) (o : Option Instr) → ActionFits P (jump_to P I f b) o
 fits_jump P I f None o = record { is = tt {0} }
 fits_jump P I f (Some b) o = record { is = tt {0} }
 
-fits_end : (P : Program) (I : Input) (f : Frame) (e : Option End) (o : Option Instr) → Fits P (end_action P I f e) o
+fits_end : (P : Program) (I : Input) (f : Frame) (e : Option End) (o : Option Instr) → ActionFits P (end_action P I f e) o
 unfolding end_action jump
 fits_end P I f None o = record { is = tt {0} }
 fits_end P I f (Some (ends.Br label)) o = fits_jump P I f _ o
@@ -191,7 +191,7 @@ stated_cond : (b : Bool) (x y : Event) (o : Option Instr) → Stated x o → Sta
 stated_cond true x y o p q = p
 stated_cond false x y o p q = q
 
-event_stated : (P : Program) (I : Input) (fs : List Frame) (x : Action) (o : Option Instr) → Fits P x o
+event_stated : (P : Program) (I : Input) (fs : List Frame) (x : Action) (o : Option Instr) → ActionFits P x o
     → Stated (event_of I fs x) o
 event_stated P I fs (Traps kind) o h = record { is = tt {0} }
 event_stated P I fs (Assigns to v) o h = record { is = tt {0} }
@@ -216,7 +216,7 @@ event_stated P I fs (Returns v) o h =
     (record { is = tt {0} })
     (record { is = tt {0} })
 
-at_stated : (P : Program) (I : Input) (w : World) (fs : List Frame) (d : Deed) (o : Option Instr) → Fits P d.action o
+at_stated : (P : Program) (I : Input) (w : World) (fs : List Frame) (d : Deed) (o : Option Instr) → ActionFits P d.action o
     → Stated (event_at I w fs d) o
 at_stated P I w fs d o h =
     stated_cond (is_cut I w d) (events.End Cut) (event_of I fs d.action) o (record { is = tt {0} })
@@ -224,16 +224,16 @@ at_stated P I w fs d o h =
 
 -- What the top frame does next fits the instruction at its place.
 pub deed_fits : (P : Program) (I : Input) (w : World) (f : Frame) (fs : List Frame)
-    → Fits P (deed_at P I w f fs).action (instr_of P (site_of f))
+    → ActionFits P (deed_at P I w f fs).action (instr_of P (site_of f))
 deed_fits P I w f fs = by_code (code_at P f) refl
   where
     by_code : (code : List Instr) → code_at P f ≡ code
-        → Fits P (deed_of P I w (length fs) f (end_at P f) code).action (instr_of P (site_of f))
+        → ActionFits P (deed_of P I w (length fs) f (end_at P f) code).action (instr_of P (site_of f))
     by_code [] q = fits_end P I f (end_at P f) _
     by_code (i ∷ rest) q =
         let at : instr_of P (site_of f) ≡ Some i =
         instr_at_place P f.function f.block f.place ∙ get_drop (body_at P f.function f.block) f.place i rest q in
-        subst (Fits P (instr_action P I w (length fs) f.registers i)) (sym at)
+        subst (ActionFits P (instr_action P I w (length fs) f.registers i)) (sym at)
         (fits_instr P I w (length fs) f.registers i)
 
 -- The event of the next step fits the instruction at the top frame's place.

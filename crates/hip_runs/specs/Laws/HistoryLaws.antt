@@ -33,7 +33,7 @@ Stands P s = (i : Instr) × (instr_of P s ≡ Some i)
 
 -- What is true in each state of a run, by the calls that have not returned, the cache lines, and the number of steps
 -- that were taken.
-record IsKept (P : Program) (up : List Level) (ls : List (Line StorePart)) (n : ℕ) : Type 0 where
+record HistoryIsKept (P : Program) (up : List Level) (ls : List (Line StorePart)) (n : ℕ) : Type 0 where
   made : (x : StorePart) → PartOf ls x → x.step < n
   flush_made : (x : StorePart) (f : Flush) → PartOf ls x → x.first_flush ≡ Some f → f.step < n
   site : (x y : StorePart) → PartOf ls x → PartOf ls y → x.step ≡ y.step → x.site ≡ y.site
@@ -72,7 +72,7 @@ closed_there (l ∷ ls) b h v le =
     rw q (closed_there ls l.birth h.1 v (omega (arith, h.0)))
 
 module _ (P : Program) where
-  later : (up : List Level) (ls : List (Line StorePart)) (n : ℕ) → IsKept P up ls n → IsKept P up ls (suc n)
+  later : (up : List Level) (ls : List (Line StorePart)) (n : ℕ) → HistoryIsKept P up ls n → HistoryIsKept P up ls (suc n)
   later up ls n k = record {
     made = λ x i. omega (arith, k.made x i);
     flush_made = λ x f i e. omega (arith, k.flush_made x f i e);
@@ -108,8 +108,8 @@ module _ (P : Program) where
       not_new : (v : Level) → v.birth < call.birth → is_open up v ≡ false → is_open (call ∷ up) v ≡ false
       not_new v lt h = let q : nat_eq call.birth v.birth ≡ false = grind (arith, nat_tests) in rw (q, h) refl
 
-  call : (up : List Level) (ls : List (Line StorePart)) (n : ℕ) (s : Site) → Stands P s → IsKept P up ls n
-      → IsKept P (record { call = s; birth = n } ∷ up) ls (suc n)
+  call : (up : List Level) (ls : List (Line StorePart)) (n : ℕ) (s : Site) → Stands P s → HistoryIsKept P up ls n
+      → HistoryIsKept P (record { call = s; birth = n } ∷ up) ls (suc n)
   call up ls n s there k = record {
     made = λ x i. omega (arith, k.made x i);
     flush_made = λ x f i e. omega (arith, k.flush_made x f i e);
@@ -174,8 +174,8 @@ module _ (P : Program) where
         returned = λ v i. not_open l v up (s.returned v i);
       }
 
-  return : (up : List Level) (l : Level) (ls : List (Line StorePart)) (n : ℕ) → IsKept P (l ∷ up) ls n
-      → IsKept P up ls n
+  return : (up : List Level) (l : Level) (ls : List (Line StorePart)) (n : ℕ) → HistoryIsKept P (l ∷ up) ls n
+      → HistoryIsKept P up ls n
   return up l ls n k = record {
     made = k.made;
     flush_made = k.flush_made;
@@ -212,8 +212,8 @@ module _ (P : Program) where
   get_map f (x ∷ xs) zero y e = (x, refl, let q : y ≡ f x = cc in q)
   get_map f (x ∷ xs) (suc k) y e = get_map f xs k y e
 
-  fence : (up : List Level) (ls : List (Line StorePart)) (n : ℕ) → IsKept P up ls n
-      → IsKept P up (fenced_lines ls) n
+  fence : (up : List Level) (ls : List (Line StorePart)) (n : ℕ) → HistoryIsKept P up ls n
+      → HistoryIsKept P up (fenced_lines ls) n
   fence up ls n k = record {
     made = λ x i. let r = part-fenced ls x i in subst (λ (y : StorePart). y.step < n) (sym r.2) (k.made r.0 r.1);
     flush_made =
@@ -333,8 +333,8 @@ module _ (P : Program) where
   met_flushed (Some a) flush = (a, refl)
 
   flush_here : (up : List Level) (ls : List (Line StorePart)) (n o size : ℕ) (flush : Flush) → flush.step ≡ n
-      → Stands P flush.site → IsKept P up ls n
-      → IsKept P up (change_range (λ _ l. flush_line flush l) o size ls) (suc n)
+      → Stands P flush.site → HistoryIsKept P up ls n
+      → HistoryIsKept P up (change_range (λ _ l. flush_line flush l) o size ls) (suc n)
   flush_here up ls n o size flush at there k = record {
     made = λ x i. let r = from x i in omega (arith, k.made r.0 r.1, (same_store flush x r.0 r.2).step);
     flush_made =
@@ -403,10 +403,10 @@ module _ (P : Program) where
 
   flush : (I : Input) (up : List Level) (ls : List (Line StorePart)) (n a size : ℕ) (flush : Flush)
       → flush.step ≡ n
-      → Stands P flush.site → IsKept P up ls n → IsKept P up (flushed_lines I flush a size ls) (suc n)
+      → Stands P flush.site → HistoryIsKept P up ls n → HistoryIsKept P up (flushed_lines I flush a size ls) (suc n)
   flush I up ls n a size f at there k = go (flushes_lines I a size)
     where
-      go : (t : Bool) → IsKept P up (cond t (change_range (λ _ l. flush_line f l) (a - I.base) size ls) ls) (suc n)
+      go : (t : Bool) → HistoryIsKept P up (cond t (change_range (λ _ l. flush_line f l) (a - I.base) size ls) ls) (suc n)
       go true = flush_here up ls n (a - I.base) size f at there k
       go false = later up ls n k
 
@@ -441,8 +441,8 @@ module _ (P : Program) where
 
   -- A store keeps these facts. Each part after it is an old part or a new one.
   store_here : (up : List Level) (ls : List (Line StorePart)) (counts : Counts) (s : Site) (o : ℕ) (bytes : List ℕ)
-      → Stands P s → IsKept P up ls counts.steps →
-      IsKept P up (stored (part_of_store counts s up o bytes) o (length bytes) ls) (suc counts.steps)
+      → Stands P s → HistoryIsKept P up ls counts.steps →
+      HistoryIsKept P up (stored (part_of_store counts s up o bytes) o (length bytes) ls) (suc counts.steps)
   store_here up ls counts s o bytes there k = record {
     made =
         λ x i. by x (from x i) (λ j. omega (arith, k.made x j))
@@ -536,12 +536,12 @@ module _ (P : Program) where
           (sym (ap (λ (y : Line StorePart). slice_get y.parts j) more) ∙ g) (omega arith)) low
 
   store : (I : Input) (up : List Level) (ls : List (Line StorePart)) (counts : Counts) (s : Site) (a : ℕ)
-      (bytes : List ℕ) → Stands P s → IsKept P up ls counts.steps
-      → IsKept P up (stored_lines I counts s up a bytes ls) (suc counts.steps)
+      (bytes : List ℕ) → Stands P s → HistoryIsKept P up ls counts.steps
+      → HistoryIsKept P up (stored_lines I counts s up a bytes ls) (suc counts.steps)
   store I up ls counts s a bytes there k = go (in_region I a (length bytes))
     where
       go : (t : Bool)
-          → IsKept P up (cond t (stored (part_of_store counts s up (a - I.base) bytes) (a - I.base)
+          → HistoryIsKept P up (cond t (stored (part_of_store counts s up (a - I.base) bytes) (a - I.base)
           (length bytes) ls) ls) (suc counts.steps)
       go true = store_here up ls counts s (a - I.base) bytes there k
       go false = later up ls counts.steps k
@@ -550,21 +550,21 @@ module _ (P : Program) where
 
   -- The facts hold for the state's own calls, lines and count of steps.
   abbrev StateKept : State → Type 0
-  StateKept s = IsKept P (levels_of s.frames) s.lines s.counts.steps
+  StateKept s = HistoryIsKept P (levels_of s.frames) s.lines s.counts.steps
 
   leave_kept : (v : ℕ) (w : World) (f : Frame) (fs : List Frame) (ls : List (Line StorePart)) (c : Counts) (e : Event)
-      → IsKept P (levels_of (f ∷ fs)) ls c.steps → StateKept (leave v w f fs ls (counted e c))
+      → HistoryIsKept P (levels_of (f ∷ fs)) ls c.steps → StateKept (leave v w f fs ls (counted e c))
   unfolding leave
   leave_kept v w f [] ls c e k = later (levels_of (f ∷ [])) ls c.steps k
   leave_kept v w f (g ∷ fs) ls c e k = later (levels_of (g ∷ fs)) ls c.steps (go f.level k)
     where
-      go : (o : Option Level) → IsKept P (level_list o (levels_of (g ∷ fs))) ls c.steps
-          → IsKept P (levels_of (g ∷ fs)) ls c.steps
+      go : (o : Option Level) → HistoryIsKept P (level_list o (levels_of (g ∷ fs))) ls c.steps
+          → HistoryIsKept P (levels_of (g ∷ fs)) ls c.steps
       go None h = h
       go (Some l) h = return (levels_of (g ∷ fs)) l ls c.steps h
 
   perform_kept : (I : Input) (w : World) (f : Frame) (fs : List Frame) (ls : List (Line StorePart)) (c : Counts)
-      (e : Event) → Stands P (site_of f) → IsKept P (levels_of (f ∷ fs)) ls c.steps → (x : Action)
+      (e : Event) → Stands P (site_of f) → HistoryIsKept P (levels_of (f ∷ fs)) ls c.steps → (x : Action)
       → StateKept (perform I w f fs ls c (counted e c) x)
   unfolding perform
   perform_kept I w f fs ls c e there k (Traps kind) = later (levels_of (f ∷ fs)) ls c.steps k
@@ -607,7 +607,7 @@ module _ (P : Program) where
   end_is I f (Some ends.Unreachable) = tt
 
   end_kept : (I : Input) (w : World) (f : Frame) (fs : List Frame) (ls : List (Line StorePart)) (c : Counts) (e : Event)
-      → IsKept P (levels_of (f ∷ fs)) ls c.steps → (x : Action) → is_end x
+      → HistoryIsKept P (levels_of (f ∷ fs)) ls c.steps → (x : Action) → is_end x
       → StateKept (perform I w f fs ls c (counted e c) x)
   unfolding perform
   end_kept I w f fs ls c e k (Traps kind) p = later (levels_of (f ∷ fs)) ls c.steps k
@@ -625,7 +625,7 @@ module _ (P : Program) where
   end_kept I w f fs ls c e k (Calls g rs to) p = absurd p
 
   cut_kept : (I : Input) (w : World) (f : Frame) (fs : List Frame) (ls : List (Line StorePart)) (c : Counts) (e : Event)
-      (d : Deed) → IsKept P (levels_of (f ∷ fs)) ls c.steps
+      (d : Deed) → HistoryIsKept P (levels_of (f ∷ fs)) ls c.steps
       → ((w2 : World) → StateKept (perform I w2 f fs ls c (counted e c) d.action))
       → StateKept (carry_out I w f fs ls c (counted e c) d)
   unfolding carry_out
@@ -656,7 +656,7 @@ module _ (P : Program) where
   step_kept I s k = go s.world.ending
     where
       by_code : (f : Frame) (fs : List Frame) (e : Event) (code : List Instr) → code_at P f ≡ code
-          → IsKept P (levels_of (f ∷ fs)) s.lines s.counts.steps
+          → HistoryIsKept P (levels_of (f ∷ fs)) s.lines s.counts.steps
           → StateKept (carry_out I s.world f fs s.lines s.counts (counted e s.counts)
           (deed_of P I s.world (length fs) f (end_at P f) code))
       by_code f fs e [] q k =
@@ -670,7 +670,7 @@ module _ (P : Program) where
                 ∙ get_drop (body_at P f.function f.block) f.place i rest q,
           ) k _)
 
-      on_them : (fs : List Frame) → IsKept P (levels_of fs) s.lines s.counts.steps
+      on_them : (fs : List Frame) → HistoryIsKept P (levels_of fs) s.lines s.counts.steps
           → StateKept (on_frames P I s.world s.lines s.counts fs)
       on_them [] k = k
       on_them (f ∷ fs) k = by_code f fs (event_at I s.world fs (deed_at P I s.world f fs)) (code_at P f) refl k

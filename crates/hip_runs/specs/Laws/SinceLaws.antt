@@ -84,7 +84,7 @@ module _ (P : Program) (I : Input) (n : ℕ) where
 
 -- A part in line j, of a store before step n, notes whether a fence came since its store, and the first flush of its
 -- line since then.
-record IsStated (P : Program) (I : Input) (n j : ℕ) (x : StorePart) : Type 0 where
+record PartIsStated (P : Program) (I : Input) (n j : ℕ) (x : StorePart) : Type 0 where
   line : x.offset / 64 ≡ j
   made : x.step < n
   fenced : x.fenced ≡ true → FencedSince P I x.step n
@@ -98,7 +98,7 @@ record IsHere (P : Program) (I : Input) (n : ℕ) (flush : Flush) : Type 0 where
 
 module _ (P : Program) (I : Input) (n j : ℕ) where
   stated_same : fences (event P I (run P I n)) ≡ false → flushes I.base j (event P I (run P I n)) ≡ false
-      → (x : StorePart) → IsStated P I n j x → IsStated P I (suc n) j x
+      → (x : StorePart) → PartIsStated P I n j x → PartIsStated P I (suc n) j x
   stated_same q r x t = record {
     line = t.line;
     made = omega (arith, t.made);
@@ -108,7 +108,7 @@ module _ (P : Program) (I : Input) (n j : ℕ) where
   }
 
   stated_fence : fences (event P I (run P I n)) ≡ true → flushes I.base j (event P I (run P I n)) ≡ false
-      → (x : StorePart) → IsStated P I n j x → IsStated P I (suc n) j (noted_fence x)
+      → (x : StorePart) → PartIsStated P I n j x → PartIsStated P I (suc n) j (noted_fence x)
   stated_fence q r x t = record {
     line = t.line;
     made = omega (arith, t.made);
@@ -118,8 +118,8 @@ module _ (P : Program) (I : Input) (n j : ℕ) where
   }
 
   stated_flush : (flush : Flush) → IsHere P I n flush → fences (event P I (run P I n)) ≡ false
-      → flushes I.base j (event P I (run P I n)) ≡ true → (x : StorePart) → IsStated P I n j x
-      → IsStated P I (suc n) j (noted_flush flush x)
+      → flushes I.base j (event P I (run P I n)) ≡ true → (x : StorePart) → PartIsStated P I n j x
+      → PartIsStated P I (suc n) j (noted_flush flush x)
   stated_flush flush h q r x t = record {
     line = t.line;
     made = omega (arith, t.made);
@@ -129,8 +129,8 @@ module _ (P : Program) (I : Input) (n j : ℕ) where
   }
 
   stated_persist : (flush : Flush) → IsHere P I n flush → fences (event P I (run P I n)) ≡ true
-      → flushes I.base j (event P I (run P I n)) ≡ true → (x : StorePart) → IsStated P I n j x
-      → IsStated P I (suc n) j (noted_fence (noted_flush flush x))
+      → flushes I.base j (event P I (run P I n)) ≡ true → (x : StorePart) → PartIsStated P I n j x
+      → PartIsStated P I (suc n) j (noted_fence (noted_flush flush x))
   stated_persist flush h q r x t = record {
     line = t.line;
     made = omega (arith, t.made);
@@ -142,7 +142,7 @@ module _ (P : Program) (I : Input) (n j : ℕ) where
   -- A part that this step stores.
   stated_new : (x : StorePart) → x.offset / 64 ≡ j → x.step ≡ n → x.fenced ≡ false
       → x.first_flush ≡ None
-      → IsStated P I (suc n) j x
+      → PartIsStated P I (suc n) j x
   stated_new x line step fenced flush = record {
     line = line;
     made = omega (arith, step);
@@ -265,7 +265,7 @@ plain_flushes base j (events.End e) p = refl
 module _ (P : Program) (I : Input) (n : ℕ) where
   -- Before step m, the history of each part of these lines is that of the steps since its store.
   abbrev AreStated : ℕ → List (Line StorePart) → Type 0
-  AreStated m ls = (j : ℕ) (x : StorePart) → InLine (slice_get ls j) x → IsStated P I m j x
+  AreStated m ls = (j : ℕ) (x : StorePart) → InLine (slice_get ls j) x → PartIsStated P I m j x
 
   here : (f : Frame) (fs : List Frame) → IsTop (run P I n) f fs
       → IsHere P I n (flush_at (run P I n).counts (site_of f))
@@ -285,15 +285,15 @@ module _ (P : Program) (I : Input) (n : ℕ) where
         (of_stored _ (a - I.base) (length bytes) _ j x i);
     flush =
         λ f fs t a m e q j y i. let r = of_flushed I _ a m _ j y i in
-        subst (IsStated P I (suc n) j) (sym r.2) (by_flush f fs t a m j r.0 q (has_bytes j (a - I.base) m)
+        subst (PartIsStated P I (suc n) j) (sym r.2) (by_flush f fs t a m j r.0 q (has_bytes j (a - I.base) m)
         (line_met I a m j e) (stated j r.0 r.1));
     persist = λ f fs t a m e q j z i.
         let s = of_fenced _ j z i in
         let r = of_flushed I _ a m _ j s.0 s.1 in
-        subst (IsStated P I (suc n) j) (sym (s.2 ∙ ap noted_fence r.2))
+        subst (PartIsStated P I (suc n) j) (sym (s.2 ∙ ap noted_fence r.2))
         (by_persist f fs t a m j r.0 q (has_bytes j (a - I.base) m) (line_met I a m j e) (stated j r.0 r.1));
     fence =
-        λ q j y i. let r = of_fenced _ j y i in subst (IsStated P I (suc n) j) (sym r.2)
+        λ q j y i. let r = of_fenced _ j y i in subst (PartIsStated P I (suc n) j) (sym r.2)
         (stated_fence P I n j (ap fences q) (ap (flushes I.base j) q) r.0 (stated j r.0 r.1));
   }
     where
@@ -304,7 +304,7 @@ module _ (P : Program) (I : Input) (n : ℕ) where
           InLine (slice_get (run P I n).lines j) x
           ⊎ ((has_bytes j (a - I.base) (length bytes) ≡ true)
           × (x ≡ part_of_store (run P I n).counts (site_of f) (levels_of (f ∷ fs)) (a - I.base) bytes j))
-          → IsStated P I (suc n) j x
+          → PartIsStated P I (suc n) j x
       by_store f fs t a bytes e q j x (inl i) =
           stated_same P I n j (ap fences q) (ap (flushes I.base j) q) x (stated j x i)
       by_store f fs t a bytes e q j x (inr r) = stated_new P I n j x
@@ -315,16 +315,16 @@ module _ (P : Program) (I : Input) (n : ℕ) where
 
       by_flush : (f : Frame) (fs : List Frame) → IsTop (run P I n) f fs → (a m j : ℕ) (x : StorePart)
           → event P I (run P I n) ≡ events.Flush (first_line I a) (lines_size I a m) →
-          (b : Bool) → has_line I.base j (first_line I a) (lines_size I a m) ≡ b → IsStated P I n j x
-          → IsStated P I (suc n) j (cond b (noted_flush (flush_at (run P I n).counts (site_of f)) x) x)
+          (b : Bool) → has_line I.base j (first_line I a) (lines_size I a m) ≡ b → PartIsStated P I n j x
+          → PartIsStated P I (suc n) j (cond b (noted_flush (flush_at (run P I n).counts (site_of f)) x) x)
       by_flush f fs t a m j x q true e h =
           stated_flush P I n j _ (here f fs t) (ap fences q) (ap (flushes I.base j) q ∙ e) x h
       by_flush f fs t a m j x q false e h = stated_same P I n j (ap fences q) (ap (flushes I.base j) q ∙ e) x h
 
       by_persist : (f : Frame) (fs : List Frame) → IsTop (run P I n) f fs → (a m j : ℕ) (x : StorePart)
           → event P I (run P I n) ≡ events.Persist (first_line I a) (lines_size I a m) →
-          (b : Bool) → has_line I.base j (first_line I a) (lines_size I a m) ≡ b → IsStated P I n j x
-          → IsStated P I (suc n) j (noted_fence (cond b (noted_flush (flush_at (run P I n).counts (site_of f)) x) x))
+          (b : Bool) → has_line I.base j (first_line I a) (lines_size I a m) ≡ b → PartIsStated P I n j x
+          → PartIsStated P I (suc n) j (noted_fence (cond b (noted_flush (flush_at (run P I n).counts (site_of f)) x) x))
       by_persist f fs t a m j x q true e h =
           stated_persist P I n j _ (here f fs t) (ap fences q) (ap (flushes I.base j) q ∙ e) x h
       by_persist f fs t a m j x q false e h = stated_fence P I n j (ap fences q) (ap (flushes I.base j) q ∙ e) x h
@@ -342,16 +342,16 @@ no_part (suc n) zero x i = i
 no_part (suc n) (suc j) x i = no_part n j x i
 
 run_stated : (P : Program) (I : Input) (n j : ℕ) (x : StorePart) → InLine (slice_get (run P I n).lines j) x
-    → IsStated P I n j x
+    → PartIsStated P I n j x
 unfolding run
 run_stated P I zero j x i = absurd (no_part _ j x i)
 run_stated P I (suc n) j x i = stated_next P I n (run_stated P I n) j x i
 
 part_stated : (P : Program) (I : Input) (n : ℕ) (x : StorePart) → PartOf (run P I n).lines x
-    → IsStated P I n (x.offset / 64) x
+    → PartIsStated P I n (x.offset / 64) x
 part_stated P I n x i =
     let r = line_of_part (run P I n).lines x i in let t =
-    run_stated P I n r.0 x r.1 in subst (λ j. IsStated P I n j x) (sym t.line) t
+    run_stated P I n r.0 x r.1 in subst (λ j. PartIsStated P I n j x) (sym t.line) t
 
 -- A part is fenced exactly if a fence came since its store.
 pub fence_stated : (P : Program) (I : Input) (n : ℕ) (x : StorePart) → PartOf (run P I n).lines x

@@ -15,7 +15,7 @@ use Rattle.hip_runs.specs.StoredParts.After.{flush_at, flushed_by}
 use Rattle.hip_runs.specs.StoredParts.Persistence.{part_of_store, noted_flush, flush_line, flushes_lines, fenced_lines}
 use Rattle.hip_runs.specs.State.{Flush, StorePart, Frame, World, Counts, State, levels_of, site_of}
 use Rattle.hip_runs.specs.Step.{first_line, lines_size, event_of, stop, with_turn, leave, perform, is_cut, event_at, carry_out, deed_at, on_frames, on_ending, step, event_on_frames, event_on_ending, event, run}
-use Rattle.hip_runs.specs.Laws.Fits.{Fits, deed_fits}
+use Rattle.hip_runs.specs.Laws.Fits.{ActionFits, deed_fits}
 use Rattle.hip_runs.specs.declared.event.Event.TheVariants as events
 
 -- An event that leaves the lines as they are.
@@ -56,7 +56,7 @@ module _ (P : Program) (I : Input) (s : State) (Q : Event → List (Line StorePa
   leave_case v w f (g ∷ fs) after = c.plain _ refl
 
   perform_case : (w : World) (f : Frame) (fs : List Frame) → IsTop s f fs → (after : Counts) (x : Action)
-      → Fits P x (instr_of P (site_of f)) → Q (event_of I fs x) (perform I w f fs s.lines s.counts after x).lines
+      → ActionFits P x (instr_of P (site_of f)) → Q (event_of I fs x) (perform I w f fs s.lines s.counts after x).lines
   unfolding perform
   perform_case w f fs t after (Traps kind) h = c.plain _ refl
   perform_case w f fs t after (Assigns to v) h = c.plain _ refl
@@ -92,7 +92,7 @@ module _ (P : Program) (I : Input) (s : State) (Q : Event → List (Line StorePa
   perform_case w f fs t after (Returns v) h = leave_case v w f fs after
 
   carry_case : (f : Frame) (fs : List Frame) → IsTop s f fs → (after : Counts) (d : Deed)
-      → Fits P d.action (instr_of P (site_of f))
+      → ActionFits P d.action (instr_of P (site_of f))
       → Q (event_at I s.world fs d) (carry_out I s.world f fs s.lines s.counts after d).lines
   unfolding carry_out
   carry_case f fs t after d h = go (is_cut I s.world d)

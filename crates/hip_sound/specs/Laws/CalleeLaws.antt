@@ -7,7 +7,7 @@ use Rattle.hip_tree.specs.declared.program.Function.{Function}
 use Rattle.hip_tree.specs.declared.program.Program.{Program}
 use Rattle.hip_names.specs.Laws.NumberLaws.{number_of-there}
 use Rattle.hip_sound.specs.Laws.Decided.{all-at}
-use Rattle.hip_sound.specs.Numbering.{function_names, function_number}
+use Rattle.hip_sound.specs.NumberedNames.{function_names, function_number}
 use Rattle.hip_sound.specs.Sound.{IsSound, IsFree}
 
 -- The name of a function is not that of an external function.

@@ -8,7 +8,7 @@ use Rattle.std.proofs.lemmas.Bool.{leb-true, le-leb, and_parts}
 use Rattle.std.proofs.lemmas.List.Sums.{AllPass-from_list_all, list_all-from_AllPass}
 use Rattle.std.proofs.lemmas.List.Elements.{All-cons, All-head, All-tail, All-nil}
 use Rattle.std.proofs.lemmas.List.Kept.{AllPairs-cons}
-use Rattle.hip_sound.specs.Check.{Check, each_from, each}
+use Rattle.hip_sound.specs.Requirement.{Requirement, each_from, each}
 use Rattle.hip_sound.specs.Places.{each_pair}
 
 pub both-decides : {P Q : Type 0} (a b : Bool) → Decides a P → Decides b Q → Decides (a && b) (P × Q)
@@ -110,27 +110,27 @@ pub all-made : {X : Type 0} (P : X → Type 0) (xs : List X)
 all-made P [] h = All-nil P
 all-made P (x ∷ xs) h = All-cons P x xs (h 0 x refl) (all-made P xs (λ k y e. h (suc k) y e))
 
-each_from_sound : {X : Type 0} (n : ℕ) (check : ℕ → X → Check) (P : X → Type 0) (xs : List X)
+each_from_sound : {X : Type 0} (n : ℕ) (check : ℕ → X → Requirement) (P : X → Type 0) (xs : List X)
     → ((m : ℕ) (x : X) → (check m x).Holds → P x) → (each_from n check xs).Holds → All P xs
 each_from_sound n check P [] f h = All-nil P
 each_from_sound n check P (x ∷ xs) f h = All-cons P x xs (f n x h.0) (each_from_sound (n + 1) check P xs f h.1)
 
-each_from_whole : {X : Type 0} (n : ℕ) (check : ℕ → X → Check) (P : X → Type 0) (xs : List X)
+each_from_whole : {X : Type 0} (n : ℕ) (check : ℕ → X → Requirement) (P : X → Type 0) (xs : List X)
     → ((m : ℕ) (x : X) → P x → (check m x).Holds) → All P xs → (each_from n check xs).Holds
 each_from_whole n check P [] f h = tt
 each_from_whole n check P (x ∷ xs) f h =
     (f n x (All-head P x xs h), each_from_whole (n + 1) check P xs f (All-tail P x xs h))
 
--- If the check of each item gives a fact, the check of all gives the fact for all.
-pub each-sound : {X : Type 0} (check : ℕ → X → Check) (P : X → Type 0) (xs : List X)
+-- If the requirement of each item gives a fact, the requirement of all gives the fact for all.
+pub each-sound : {X : Type 0} (check : ℕ → X → Requirement) (P : X → Type 0) (xs : List X)
     → ((m : ℕ) (x : X) → (check m x).Holds → P x) → (each check xs).Holds → All P xs
 each-sound check P xs f h = each_from_sound 0 check P xs f h
 
-pub each-whole : {X : Type 0} (check : ℕ → X → Check) (P : X → Type 0) (xs : List X)
+pub each-whole : {X : Type 0} (check : ℕ → X → Requirement) (P : X → Type 0) (xs : List X)
     → ((m : ℕ) (x : X) → P x → (check m x).Holds) → All P xs → (each check xs).Holds
 each-whole check P xs f h = each_from_whole 0 check P xs f h
 
-holds_from-at : {X : Type 0} (n : ℕ) (check : ℕ → X → Check) (xs : List X) (k : ℕ) (x : X)
+holds_from-at : {X : Type 0} (n : ℕ) (check : ℕ → X → Requirement) (xs : List X) (k : ℕ) (x : X)
     → (each_from n check xs).Holds → slice_get xs k ≡ Some x → (check (n + k) x).Holds
 holds_from-at n check [] k x h e = cc
 holds_from-at n check (y ∷ ys) zero x h e =
@@ -141,14 +141,14 @@ holds_from-at n check (y ∷ ys) (suc k) x h e =
     let next : n + 1 + k ≡ n + suc k = omega arith in
     subst (λ m. (check m x).Holds) next (holds_from-at (n + 1) check ys k x h.1 e)
 
--- If the check of all items holds, that of the item at a place does.
-pub holds-at : {X : Type 0} (check : ℕ → X → Check) (xs : List X) (k : ℕ) (x : X) → (each check xs).Holds
+-- If the requirement of all items holds, that of the item at a place does.
+pub holds-at : {X : Type 0} (check : ℕ → X → Requirement) (xs : List X) (k : ℕ) (x : X) → (each check xs).Holds
     → slice_get xs k ≡ Some x → (check k x).Holds
 holds-at check xs k x h e =
     let none : 0 + k ≡ k = omega arith in
     subst (λ m. (check m x).Holds) none (holds_from-at 0 check xs k x h e)
 
-holds_from-made : {X : Type 0} (n : ℕ) (check : ℕ → X → Check) (xs : List X)
+holds_from-made : {X : Type 0} (n : ℕ) (check : ℕ → X → Requirement) (xs : List X)
     → ((k : ℕ) (x : X) → slice_get xs k ≡ Some x → (check (n + k) x).Holds) → (each_from n check xs).Holds
 holds_from-made n check [] h = tt
 holds_from-made n check (x ∷ xs) h =
@@ -158,8 +158,8 @@ holds_from-made n check (x ∷ xs) h =
           subst (λ m. (check m y).Holds) next (h (suc k) y e)),
     )
 
--- If the check of the item at each place holds, the check of all items holds.
-pub holds-made : {X : Type 0} (check : ℕ → X → Check) (xs : List X)
+-- If the requirement of the item at each place holds, the requirement of all items holds.
+pub holds-made : {X : Type 0} (check : ℕ → X → Requirement) (xs : List X)
     → ((k : ℕ) (x : X) → slice_get xs k ≡ Some x → (check k x).Holds) → (each check xs).Holds
 holds-made check xs h =
     holds_from-made 0 check xs (λ k x e. let same : k ≡ 0 + k = omega arith in

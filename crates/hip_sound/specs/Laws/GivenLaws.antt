@@ -16,7 +16,7 @@ use Rattle.hip_externs.specs.Externs.{Signature, known_signature}
 use Rattle.hip_sound.specs.Given.{CallsFunction, CallsExtern, CallsAgree, OperandsAgree, HasBlock, LabelsExist, PhisAgree}
 use Rattle.hip_names.specs.Laws.NameLaws.{bytes_eq-sym}
 use Rattle.hip_names.specs.Names.{IsAmong, number_of}
-use Rattle.hip_sound.specs.Numbering.{function_names, label_names}
+use Rattle.hip_sound.specs.NumberedNames.{function_names, label_names}
 use Rattle.hip_names.specs.Laws.NumberLaws.{number_of-cons}
 use Rattle.hip_sound.specs.Places.{callee_of, extern_of, function_of, first_of}
 use Rattle.hip_sound.specs.Registers.{end_labels}

@@ -1,4 +1,4 @@
--- Names that differ: what the checks require is what soundness says.
+-- Names that differ: what the requirements ask is what soundness says.
 use Rattle.std.specs.Prelude.{ℕ, ◌+◌, ◌≡◌, List, [], ◌∷◌, ◌++◌, map, Some}
 use Rattle.std.specs.List.{flat_map}
 use Rattle.std.proofs.Common.{append_assoc, refl, sym, ap, subst, ◌∙◌, inl, inr, ⊎_elim}
@@ -17,7 +17,7 @@ use Rattle.hip_globals.specs.Constants.{joined}
 use Rattle.hip_sound.specs.Paths.{names_of}
 use Rattle.hip_sound.specs.Registers.{Register, assigned_by, phi_registers, body_registers, parameter_registers}
 use Rattle.hip_sound.specs.Rules as rules
-use Rattle.hip_sound.specs.Rules.{names_check, inner_check, inner_names, named_in}
+use Rattle.hip_sound.specs.Rules.{names_required, inner_required, inner_names, named_in}
 use Rattle.hip_sound.specs.declared.fault.Place.{Place}
 use Rattle.hip_sound.specs.declared.fault.Place.TheVariants as places
 use Rattle.hip_sound.specs.Sound.{top_names, names_in_block, names_in_function}
@@ -89,22 +89,22 @@ top_alike P =
     ∙ ap (λ ns. map (λ g. g.name) P.globals ++ (map (λ e. e.name) P.externs ++ ns))
     (named_alike 0 (λ f. f.name) places.Head P.functions)
 
-pub names-sound : (P : Program) → (names_check P).Holds → AllDiffer (top_names P)
+pub names-sound : (P : Program) → (names_required P).Holds → AllDiffer (top_names P)
 names-sound P h = differ-sound (rules.declarations P) (top_names P) (top_alike P) h
 
-pub names-whole : (P : Program) → AllDiffer (top_names P) → (names_check P).Holds
+pub names-whole : (P : Program) → AllDiffer (top_names P) → (names_required P).Holds
 names-whole P h = differ-whole (rules.declarations P) (top_names P) (top_alike P) h
 
 -- ---- the names in a function
 
 -- Each declaration becomes an item that has its name.
-pub record Tells {A : Type 0} (d : Declares A) (name : A → List ℕ) : Type 0 where
+pub record DeclarationTells {A : Type 0} (d : Declares A) (name : A → List ℕ) : Type 0 where
   pub parameter : (p : Param) → name (d.parameter p) ≡ p.name
   pub label : (b : ℕ) (label : List ℕ) → name (d.label b label) ≡ label
   pub phi : (b i : ℕ) (p : Phi) → name (d.phi b i p) ≡ p.dest
   pub instr : (b i : ℕ) (r : Register) → name (d.instr b i r) ≡ r.name
 
-module _ {A : Type 0} (d : Declares A) (name : A → List ℕ) (t : Tells d name) where
+module _ {A : Type 0} (d : Declares A) (name : A → List ℕ) (t : DeclarationTells d name) where
   registers_stated : (b i : ℕ) (rs : List Register) → map name (map (d.instr b i) rs) ≡ names_of rs
   registers_stated b i [] = refl
   registers_stated b i (r ∷ rs) =
@@ -164,8 +164,8 @@ inner_names-are f fn =
     declared_names-are (named_in f) (λ n. n.name)
     (record { parameter = λ p. refl; label = λ b label. refl; phi = λ b i p. refl; instr = λ b i r. refl }) fn
 
-pub inner-sound : (f : ℕ) (fn : Function) → (inner_check f fn).Holds → AllDiffer (names_in_function fn)
+pub inner-sound : (f : ℕ) (fn : Function) → (inner_required f fn).Holds → AllDiffer (names_in_function fn)
 inner-sound f fn h = differ-sound (inner_names f fn) (names_in_function fn) (inner_names-are f fn) h
 
-pub inner-whole : (f : ℕ) (fn : Function) → AllDiffer (names_in_function fn) → (inner_check f fn).Holds
+pub inner-whole : (f : ℕ) (fn : Function) → AllDiffer (names_in_function fn) → (inner_required f fn).Holds
 inner-whole f fn h = differ-whole (inner_names f fn) (names_in_function fn) (inner_names-are f fn) h

@@ -5,7 +5,7 @@ use Rattle.std.proofs.lemmas.Option.{slice_get-map, slice_get_within, same_Some}
 use Rattle.hip_tree.specs.declared.program.Function.{Function}
 use Rattle.hip_tree.specs.declared.program.Program.{Program}
 use Rattle.hip_names.specs.Laws.NumberLaws.{number_of-there, number_of-known}
-use Rattle.hip_sound.specs.Numbering.{function_names, function_number}
+use Rattle.hip_sound.specs.NumberedNames.{function_names, function_number}
 
 -- A function that has a number by its name is there, with that name.
 pub function_number-there : (P : Program) (name : List ℕ) (g : ℕ) → function_number P name ≡ Some g

@@ -1,4 +1,4 @@
--- The rules of places as checks are the rules of soundness.
+-- The rules of places as requirements are the rules of soundness.
 use Rattle.std.specs.Prelude.{ℕ, zero, suc, ◌≡◌, ◌≢◌, ◌&&◌, ◌||◌, not, Bool, true, false, List, [], ◌∷◌, ◌++◌, map, All, Option, Some, None, is_some, option_map, slice_get, if◌then◌else◌}
 use Rattle.std.specs.List.{list_any, AllPairs}
 use Rattle.std.specs.Bool.{Decides}
@@ -25,15 +25,15 @@ use Rattle.hip_sound.specs.Equal.{same_bits, same_operand}
 use Rattle.hip_externs.specs.Externs.{Signature}
 use Rattle.hip_names.specs.Names.{IsAmong, is_among}
 use Rattle.hip_sound.specs.Paths.{label_at, names_of}
-use Rattle.hip_sound.specs.Places.{scope_of, are_among, extern_of, function_of, first_of, callee_of, signature_agrees, register_agrees, uses_known, use_agrees, uses_agree, has_type, instr_agrees, callee_known, instr_check, returned_agrees, returns, differ, cases_differ, end_cases, is_entry, end_check, is_predecessor, predecessors, carry_alike, edge_labels, edges_agree, phi_check}
+use Rattle.hip_sound.specs.Places.{scope_of, are_among, extern_of, function_of, first_of, callee_of, signature_agrees, register_agrees, uses_known, use_agrees, uses_agree, has_type, instr_agrees, callee_known, instr_required, returned_agrees, returns, differ, cases_differ, end_cases, is_entry, end_required, is_predecessor, predecessors, carry_alike, edge_labels, edges_agree, phi_required}
 use Rattle.hip_sound.specs.Registers.{Register, Use, find_register, registers_of, instr_uses, end_uses, end_labels, phi_uses, used_registers, used_globals}
 use Rattle.hip_sound.specs.declared.fault.Place.{Place}
 use Rattle.hip_sound.specs.Laws.Decided.{both-decides, all-decides, not-decides, none-decides, pairs-decides}
 use Rattle.hip_names.specs.Laws.NameLaws.{among-decides, among-left, among-right, among-either}
 use Rattle.hip_sound.specs.Laws.EqualLaws.{same_scalar-decides, same_scalars-decides, same_result-decides, same_bits-decides, same_operand-decides}
 use Rattle.hip_sound.specs.Sound as sound
-use Rattle.hip_sound.specs.Sound.{Item, PhiItem, InstrItem, EndItem, uses_of, callee_names, register_names, NamesExist, TypesFit, operand_is_typed, IsTyped, CallAgrees, OwnTypesAgree, TypesAgree, Precedes, EdgesAgree}
-use Rattle.hip_sound.specs.Numbering.{global_names, label_names}
+use Rattle.hip_sound.specs.Sound.{BlockItem, PhiItem, InstrItem, EndItem, uses_of, callee_names, register_names, NamesExist, TypesFit, operand_is_typed, IsTyped, CallAgrees, OwnTypesAgree, TypesAgree, Precedes, EdgesAgree}
+use Rattle.hip_sound.specs.NumberedNames.{global_names, label_names}
 
 -- ---- what is found by its name
 
@@ -395,7 +395,7 @@ edges-decides fn block edges =
 -- ---- a place
 
 -- Each rule of places holds of the item.
-pub record ItemIsSound (P : Program) (fn : Function) (block : Block) (x : Item) : Type 0 where
+pub record ItemIsSound (P : Program) (fn : Function) (block : Block) (x : BlockItem) : Type 0 where
   pub names : NamesExist P fn x
   pub fit : TypesFit x
   pub agree : TypesAgree P fn x
@@ -403,7 +403,7 @@ pub record ItemIsSound (P : Program) (fn : Function) (block : Block) (x : Item) 
   pub edges : sound.EdgesAreSound fn block x
 
 pub phi-sound : (P : Program) (fn : Function) (block : Block) (p : Phi) (place : Place)
-    → (phi_check (scope_of P fn) block.label p place).Holds → ItemIsSound P fn block (PhiItem p)
+    → (phi_required (scope_of P fn) block.label p place).Holds → ItemIsSound P fn block (PhiItem p)
 phi-sound P fn block p place h = record {
   names = (phi_names-decides P fn p).0 h.0;
   fit = h.1.0;
@@ -413,7 +413,7 @@ phi-sound P fn block p place h = record {
 }
 
 pub phi-whole : (P : Program) (fn : Function) (block : Block) (p : Phi) (place : Place)
-    → ItemIsSound P fn block (PhiItem p) → (phi_check (scope_of P fn) block.label p place).Holds
+    → ItemIsSound P fn block (PhiItem p) → (phi_required (scope_of P fn) block.label p place).Holds
 phi-whole P fn block p place s = (
   (phi_names-decides P fn p).1 s.names,
   (
@@ -423,7 +423,7 @@ phi-whole P fn block p place s = (
 )
 
 pub instr-sound : (P : Program) (fn : Function) (block : Block) (i : Instr) (place : Place)
-    → (instr_check (scope_of P fn) i place).Holds → ItemIsSound P fn block (InstrItem i)
+    → (instr_required (scope_of P fn) i place).Holds → ItemIsSound P fn block (InstrItem i)
 instr-sound P fn block i place h = record {
   names = (instr_names-decides P fn i).0 h.0;
   fit = h.1.0;
@@ -433,12 +433,12 @@ instr-sound P fn block i place h = record {
 }
 
 pub instr-whole : (P : Program) (fn : Function) (block : Block) (i : Instr) (place : Place)
-    → ItemIsSound P fn block (InstrItem i) → (instr_check (scope_of P fn) i place).Holds
+    → ItemIsSound P fn block (InstrItem i) → (instr_required (scope_of P fn) i place).Holds
 instr-whole P fn block i place s =
     ((instr_names-decides P fn i).1 s.names, (s.fit, (instr_types-decides P fn i).1 s.agree))
 
 pub end-sound : (P : Program) (fn : Function) (block : Block) (e : End) (place : Place)
-    → (end_check (scope_of P fn) e place).Holds → ItemIsSound P fn block (EndItem e)
+    → (end_required (scope_of P fn) e place).Holds → ItemIsSound P fn block (EndItem e)
 end-sound P fn block e place h = record {
   names = (end_names-decides P fn e).0 h.0;
   fit = h.1.0;
@@ -448,7 +448,7 @@ end-sound P fn block e place h = record {
 }
 
 pub end-whole : (P : Program) (fn : Function) (block : Block) (e : End) (place : Place)
-    → ItemIsSound P fn block (EndItem e) → (end_check (scope_of P fn) e place).Holds
+    → ItemIsSound P fn block (EndItem e) → (end_required (scope_of P fn) e place).Holds
 end-whole P fn block e place s = (
   (end_names-decides P fn e).1 s.names,
   (

@@ -1,4 +1,4 @@
--- A program is sound exactly if it passes the checks.
+-- A program is sound exactly if it meets the requirements.
 use Rattle.std.specs.Prelude.{ℕ, suc, ◌+◌, ◌≡◌, ◌≤◌, ◌&&◌, nat_le, Bool, true, false, List, [], ◌∷◌, map, get_or, All, Option, Some, None, is_none, slice_get, codes, option_map, cond, if◌then◌else◌}
 use Rattle.std.specs.Bool.{Decides}
 use Rattle.std.specs.Str.{bytes_eq}
@@ -19,11 +19,11 @@ use Rattle.hip_globals.specs.Addresses.{region_size, volatile_end}
 use Rattle.hip_sound.specs.Constants.{names_in}
 use Rattle.hip_externs.specs.Externs.{Signature, known_signature, call_of}
 use Rattle.hip_names.specs.Names.{AllDiffer, IsAmong, is_among, number_of}
-use Rattle.hip_sound.specs.Numbering.{function_names}
+use Rattle.hip_sound.specs.NumberedNames.{function_names}
 use Rattle.hip_names.specs.Laws.NumberLaws.{number_of-cons}
 use Rattle.hip_sound.specs.Places.{scope_of}
 use Rattle.hip_sound.specs.Rules as rules
-use Rattle.hip_sound.specs.Rules.{names_check, globals_check, global_check, externs_check, sizes_check, main_check, inner_names_check, places_check, function_check, block_check, phi_at, instr_at, site, is_of, is_main, is_i32, no_params, has_main, AllAssigned}
+use Rattle.hip_sound.specs.Rules.{names_required, globals_required, global_required, externs_required, sizes_required, main_required, inner_names_required, places_required, function_required, block_required, phi_at, instr_at, site, is_of, is_main, is_i32, no_params, has_main, AllAssigned}
 use Rattle.hip_sound.specs.declared.fault.Place.TheVariants as places
 use Rattle.hip_sound.specs.Laws.AssignedExact.{assigned-sound, assigned-whole, number_before}
 use Rattle.hip_sound.specs.Laws.Decided.{both-decides, all-decides, le-decides, each-sound, each-whole, holds-at, holds-made}
@@ -31,7 +31,7 @@ use Rattle.hip_names.specs.Laws.NameLaws.{bytes_eq-sym, among-decides}
 use Rattle.hip_sound.specs.Laws.NameLaws.{names-sound, names-whole, inner-sound, inner-whole}
 use Rattle.hip_sound.specs.Laws.PlaceExact.{ItemIsSound, phi-sound, phi-whole, instr-sound, instr-whole, end-sound, end-whole}
 use Rattle.hip_sound.specs.Laws.EqualLaws.{same_scalars-decides, same_result-decides}
-use Rattle.hip_sound.specs.Sound.{names_in_function, HasItsShape, NamesGlobals, IsOfTable, IsFree, KeepsToTable, KeepsToSizes, HasMain, IsBlockAt, Item, PhiItem, InstrItem, EndItem, EachItem, IsSound}
+use Rattle.hip_sound.specs.Sound.{names_in_function, HasItsShape, NamesGlobals, IsOfTable, IsFree, KeepsToTable, KeepsToSizes, HasMain, IsBlockAt, BlockItem, PhiItem, InstrItem, EndItem, EachItem, IsSound}
 use Rattle.hip_globals.specs.Addresses.{TypesFitIn}
 
 -- ---- globals
@@ -48,11 +48,11 @@ pub record GlobalsAreSound (P : Program) : Type 0 where
 abbrev global_facts : Program → GlobalVar → Type 0
 global_facts P g = TypesFitIn g × HasItsShape g × NamesGlobals P g
 
-pub globals-sound : (P : Program) → (globals_check P).Holds → GlobalsAreSound P
+pub globals-sound : (P : Program) → (globals_required P).Holds → GlobalsAreSound P
 globals-sound P h =
     let known = map (λ g. g.name) P.globals in
     let each =
-    each-sound (global_check known) (global_facts P) P.globals
+    each-sound (global_required known) (global_facts P) P.globals
     (λ n g c. (
       c.0,
       c.1.0,
@@ -61,10 +61,10 @@ globals-sound P h =
     )) h in
     record { fit = λ k d w. (each k d w).0; shape = λ k d w. (each k d w).1; names = λ k d w. (each k d w).2 }
 
-globals-whole : (P : Program) → GlobalsAreSound P → (globals_check P).Holds
+globals-whole : (P : Program) → GlobalsAreSound P → (globals_required P).Holds
 globals-whole P s =
     let known = map (λ g. g.name) P.globals in
-    each-whole (global_check known) (global_facts P) P.globals
+    each-whole (global_required known) (global_facts P) P.globals
     (λ n g c. (
       c.0,
       (
@@ -90,7 +90,7 @@ table-decides e (Some s) =
           cc in d.1 (sym (ap (λ t. t.ret) same), ap (λ t. t.params) same),
     )
 
-externs-sound : (P : Program) → (externs_check P).Holds → KeepsToTable P
+externs-sound : (P : Program) → (externs_required P).Holds → KeepsToTable P
 externs-sound P h = record {
   globals =
       each-sound rules.free_global (λ g. IsFree g.name) P.globals (λ n g c. (none-decides (call_of g.name)).0 c) h.0;
@@ -101,7 +101,7 @@ externs-sound P h = record {
       (λ n f c. (none-decides (call_of f.name)).0 c) h.1.1;
 }
 
-externs-whole : (P : Program) → KeepsToTable P → (externs_check P).Holds
+externs-whole : (P : Program) → KeepsToTable P → (externs_required P).Holds
 externs-whole P k = (
   each-whole rules.free_global (λ g. IsFree g.name) P.globals
       (λ n g c. (none-decides (call_of g.name)).1 c) k.globals,
@@ -121,10 +121,10 @@ sizes-decides P =
     both-decides _ _ (le-decides (region_size P) LARGEST_REGION)
     (le-decides (volatile_end P) (volatile_start + LARGEST_VOLATILE))
 
-sizes-sound : (P : Program) → (sizes_check P).Holds → KeepsToSizes P
+sizes-sound : (P : Program) → (sizes_required P).Holds → KeepsToSizes P
 sizes-sound P h = let both = (sizes-decides P).0 h in record { region = both.0; volatile = both.1 }
 
-sizes-whole : (P : Program) → KeepsToSizes P → (sizes_check P).Holds
+sizes-whole : (P : Program) → KeepsToSizes P → (sizes_required P).Holds
 sizes-whole P k = (sizes-decides P).1 (k.region, k.volatile)
 
 -- ---- `main`
@@ -157,7 +157,7 @@ main_there (f ∷ fs) n g named here is =
 main_is : (g : Function) → g.params ≡ [] → g.ret ≡ Some (scalars.Int W32) → is_main g ≡ true
 main_is g params ret = ap (λ ps. no_params ps && is_i32 g.ret) params ∙ ap is_i32 ret
 
-main-whole : (P : Program) → HasMain P → (main_check P).Holds
+main-whole : (P : Program) → HasMain P → (main_required P).Holds
 main-whole P m = main_there P.functions m.number m.function m.named m.here (main_is m.function m.params m.result)
 
 number_by : (f : Function) (fs : List Function) (b : Bool) → bytes_eq f.name (codes "main") ≡ b
@@ -199,7 +199,7 @@ answers_i32 (Some (scalars.Int W16)) e = cc
 answers_i32 (Some (scalars.Int W32)) e = refl
 answers_i32 (Some (scalars.Int W64)) e = cc
 
-main-sound : (P : Program) → (main_check P).Holds → HasMain P
+main-sound : (P : Program) → (main_required P).Holds → HasMain P
 main-sound P h =
     let found = main_found P.functions h in
     let both = and_parts (no_params found.1.params) (is_i32 found.1.ret) found.4 in
@@ -216,7 +216,7 @@ main-sound P h =
 -- ---- places
 
 block-sound : (P : Program) (f b : ℕ) (fn : Function) (block : Block)
-    → (block_check (scope_of P fn) f b block).Holds
+    → (block_required (scope_of P fn) f b block).Holds
     → EachItem block (ItemIsSound P fn block)
 block-sound P f b fn block h = record {
   phis =
@@ -229,7 +229,7 @@ block-sound P f b fn block h = record {
 }
 
 block-whole : (P : Program) (f b : ℕ) (fn : Function) (block : Block) → EachItem block (ItemIsSound P fn block)
-    → (block_check (scope_of P fn) f b block).Holds
+    → (block_required (scope_of P fn) f b block).Holds
 block-whole P f b fn block s = (
   each-whole (phi_at (scope_of P fn) block.label f b) (λ p. ItemIsSound P fn block (PhiItem p)) block.phis
       (λ i p c. phi-whole P fn block p (places.Phi (site f b i)) c) s.phis,
@@ -245,20 +245,20 @@ pub record PlacesAreSound (P : Program) : Type 0 where
   pub sound : (f b : ℕ) (fn : Function) (block : Block) → IsBlockAt P f b fn block
       → EachItem block (ItemIsSound P fn block)
 
-places-sound : (P : Program) → (places_check P).Holds → PlacesAreSound P
+places-sound : (P : Program) → (places_required P).Holds → PlacesAreSound P
 places-sound P h = record {
   sound = λ f b fn block at.
-      block-sound P f b fn block (holds-at (block_check (scope_of P fn) f) fn.blocks b block
-      (holds-at (function_check P) P.functions f fn h at.function) at.block_is);
+      block-sound P f b fn block (holds-at (block_required (scope_of P fn) f) fn.blocks b block
+      (holds-at (function_required P) P.functions f fn h at.function) at.block_is);
 }
 
-places-whole : (P : Program) → PlacesAreSound P → (places_check P).Holds
+places-whole : (P : Program) → PlacesAreSound P → (places_required P).Holds
 places-whole P s =
-    holds-made (function_check P) P.functions
-    (λ f fn e. holds-made (block_check (scope_of P fn) f) fn.blocks
+    holds-made (function_required P) P.functions
+    (λ f fn e. holds-made (block_required (scope_of P fn) f) fn.blocks
     (λ b block g. block-whole P f b fn block (s.sound f b fn block (record { function = e; block_is = g }))))
 
-rule-of : (block : Block) (all one : Item → Type 0) → ((x : Item) → all x → one x) → EachItem block all
+rule-of : (block : Block) (all one : BlockItem → Type 0) → ((x : BlockItem) → all x → one x) → EachItem block all
     → EachItem block one
 rule-of block all one f s =
     record {
@@ -269,8 +269,8 @@ rule-of block all one f s =
 
 -- ---- soundness
 
--- A program that passes the checks is sound.
-pub passes-sound : (P : Program) → rules.Passes P → IsSound P
+-- A program that meets the requirements is sound.
+pub passes-sound : (P : Program) → rules.PassesVerifier P → IsSound P
 passes-sound P s =
     let globals = globals-sound P s.globals in
     let places = places-sound P s.places in
@@ -284,7 +284,7 @@ passes-sound P s =
       sizes = sizes-sound P s.sizes;
       main = main-sound P s.main;
       inner_names_differ =
-          each-sound rules.inner_check (λ fn. AllDiffer (names_in_function fn)) P.functions
+          each-sound rules.inner_required (λ fn. AllDiffer (names_in_function fn)) P.functions
           (λ f fn c. inner-sound f fn c) s.registers;
       names_exist =
           λ f b fn block at. rule-of block (ItemIsSound P fn block) _ (λ x i. i.names) (places.sound f b fn block at);
@@ -327,8 +327,8 @@ item-of P s f b fn block at =
       last = record { names = names.last; fit = fit.last; agree = agree.last; cases = cases.last; edges = edges.last };
     }
 
--- A sound program passes the checks.
-pub sound-passes : (P : Program) → IsSound P → rules.Passes P
+-- A sound program meets the requirements.
+pub sound-passes : (P : Program) → IsSound P → rules.PassesVerifier P
 sound-passes P s = record {
   spelled = s.spelled;
   names = names-whole P s.names_differ;
@@ -342,7 +342,7 @@ sound-passes P s = record {
   sizes = sizes-whole P s.sizes;
   main = main-whole P s.main;
   registers =
-      each-whole rules.inner_check (λ fn. AllDiffer (names_in_function fn)) P.functions
+      each-whole rules.inner_required (λ fn. AllDiffer (names_in_function fn)) P.functions
       (λ f fn c. inner-whole f fn c) s.inner_names_differ;
   places = places-whole P (record { sound = λ f b fn block at. item-of P s f b fn block at });
   assigned =

@@ -7,64 +7,64 @@ use Rattle.hip_tree.specs.declared.block.Phi.{Phi}
 use Rattle.hip_tree.specs.declared.instr.Instr.{Instr}
 use Rattle.hip_tree.specs.declared.program.GlobalVar.{GlobalVar}
 use Rattle.hip_tree.specs.declared.program.Program.{Program}
-use Rattle.hip_sound.specs.Check.{IsExact}
+use Rattle.hip_sound.specs.Requirement.{IsDecided}
 use Rattle.std.proofs.Common.{arith}
 use Rattle.hip_globals.specs.Addresses.{end_of}
 use Rattle.hip_sound.specs.Sound.{KeepsToSizes}
 use Rattle.hip_sound.specs.Laws.CheckLaws.{asks_true-exact, and_then-exact, each_from-exact, differ_after-exact, types_fit-exact}
-use Rattle.hip_sound.specs.Places.{Scope, scope_of, instr_check, end_check, phi_check}
-use Rattle.hip_sound.specs.Rules.{global_check, globals_check, externs_check, inner_names_check, places_check, block_check, rules_check}
+use Rattle.hip_sound.specs.Places.{Scope, scope_of, instr_required, end_required, phi_required}
+use Rattle.hip_sound.specs.Rules.{global_required, globals_required, externs_required, inner_names_required, places_required, block_required, rules_required}
 use Rattle.hip_globals.specs.Constants.{types_in}
 use Rattle.hip_sound.specs.declared.fault.Fault.TheVariants as breaks
 use Rattle.hip_sound.specs.declared.fault.Place.{Place}
 use Rattle.hip_sound.specs.declared.fault.Place.TheVariants as places
 
-pub global-exact : (known : List (List ℕ)) (n : ℕ) (g : GlobalVar) → IsExact (global_check known n g)
+pub global-exact : (known : List (List ℕ)) (n : ℕ) (g : GlobalVar) → IsDecided (global_required known n g)
 global-exact known n g =
     and_then-exact _ _ (types_fit-exact (g.ty ∷ types_in g.init) (places.Global n))
     (and_then-exact _ _ (asks_true-exact _ breaks.BadGlobal (places.Global n))
     (asks_true-exact _ breaks.Unknown (places.Global n)))
 
-pub globals-exact : (P : Program) → IsExact (globals_check P)
+pub globals-exact : (P : Program) → IsDecided (globals_required P)
 globals-exact P = each_from-exact 0 _ P.globals (λ n g. global-exact _ n g)
 
-pub externs-exact : (P : Program) → IsExact (externs_check P)
+pub externs-exact : (P : Program) → IsDecided (externs_required P)
 externs-exact P =
     and_then-exact _ _ (each_from-exact 0 _ P.globals (λ n g. asks_true-exact _ _ _))
     (and_then-exact _ _ (each_from-exact 0 _ P.externs (λ n e. asks_true-exact _ _ _))
     (each_from-exact 0 _ P.functions (λ n f. asks_true-exact _ _ _)))
 
-pub inner_names-exact : (P : Program) → IsExact (inner_names_check P)
+pub inner_names-exact : (P : Program) → IsDecided (inner_names_required P)
 inner_names-exact P = each_from-exact 0 _ P.functions (λ n f. differ_after-exact _ _)
 
-pub instr-exact : (s : Scope) (i : Instr) (place : Place) → IsExact (instr_check s i place)
+pub instr-exact : (s : Scope) (i : Instr) (place : Place) → IsDecided (instr_required s i place)
 instr-exact s i place =
     and_then-exact _ _ (asks_true-exact _ _ _) (and_then-exact _ _ (types_fit-exact _ _) (asks_true-exact _ _ _))
 
-pub end-exact : (s : Scope) (e : End) (place : Place) → IsExact (end_check s e place)
+pub end-exact : (s : Scope) (e : End) (place : Place) → IsDecided (end_required s e place)
 end-exact s e place =
     and_then-exact _ _ (asks_true-exact _ _ _)
     (and_then-exact _ _ (types_fit-exact _ _)
     (and_then-exact _ _ (asks_true-exact _ _ _)
     (and_then-exact _ _ (asks_true-exact _ _ _) (asks_true-exact _ _ _))))
 
-pub phi-exact : (s : Scope) (label : List ℕ) (p : Phi) (place : Place) → IsExact (phi_check s label p place)
+pub phi-exact : (s : Scope) (label : List ℕ) (p : Phi) (place : Place) → IsDecided (phi_required s label p place)
 phi-exact s label p place =
     and_then-exact _ _ (asks_true-exact _ _ _)
     (and_then-exact _ _ (types_fit-exact _ _) (and_then-exact _ _ (asks_true-exact _ _ _) (asks_true-exact _ _ _)))
 
-pub block-exact : (s : Scope) (f n : ℕ) (block : Block) → IsExact (block_check s f n block)
+pub block-exact : (s : Scope) (f n : ℕ) (block : Block) → IsDecided (block_required s f n block)
 block-exact s f n block =
     and_then-exact _ _ (each_from-exact 0 _ block.phis (λ i p. phi-exact s block.label p _))
     (and_then-exact _ _ (each_from-exact 0 _ block.body (λ i instr. instr-exact s instr _))
     (end-exact s block.end _))
 
-pub places-exact : (P : Program) → IsExact (places_check P)
+pub places-exact : (P : Program) → IsDecided (places_required P)
 places-exact P =
     each_from-exact 0 _ P.functions (λ f fn. each_from-exact 0 _ fn.blocks
     (λ n block. block-exact (scope_of P fn) f n block))
 
-pub rules-exact : (P : Program) → IsExact (rules_check P)
+pub rules-exact : (P : Program) → IsDecided (rules_required P)
 rules-exact P =
     and_then-exact _ _ (differ_after-exact _ _)
     (and_then-exact _ _ (globals-exact P)

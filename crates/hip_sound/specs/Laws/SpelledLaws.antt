@@ -9,7 +9,7 @@ use Rattle.hip_types.specs.Laws.LayoutLaws.{IsAlignment, align_of-alignment}
 use Rattle.hip_types.specs.declared.limits.TheConstants.{LARGEST_ALIGNMENT}
 use Rattle.hip_tree.specs.declared.program.GlobalVar.{GlobalVar}
 use Rattle.hip_tree.specs.declared.program.Program.{Program}
-use Rattle.hip_grammar.specs.Reading.{IsSpelled}
+use Rattle.hip_grammar.specs.ReadTexts.{IsSpelled}
 use Rattle.hip_grammar.specs.Spelling.{spelled_align, spelled_type, spelled_const, spelled_global}
 use Rattle.hip_grammar.specs.Laws.SpellingExact.{spelled_exact}
 use Rattle.hip_globals.specs.Addresses.{AllDivide, global_align}

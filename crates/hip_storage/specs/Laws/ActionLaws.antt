@@ -15,8 +15,8 @@ use Rattle.hip_mem.specs.declared.refusal.MemTrap.{MemTrap}
 use Rattle.hip_mem.specs.declared.refusal.MemTrap.TheVariants as mem_traps
 use Rattle.hip_runs.specs.Actions.{Action, Traps, Assigns, Allocates, Stores, Flushes, Persists, Fences, Asserts, Returns, accessed, allocated, flushing, in_region, is_within, memory_of}
 use Rattle.hip_runs.specs.Actions as actions
-use Rattle.hip_runs.specs.Laws.Standing.ValidLaws.{accessed_is, memory_written, unless_trap, valid_is}
-use Rattle.hip_runs.specs.Standing.{HoldsMemory}
+use Rattle.hip_runs.specs.Laws.Represented.ValidLaws.{accessed_is, memory_written, unless_trap, valid_is}
+use Rattle.hip_runs.specs.Represented.{HoldsMemory}
 use Rattle.hip_runs.specs.State.{Frame, World}
 use Rattle.hip_runs.specs.Step.{event_of, leave, perform, with_turn}
 use Rattle.hip_runs.specs.StoredParts.Persistence as persistence
@@ -28,7 +28,7 @@ use Rattle.hip_runs.specs.declared.event.TrapKind.TheVariants as traps
 use Rattle.hip_runs.specs.declared.input.Input.{Input}
 use Rattle.hip_storage.specs.Calls.{HasLoaded, HasStored, HasPushed, ShowsFlush, ShowsPersist}
 use Rattle.hip_storage.specs.Contents.{Contents, access_trap, after_pop, after_push, after_store, block_trap, flush_event, kind_of, lies_in_region, persist_event, range_trap, region_of, store_event}
-use Rattle.hip_storage.specs.Standing.{HasDone, HoldsAt, HoldsRun, HoldsState, Point, performed}
+use Rattle.hip_storage.specs.Represented.{HasDone, HoldsAt, HoldsRun, HoldsState, Point, performed}
 
 -- ---- the region of the contents is that of the run
 

@@ -10,7 +10,7 @@ use Rattle.hip_runs.specs.Validity.{IsValid}
 use Rattle.hip_runs.specs.declared.input.Input.{Input}
 use Rattle.hip_sound.specs.Sound.{IsSound}
 use Rattle.hip_storage.specs.Contents.{initial}
-use Rattle.hip_storage.specs.Standing.{HoldsState}
+use Rattle.hip_storage.specs.Represented.{HoldsState}
 
 -- The contents before the first step of a run are those of its start.
 pub starts : (P : Program) (I : Input) → IsSound P → IsValid P I

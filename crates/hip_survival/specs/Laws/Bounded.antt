@@ -22,7 +22,7 @@ use Rattle.hip_mem.specs.Laws.BytesLaws.{length-bytes_of}
 use Rattle.hip_types.specs.Areas.{volatile_start, stack_start, stack_end}
 use Rattle.hip_num.specs.Arithmetic.{binary_of}
 use Rattle.hip_num.specs.declared.arithmetic.NumTrap.{NumTrap}
-use Rattle.hip_sound.specs.Numbering.{function_number}
+use Rattle.hip_sound.specs.NumberedNames.{function_number}
 use Rattle.hip_runs.specs.Actions.{Action, Traps, Allocates, Stores, Flushes, Persists, Asserts, is_within, are_valid, arg_value, in_region, accessed, calculated, allocated, bound_call, numbered_call, entered, flushing, read_next, call_action, instr_action, jump_to, jump, end_action, deed_of, line_action, flushed_size}
 use Rattle.hip_runs.specs.Operands.{scalar_size, value_of, values_of}
 use Rattle.hip_runs.specs.Places.{code_at, end_at}

@@ -1,8 +1,11 @@
--- Two steps that store into the region have different entries.
-use Rattle.std.proofs.Common.{◌≡◌, ◌⊎◌, inl, inr, ℕ, zero, suc, ◌+◌, ◌-◌, ◌<◌, ◌≤◌, Bool, true, false, cond, Option, Some, None, refl, sym, ap, ◌∙◌, arith}
+-- Two steps that store into the region have different entries, and what a crash may leave it may leave at an entry.
+use Rattle.std.proofs.Common.{◌≡◌, ◌⊎◌, inl, inr, ℕ, zero, suc, ◌+◌, ◌-◌, ◌<◌, ◌≤◌, Bool, true, false, cond, List, Option, Some, None, refl, sym, ap, ◌∙◌, subst, arith}
 use Rattle.std.specs.Prelude.{is_some}
 use Rattle.hip_tree.specs.declared.program.Program.{Program}
-use Rattle.hip_runs.specs.Laws.NextLaws.{counts-next, rests-ended}
+use Rattle.hip_runs.specs.Crash.{IsCrashImage}
+use Rattle.hip_runs.specs.Entry.{IsAtEntry}
+use Rattle.hip_runs.specs.Laws.CrashLaws.{only_stores_add}
+use Rattle.hip_runs.specs.Laws.NextLaws.{counts-next, entry_there, rests-ended}
 use Rattle.hip_runs.specs.State.{Counts, State}
 use Rattle.hip_runs.specs.Step.{event, event_on_ending, has_ended, has_entry, run}
 use Rattle.hip_runs.specs.StoredParts.Since.{stores}
@@ -88,3 +91,41 @@ module _ (P : Program) (I : Input) where
       go (inl lt) = absurd (let h = not_sooner t u a.store lt in omega (arith, h, same))
       go (inr (inl e)) = e
       go (inr (inr lt)) = absurd (let h = not_sooner u t b.store lt in omega (arith, h, same))
+
+  -- Steps without an entry leave the crash images as they were.
+  back : (content : List ℕ) (m d : ℕ) → entries (m + d) ≤ entries m → IsCrashImage I (run P I (m + d)) content
+      → IsCrashImage I (run P I m) content
+  back content m zero few h =
+      let e : m + 0 ≡ m = omega arith in
+      subst (λ k. IsCrashImage I (run P I k) content) e h
+  back content m (suc d) few h = go (λ f i. back content m d f i) (stores (event P I (run P I (m + d)))) refl
+    where
+      e : m + suc d ≡ suc (m + d)
+      e = omega arith
+
+      few' : entries (suc (m + d)) ≤ entries m
+      few' = subst (λ k. entries k ≤ entries m) e few
+
+      there : IsCrashImage I (run P I (suc (m + d))) content
+      there = subst (λ k. IsCrashImage I (run P I k) content) e h
+
+      go : (entries (m + d) ≤ entries m → IsCrashImage I (run P I (m + d)) content → IsCrashImage I (run P I m) content)
+          → (b : Bool) → stores (event P I (run P I (m + d))) ≡ b → IsCrashImage I (run P I m) content
+      go rest true s =
+          let c = store_counts (m + d) s in
+          let l = later m d in
+          absurd (omega (arith, c, l, few'))
+      go rest false s =
+          let g = grows (m + d) in
+          rest (omega (arith, g, few')) (only_stores_add P I (m + d) content s there)
+
+  -- What a crash may leave in some state, it may leave at the entry of the trace that came last.
+  pub crash_at_entry : (n : ℕ) (content : List ℕ) → IsCrashImage I (run P I n) content
+      → (m : ℕ) × IsAtEntry P I (entries n) m × IsCrashImage I (run P I m) content
+  crash_at_entry n content h =
+      let at = entry_there P I (entries n) n (omega arith) in
+      let m = at.0 in
+      let e : m + (n - m) ≡ n = let le : m ≤ n = at.1 in omega (arith, le) in
+      let enough : entries n ≤ entries m = at.2.enough in
+      let q : entries (m + (n - m)) ≡ entries n = ap entries e in
+      (m, at.2, back content m (n - m) (omega (arith, enough, q)) (subst (λ k. IsCrashImage I (run P I k) content) (sym e) h))

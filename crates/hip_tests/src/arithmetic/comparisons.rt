@@ -1,5 +1,6 @@
-use hip_types::Pred::{self, Eq, Ne, Sge, Sgt, Sle, Slt, Uge, Ugt, Ule, Ult};
-use hip_types::Width::{self, W1, W8, W16, W32, W64};
+use hip_types::Pred::{Eq, Ne, Sge, Sgt, Sle, Slt, Uge, Ugt, Ule, Ult};
+use hip_types::Width::{W1, W8, W16, W32, W64};
+use hip_types::{Pred, Width};
 
 /// Comparisons at the edges of each width.
 pub const COMPARISONS: [(Pred, Width, u64, u64, bool); 150] = [

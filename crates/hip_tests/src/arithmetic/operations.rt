@@ -1,8 +1,7 @@
 use hip_num::NumTrap::{self, DivOverflow, DivZero, ShiftRange};
-use hip_types::BinaryOp::{
-    self, Add, And, Ashr, Lshr, Mul, Or, Sdiv, Shl, Srem, Sub, Udiv, Urem, Xor,
-};
-use hip_types::Width::{self, W1, W8, W16, W32, W64};
+use hip_types::BinaryOp::{Add, And, Ashr, Lshr, Mul, Or, Sdiv, Shl, Srem, Sub, Udiv, Urem, Xor};
+use hip_types::Width::{W1, W8, W16, W32, W64};
+use hip_types::{BinaryOp, Width};
 
 /// Operations at the edges of each width, with their results in two's complement.
 pub const OPERATIONS: [(BinaryOp, Width, u64, u64, Result<u64, NumTrap>); 198] = [

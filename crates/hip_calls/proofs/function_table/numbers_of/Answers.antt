@@ -1,8 +1,8 @@
 use Rattle.std.proofs.Common.{ℕ, zero, suc, ◌+◌, ◌<◌, ◌≤◌, ◌≡◌, List, [], ◌∷◌, ◌++◌, length, get_or, sym, ap, ◌∙◌, subst, arith, take}
 use Rattle.std.proofs.lemmas.List.{length-map}
 use Rattle.hip_tree.specs.declared.program.Function.{Function}
-use Rattle.hip_names.specs.Tables.{Entry, StandsFor}
-use Rattle.hip_sound.specs.Numbering.{function_names}
+use Rattle.hip_names.specs.Tables.{Entry, TableStandsFor}
+use Rattle.hip_sound.specs.NumberedNames.{function_names}
 use Rattle.hip_names.specs.Numbered.{entries_from, entries-next, numbers_found}
 use Rattle.hip_calls.proofs.function_table.numbers_of.Goals as goal
 
@@ -24,7 +24,7 @@ each-preserved c =
     let name : c.as_slice.result.now ≡ f.name = c.as_slice.ensures ∙ ap (λ (g : Function). g.name) (sym c.index-functions-number.is) in
     let here : same ≡ entry = λ x. record { name = name x; value = zero-add-sym c.each.number x } in
     let next = entries-next 0 (function_names functions) c.each.number f.name (omega arith) (named_at functions c.each.number f c.each-test.true c.index-functions-number.is) in
-    subst (StandsFor c.add.new.self.names c.add.new.self.values) (ap (λ (e : Entry ℕ). entries_from 0 (take c.each.number (function_names functions)) ++ e ∷ []) here ∙ next)
+    subst (TableStandsFor c.add.new.self.names c.add.new.self.values) (ap (λ (e : Entry ℕ). entries_from 0 (take c.each.number (function_names functions)) ++ e ∷ []) here ∙ next)
     (c.in_ok-add.ensures.ok (entries_from 0 (take c.each.number (function_names functions))) c.each.invariant)
 
 pub returns : goal.returns

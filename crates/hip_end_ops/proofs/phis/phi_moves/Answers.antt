@@ -2,7 +2,7 @@ use Rattle.std.proofs.Common.{ℕ, ◌≡◌, None, map, slice_get, sym, ap, ◌
 use Rattle.std.specs.Option.{option_copied}
 use Rattle.std.proofs.lemmas.Option.{same_Some}
 use Rattle.hip_names.specs.declared.table.NameTable.{NameTable}
-use Rattle.hip_names.specs.Numbered.{Numbers}
+use Rattle.hip_names.specs.Numbered.{NumbersNames}
 use Rattle.hip_scope.specs.Grown.{grown}
 use Rattle.hip_end_ops.proofs.EdgeOps.{moves_none, moves_on, moves_all, phi_at}
 use Rattle.hip_end_ops.proofs.phis.phi_moves.Goals as goal
@@ -22,7 +22,7 @@ pub phi_move-requires-clause-numbers : goal.phi_move-requires-clause-numbers
 phi_move-requires-clause-numbers c =
     let h = c.requires.numbers.at c.moving.index c.index-phis-index.result (phi_at c.args.phis.now c.moving.index _ c.moving-test.true c.index-phis-index.is) in
     let same : h.table ≡ c.in-Some.numbers.now = same_Some h.table c.in-Some.numbers.now (sym h.here ∙ sym c.get.ensures ∙ ap option_copied c.in-Some.is) in
-    subst (λ (t : NameTable ℕ). Numbers t.names t.values (map (λ e. e.label) c.index-phis-index.result.edges)) same h.numbers
+    subst (λ (t : NameTable ℕ). NumbersNames t.names t.values (map (λ e. e.label) c.index-phis-index.result.edges)) same h.numbers
 
 pub unreachable-requires : goal.unreachable-requires
 unreachable-requires c =

@@ -1,6 +1,6 @@
 use Rattle.std.proofs.Common.{◌≡◌, IfOk, subst}
 use Rattle.hip_tree.specs.Sites.{has_site}
-use Rattle.hip_insertions.specs.Walk.{wanted_in}
+use Rattle.hip_fix.specs.Walk.{wanted_in}
 use Rattle.hip_fix.proofs.Whole.{names_as_long, walked_is}
 use Rattle.hip_fix.proofs.program.repaired_program.Goals as goal
 

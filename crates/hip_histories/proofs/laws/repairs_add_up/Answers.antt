@@ -2,7 +2,7 @@ use Rattle.std.proofs.Common.{[], ◌∷◌}
 use Rattle.hip_repairs.specs.Repaired.{repaired}
 use Rattle.hip_repairs.proofs.Theorems.{repaired_is_sound, repairs_are_clean}
 use Rattle.hip_repairs.specs.Laws.Unchanged.{valid_again}
-use Rattle.hip_repair_survival.specs.Laws.ChecksKept.{stays_clean}
+use Rattle.hip_survival.specs.Laws.ChecksKept.{stays_clean}
 use Rattle.hip_histories.proofs.Repairs.{all_covered, twice}
 use Rattle.hip_histories.proofs.Rounds.{no_history_more}
 use Rattle.hip_histories.proofs.laws.repairs_add_up.Goals as goal

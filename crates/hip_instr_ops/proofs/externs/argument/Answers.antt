@@ -1,9 +1,9 @@
 use Rattle.std.proofs.Common.{subst}
 use Rattle.hip_tree.specs.declared.instr.Arg.{Arg}
-use Rattle.hip_code.specs.declared.op.Operand.TheVariants.{Register}
+use Rattle.hip_code.specs.declared.op.OpOperand.TheVariants.{Register}
 use Rattle.hip_scope.specs.Grown.{grown}
 use Rattle.hip_instr_ops.specs.Effects.{StandsForArg}
-use Rattle.hip_scope.specs.Scopes.{StandsFor}
+use Rattle.hip_scope.specs.Scopes.{OperandStandsFor}
 use Rattle.hip_instr_ops.proofs.EffectOps.{arg_known, arg_same, none_there}
 use Rattle.hip_scope.proofs.Growth.{makes_also, makes_same}
 use Rattle.hip_instr_ops.proofs.externs.argument.Goals as goal
@@ -14,7 +14,7 @@ operand-requires-clause-known c = arg_known _ c.args.args.now c.args.index _ c.r
 pub returns : goal.returns
 returns c =
     makes_also c.in_ok-argument.ensures.stands
-    (λ t h x e. subst (λ (a : Arg). StandsFor c.args.scope.now t c.in_ok-argument.argument a.value) (arg_same c.args.args.now c.args.index _ x c.index-args-index.is e) h)
+    (λ t h x e. subst (λ (a : Arg). OperandStandsFor c.args.scope.now t c.in_ok-argument.argument a.value) (arg_same c.args.args.now c.args.index _ x c.index-args-index.is e) h)
 
 pub returns-then-index-args : goal.returns-then-index-args
 returns-then-index-args c =

@@ -12,7 +12,7 @@ use Rattle.hip_runs.specs.declared.input.Input.{Input}
 use Rattle.hip_runs.specs.declared.report.Findings.{Findings}
 use Rattle.hip_repairs.specs.Choice.{Contains, plan_for}
 use Rattle.hip_repairs.specs.Clean.{IsClean}
-use Rattle.hip_repairs.specs.Quiet.{IsQuiet}
+use Rattle.hip_repairs.specs.StayOutside.{StayOutside}
 use Rattle.hip_repairs.specs.Repaired.{repaired}
 use Rattle.hip_repairs.specs.Suits.{IsSuiting}
 use Rattle.hip_repairs.specs.declared.plan.Plan.{Plan}
@@ -65,7 +65,7 @@ returns-clause-clean c =
     let plans = c.args.plans.now in
     if_ok (IsUnion plans)
     (λ (plan : Plan). (P : Program) → (skip : Site → Bool) → (I : Input) → (found : Findings) →
-    IsSound P → IsValid P I → IsQuiet P skip → IsFound P I found → In (plan_for P found) plans → IsClean (repaired P plan skip) I)
+    IsSound P → IsValid P I → StayOutside P skip → IsFound P I found → In (plan_for P found) plans → IsClean (repaired P plan skip) I)
     (λ plan union P skip I found sound valid quiet is_found i.
     c.repairs_are_clean.ensures P plan skip I found sound valid quiet is_found (union_contains plans plan union (plan_for P found) i))
     c.to_plan.result (returns-clause-union c)

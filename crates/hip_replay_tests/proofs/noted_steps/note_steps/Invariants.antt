@@ -1,5 +1,5 @@
 use Rattle.std.proofs.Common.{◌≡◌}
-use Rattle.hip_report.specs.Tracking.{HasNoted}
+use Rattle.hip_report.specs.TrackerView.{HasNoted}
 use Rattle.hip_replay_tests.proofs.noted_steps.note_steps.Given as goal
 
 abbrev pub invariant-steps : goal.invariant-steps

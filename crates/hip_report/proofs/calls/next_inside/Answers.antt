@@ -1,8 +1,8 @@
 use Rattle.std.proofs.Common.{◌≡◌, ◌-◌, ◌∙◌, ap, arith, length, refl, slice_get, sym, subst, Option, Some, None}
 use Rattle.std.specs.Prelude.{IfSome, option_map, ◌∷◌}
 use Rattle.hip_runs.specs.State.{Level}
-use Rattle.hip_engine.specs.StandingCalls.{call_of_level}
-use Rattle.hip_engine.specs.declared.standing.StandingCall.{StandingCall}
+use Rattle.hip_runner.specs.StandingCalls.{call_of_level}
+use Rattle.hip_runner.specs.declared.standing_call.StandingCall.{StandingCall}
 use Rattle.hip_report.specs.StandingCalls.{AreOutermost, standing}
 use Rattle.hip_report.proofs.Outermost.{one_more_inside}
 use Rattle.hip_report.proofs.calls.next_inside.Goals as goal

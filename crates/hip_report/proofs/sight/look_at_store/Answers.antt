@@ -8,6 +8,6 @@ returns c =
     record {
       ended = sym c.if-is_some.false ∙ c.is_some.ensures ∙ ap is_some c.ending.ensures;
       site = sym there;
-      marks = store_marked c.args.machine.now c.in_ok-site.site c.args.addr c.args.notes.now.marks.keys c.in_ok-pointed.pointed.marks there c.requires.points c.in_ok-pointed.ensures.marks;
+      marks = λ k. store_marked c.args.machine.now c.in_ok-site.site c.args.addr c.args.ledger.now.marks.keys c.in_ok-pointed.pointed.marks there c.requires.points c.in_ok-pointed.ensures.marks;
       last = c.in_ok-pointed.ensures.last;
     }

@@ -1,6 +1,6 @@
 use Rattle.std.proofs.Common.{ap, ◌∙◌}
 use Rattle.hip_runs.specs.Seen.{state_of}
-use Rattle.hip_report.specs.Stepping.{global_of}
+use Rattle.hip_report.specs.BeforeStep.{global_of}
 use Rattle.hip_report.proofs.Stepping.{the_global}
 use Rattle.hip_report.proofs.sight.target_at.Goals as goal
 

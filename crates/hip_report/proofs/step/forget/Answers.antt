@@ -3,9 +3,9 @@ use Rattle.std.proofs.lemmas.List.{length-map}
 use Rattle.hip_lines.specs.Pending.{Pending as Waiting}
 use Rattle.hip_lines.specs.declared.part.Part.{Part}
 use Rattle.hip_runs.specs.Laws.CrashLaws.{same_size}
-use Rattle.hip_notes.specs.Noted.{IsForgotten}
-use Rattle.hip_notes.proofs.noting.Assembled.{few_at, forgotten}
-use Rattle.hip_notes.proofs.NoteLists.{in_order}
+use Rattle.hip_ledger.specs.Noted.{IsForgotten}
+use Rattle.hip_ledger.proofs.noting.Assembled.{few_at, forgotten}
+use Rattle.hip_ledger.proofs.NoteLists.{in_order}
 use Rattle.hip_report.proofs.step.forget.Goals as goal
 
 pub forget-requires-clause-region : goal.forget-requires-clause-region
@@ -18,8 +18,8 @@ forget-requires-clause-order c =
     let m = c.args.machine.now in
     let n = m.taken in
     let h = c.requires.noted in
-    let few : n < 2 ^ 127 = few_at m.program m.input n c.args.notes.now h (c.runs_are_bounded.ensures.bounded m.program m.input n) c.input-input.ensures.valid.limit c.requires.short in
-    in_order m.program m.input n c.args.notes.now.header c.args.notes.now.pending (omega (arith, few)) h.pending
+    let few : n < 2 ^ 127 = few_at m.program m.input n c.args.ledger.now h (c.runs_are_bounded.ensures.bounded m.program m.input n) c.input-input.ensures.valid.limit c.requires.short in
+    in_order m.program m.input n c.args.ledger.now.header c.args.ledger.now.pending (omega (arith, few)) h.pending
 
 pub returns-clause-noted : goal.returns-clause-noted
 returns-clause-noted c =
@@ -27,7 +27,7 @@ returns-clause-noted c =
     let P = m.program in
     let I = m.input in
     let n = m.taken in
-    forgotten P I n c.region_of-region.result.size c.args.notes.now c.forget.new.self c.requires.noted
+    forgotten P I n c.region_of-region.result.size c.args.ledger.now c.forget.new.self c.requires.noted
     (c.region_of-region.ensures.size ∙ same_size P I n c.input-input.ensures.valid)
-    (subst (λ (ws : List (Waiting Part)). IsForgotten ws c.region_of-region.result.size c.args.notes.now.pending c.forget.new.self.pending) c.region_of-region.ensures.lines c.forget.ensures.kept)
+    (subst (λ (ws : List (Waiting Part)). IsForgotten ws c.region_of-region.result.size c.args.ledger.now.pending c.forget.new.self.pending) c.region_of-region.ensures.lines c.forget.ensures.kept)
     c.forget.ensures.rest

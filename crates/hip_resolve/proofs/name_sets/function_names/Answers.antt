@@ -1,4 +1,4 @@
-use Rattle.hip_sound.specs.Numbering.{function_names}
+use Rattle.hip_sound.specs.NumberedNames.{function_names}
 use Rattle.hip_resolve.proofs.Scoped.{all_met, functions_differ}
 use Rattle.hip_resolve.proofs.name_sets.function_names.Goals as goal
 

@@ -1,7 +1,7 @@
 use Rattle.std.proofs.Common.{ℕ, zero, suc, ◌+◌, ◌<◌, ◌≤◌, ◌≡◌, List, [], ◌∷◌, ◌++◌, length, map, get_or, sym, ap, ◌∙◌, subst, arith, take}
 use Rattle.std.proofs.lemmas.List.{length-map}
 use Rattle.hip_tree.specs.declared.block.Edge.{Edge}
-use Rattle.hip_names.specs.Tables.{Entry, StandsFor}
+use Rattle.hip_names.specs.Tables.{Entry, TableStandsFor}
 use Rattle.hip_names.specs.Numbered.{entries_from, entries-next, numbers_found}
 use Rattle.hip_resolve.proofs.phi_numbers.edge_numbers.Goals as goal
 
@@ -27,7 +27,7 @@ each-preserved c =
     let name : c.as_slice.result.now ≡ f.label = c.as_slice.ensures ∙ ap (λ (g : Edge). g.label) (sym c.index-edges-number.is) in
     let here : same ≡ entry = λ x. record { name = name x; value = zero-add-sym _ _ c.in_ok-place.ensures x } in
     let next = entries-next 0 names c.each.number f.label (omega arith) (label_at edges c.each.number f c.each-test.true c.index-edges-number.is) in
-    subst (StandsFor c.add.new.self.names c.add.new.self.values) (ap (λ (e : Entry ℕ). entries_from 0 (take c.each.number names) ++ e ∷ []) here ∙ next)
+    subst (TableStandsFor c.add.new.self.names c.add.new.self.values) (ap (λ (e : Entry ℕ). entries_from 0 (take c.each.number names) ++ e ∷ []) here ∙ next)
     (c.in_ok-add.ensures.ok (entries_from 0 (take c.each.number names)) c.each.invariant)
 
 pub returns : goal.returns

@@ -1,7 +1,7 @@
 use Rattle.std.proofs.Common.{◌∷◌, [], length, map, ap, arith, subst}
 use Rattle.std.proofs.lemmas.List.{length-append}
 use Rattle.std.proofs.lemmas.Option.{slice_get_within}
-use Rattle.hip_names.specs.Numbered.{Numbers}
+use Rattle.hip_names.specs.Numbered.{NumbersNames}
 use Rattle.hip_end_ops.proofs.EdgeOps.{numbers_on}
 use Rattle.hip_resolve.proofs.phi_numbers.numbers_of_phis.Goals as goal
 
@@ -14,7 +14,7 @@ each-preserved c =
     record {
       as_long = (let l = length-append c.each.tables (c.in_ok-table.table ∷ []) in let k = c.each.invariant.as_long in omega (arith, long, l, k));
       numbers = numbers_on c.each.tables c.push.new.self c.in_ok-table.table c.args.phis.now c.each.number c.index-phis-number.result c.each.invariant.numbers c.each.invariant.as_long c.in_ok-push.ensures.ok c.index-phis-number.is
-          (subst (λ es. Numbers c.in_ok-table.table.names c.in_ok-table.table.values (map (λ e. e.label) es)) c.as_slice.ensures c.in_ok-table.ensures);
+          (subst (λ es. NumbersNames c.in_ok-table.table.names c.in_ok-table.table.values (map (λ e. e.label) es)) c.as_slice.ensures c.in_ok-table.ensures);
     }
 
 pub returns : goal.returns

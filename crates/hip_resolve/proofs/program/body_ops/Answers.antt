@@ -5,7 +5,7 @@ use Rattle.hip_tree.specs.declared.instr.Instr.{Instr}
 use Rattle.hip_code.specs.Extents.{IsExtent, keeps_extent}
 use Rattle.hip_code.specs.declared.op.Op.{Op}
 use Rattle.hip_scope.specs.Grown.{grown}
-use Rattle.hip_scope.specs.Scopes.{Does}
+use Rattle.hip_scope.specs.Scopes.{DoesInstr}
 use Rattle.hip_resolve.specs.Made.{IsFront}
 use Rattle.hip_resolve.proofs.BlockOps.{does_kept, extent_kept, known_at}
 use Rattle.hip_resolve.proofs.Fronts.{front_grows, front_op}
@@ -29,7 +29,7 @@ translating-preserved c =
     record {
       front = subst (λ (xs : List Op). IsFront P base xs (grown c.instr_op.new.tables)) (sym c.in_ok-push.ensures.ok)
           (front_op P base c.translating.ops (grown c.instr_op.new.tables) c.keeping.result s.number c.args.number c.translating.index c.args.block.now c.index-body-index.result front c.requires.block here c.translating.invariant.place
-          (λ u g. subst (λ (o : Op). Does P base s.number u o c.index-body-index.result) (sym c.keeping.ensures) (does_kept P base s.number u extent c.in_ok-op.op c.index-body-index.result kept.within (made.lasts u g)))
+          (λ u g. subst (λ (o : Op). DoesInstr P base s.number u o c.index-body-index.result) (sym c.keeping.ensures) (does_kept P base s.number u extent c.in_ok-op.op c.index-body-index.result kept.within (made.lasts u g)))
           (subst (λ (o : Op). keeps_extent P s.number c.args.number o) (sym c.keeping.ensures) (extent_kept P s.number c.args.number extent c.in_ok-op.op kept)));
       place = (let l = ap length c.in_ok-push.ensures.ok in let m = length-append c.translating.ops (c.keeping.result ∷ []) in let p = c.translating.invariant.place in omega (arith, l, m, p));
     }

@@ -30,7 +30,7 @@ AreInLines ls =
 -- ---- a byte that a part shows
 
 -- Byte c is one of `count` bytes from b, and in the range of n bytes from o, and no later part covers it.
-record IsShown (o n count b : ℕ) (later : List StorePart) (c : ℕ) : Type 0 where
+record ByteIsShown (o n count b : ℕ) (later : List StorePart) (c : ℕ) : Type 0 where
   from : b ≤ c
   to : c < b + count
   low : o ≤ c
@@ -38,13 +38,13 @@ record IsShown (o n count b : ℕ) (later : List StorePart) (c : ℕ) : Type 0 w
   bare : list_any (λ q. covers q c) later ≡ false
 
 shown_byte : (o n count b : ℕ) (later : List StorePart) → shows o n count b later ≡ true
-    → (c : ℕ) × IsShown o n count b later c
+    → (c : ℕ) × ByteIsShown o n count b later c
 shown_byte o n zero b later h = absurd (let z : ⊥ = cc in z)
 shown_byte o n (suc count) b later h =
     go (λ g. next (shown_byte o n count (suc b) later g)) (nat_le o b) refl (nat_lt b (o + n)) refl
     (list_any (λ q. covers q b) later) refl h
   where
-    next : (c : ℕ) × IsShown o n count (suc b) later c → (c : ℕ) × IsShown o n (suc count) b later c
+    next : (c : ℕ) × ByteIsShown o n count (suc b) later c → (c : ℕ) × ByteIsShown o n (suc count) b later c
     next r =
         let s = r.1 in (
           r.0,
@@ -57,11 +57,11 @@ shown_byte o n (suc count) b later h =
           },
         )
 
-    go : (shows o n count (suc b) later ≡ true → (c : ℕ) × IsShown o n (suc count) b later c) → (x : Bool)
+    go : (shows o n count (suc b) later ≡ true → (c : ℕ) × ByteIsShown o n (suc count) b later c) → (x : Bool)
         → nat_le o b ≡ x → (y : Bool) → nat_lt b (o + n) ≡ y → (z : Bool)
         → list_any (λ q. covers q b) later ≡ z
         → (x && (y && not z)) || shows o n count (suc b) later ≡ true → (c : ℕ)
-        × IsShown o n (suc count) b later c
+        × ByteIsShown o n (suc count) b later c
     go after true p true q false r g =
         (b, record { from = omega arith; to = omega arith; low = le_true _ _ p; high = lt_true _ _ q; bare = r })
     go after true p true q true r g = after g
@@ -71,7 +71,7 @@ shown_byte o n (suc count) b later h =
 split : (b c : ℕ) → b ≤ c → (b ≡ c) ⊎ (suc b ≤ c)
 split b c h = grind arith
 
-byte_shown : (o n count b : ℕ) (later : List StorePart) (c : ℕ) → IsShown o n count b later c
+byte_shown : (o n count b : ℕ) (later : List StorePart) (c : ℕ) → ByteIsShown o n count b later c
     → shows o n count b later ≡ true
 byte_shown o n zero b later c s = absurd (omega (arith, s.from, s.to))
 byte_shown o n (suc count) b later c s = go (λ t. byte_shown o n count (suc b) later c t) (split b c s.from)
@@ -82,7 +82,7 @@ byte_shown o n (suc count) b later c s = go (λ t. byte_shown o n count (suc b) 
     first : (x y : Bool) → x ≡ true → x || y ≡ true
     first x y e = rw e refl
 
-    go : (IsShown o n count (suc b) later c → shows o n count (suc b) later ≡ true) → (b ≡ c) ⊎ (suc b ≤ c)
+    go : (ByteIsShown o n count (suc b) later c → shows o n count (suc b) later ≡ true) → (b ≡ c) ⊎ (suc b ≤ c)
         → shows o n (suc count) b later ≡ true
     go next (inl e) =
         first _ _ (subst (λ a. nat_le o a && (nat_lt a (o + n) && not (list_any (λ q. covers q a) later)) ≡ true)
@@ -228,7 +228,7 @@ bytes_in ws o (suc n) x b le lt e = go (λ low. bytes_in ws (suc o) n x b low (o
 -- ---- the loose byte of a line
 
 -- Byte b is loose by the part p at place k, and x is that loose byte.
-record IsStated (l : Line StorePart) (b : ℕ) (x : LooseByte) (k : ℕ) (p : StorePart) : Type 0 where
+record LooseByteIsStated (l : Line StorePart) (b : ℕ) (x : LooseByte) (k : ℕ) (p : StorePart) : Type 0 where
   by : IsLooseBy covers l b k p
   is : x ≡ record { offset = b; tag = p.step; flushed = nat_lt k l.flushed }
 
@@ -236,13 +236,13 @@ shift : (k d f : ℕ) → d ≤ k → nat_lt (k - d) (f - d) ≡ nat_lt k f
 shift k d f h = grind (arith, nat_tests)
 
 stated_byte : (l : Line StorePart) (b : ℕ) (x : LooseByte) → bytes.loose_in (shown_line l) b ≡ Some x
-    → (k : ℕ) × (p : StorePart) × IsStated l b x k p
+    → (k : ℕ) × (p : StorePart) × LooseByteIsStated l b x k p
 stated_byte l b x e =
     go (last_over bytes.part_covers b (shown_line l).parts) (last_over-finds bytes.part_covers b (shown_line l).parts) e
   where
     go : (o : Option (ℕ × Part)) → Finds bytes.part_covers (shown_line l).parts b o
         → option_map (bytes.loose_by (shown_line l) b) o ≡ Some x → (k : ℕ) × (p : StorePart)
-        × IsStated l b x k p
+        × LooseByteIsStated l b x k p
     go None h e = absurd (let z : ⊥ = cc in z)
     go (Some (i, q)) h e =
         let a = loose-drop bytes.part_covers (map_line shown_part l) b i q h in

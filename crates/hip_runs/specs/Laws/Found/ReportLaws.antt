@@ -59,14 +59,14 @@ latest_there f (Some g) = go (nat_lt f.step g.step)
     go false = refl
 
 -- What holds of the loose parts of a store.
-record AreKnown (P : Program) (s : State) (ps : List LoosePart) : Type 0 where
+record LoosePartsAreKnown (P : Program) (s : State) (ps : List LoosePart) : Type 0 where
   there : (p : LoosePart) → In p ps → PartOf s.lines p.part
   flushed : (p : LoosePart) → In p ps → p.flushed ≡ true → (f : Flush) × (p.part.first_flush ≡ Some f)
   unfenced : (p : LoosePart) (f : Flush) → In p ps → p.part.first_flush ≡ Some f
       → is_flush_call (instr_of P f.site) ≡ true
 
 module _ (P : Program) (s : State) (h : HasHistory P s) (at : HasSites P s) where
-  known : (o n made : ℕ) → AreKnown P s (loose_parts o n s.lines made)
+  known : (o n made : ℕ) → LoosePartsAreKnown P s (loose_parts o n s.lines made)
   known o n made = record {
     there = λ p i. loose_there o n made s.lines p (part_loose o n made s.lines p i);
     flushed =
@@ -78,7 +78,7 @@ module _ (P : Program) (s : State) (h : HasHistory P s) (at : HasSites P s) wher
         at.unfenced k.line k.of k.place p.part f k.line_at k.loose.last_over.at k.loose.not_durable e;
   }
 
-  by_formed : (check : ℕ) (p : LoosePart) (ps : List LoosePart) → AreKnown P s (p ∷ ps)
+  by_formed : (check : ℕ) (p : LoosePart) (ps : List LoosePart) → LoosePartsAreKnown P s (p ∷ ps)
       → IsWellFormed P (report_by (levels_of s.frames) check p.part (p ∷ ps))
   by_formed check p ps k = record {
     flush_site = site (all_flushed (p ∷ ps)) refl;
@@ -128,7 +128,7 @@ module _ (P : Program) (s : State) (h : HasHistory P s) (at : HasSites P s) wher
           subst (λ (x : Site). is_flush_call (instr_of P x) ≡ true) f.2 (k.unfenced q.0 f.0 q.1 q.2)
       flush t false e = absurd (let z : ⊥ = cc in z)
 
-  of_formed : (check : ℕ) (ps : List LoosePart) → AreKnown P s ps → (r : Report)
+  of_formed : (check : ℕ) (ps : List LoosePart) → LoosePartsAreKnown P s ps → (r : Report)
       → In r (report_of (levels_of s.frames) check ps) → IsWellFormed P r
   of_formed check [] k r i = absurd i
   of_formed check (p ∷ ps) k r (inl e) = subst (IsWellFormed P) (sym e) (by_formed check p ps k)

@@ -1,7 +1,7 @@
 use Rattle.std.proofs.Common.{◌≡◌, drop, ◌+◌}
 use Rattle.std.specs.Prelude.{option_map}
 use Rattle.hip_names.specs.Names.{number_of}
-use Rattle.hip_sound.specs.Numbering.{function_names}
+use Rattle.hip_sound.specs.NumberedNames.{function_names}
 use Rattle.hip_sound.proofs.checked.number_of.Given as goal
 
 abbrev pub invariant-each : goal.invariant-each

@@ -1,5 +1,5 @@
 use Rattle.std.proofs.Common.{◌≡◌, ◌∙◌, ◌+◌, sym, ap, subst, cond, suc, arith, refl}
-use Rattle.hip_crash.specs.Logging.{IsLogging}
+use Rattle.hip_crash.specs.LogState.{IsLogging}
 use Rattle.hip_crash.specs.declared.log.CrashLog.TheInside.{Inside}
 use Rattle.hip_crash.proofs.Logged.{has_room, image-small, logged-same, event-same, event-within, taken-fit, count-fit, logged-next}
 use Rattle.hip_crash.proofs.log.CrashLog.advance.Goals as goal

@@ -1,6 +1,6 @@
 use Rattle.std.proofs.Common.{inr, ◌∙◌, sym, take}
 use Rattle.hip_runs.specs.Seen.{state_of}
-use Rattle.hip_picks.specs.declared.pick.Pick.{Pick}
+use Rattle.hip_types.specs.declared.pick.Pick.{Pick}
 use Rattle.hip_crash.proofs.PickLaws.{pick-fails, pick-passes, numbers-next}
 use Rattle.hip_crash.proofs.log.CrashLog.numbers_of.Goals as goal
 

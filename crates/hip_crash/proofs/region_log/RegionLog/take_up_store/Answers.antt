@@ -2,7 +2,7 @@ use Rattle.std.proofs.Common.{arith, ◌+◌, ◌∙◌, refl, ap, subst, ◌/�
 use Rattle.hip_crash.specs.Kept.{Kept}
 use Rattle.hip_crash.specs.Now.{now_at}
 use Rattle.hip_crash.specs.Region.{seen_at}
-use Rattle.hip_crash.specs.Waiting.{with_waiting}
+use Rattle.hip_crash.specs.PendingChange.{with_waiting}
 use Rattle.hip_crash.proofs.Stores.{waits-start, waits-more, waits-within, seen-here, seen-more, seen-end, room-left}
 use Rattle.hip_crash.proofs.region_log.RegionLog.take_up_store.Goals as goal
 

@@ -1,11 +1,11 @@
 use Rattle.std.proofs.Common.{sym, ◌∙◌}
 use Rattle.std.proofs.lemmas.Result.{err_from_is_err_and}
-use Rattle.hip_rules.specs.Laws.Loops.{goes_on, is_done}
-use Rattle.hip_grammar.specs.declared.fault.Fault.{Fault}
+use Rattle.hip_grammar.specs.Laws.Loops.{goes_on, is_done}
+use Rattle.hip_grammar.specs.declared.fault.TextFault.{TextFault}
 use Rattle.hip_parse.specs.Left.{left}
 use Rattle.hip_parse.proofs.Loops.{ends}
 use Rattle.hip_types.specs.declared.ty.Ty.{Ty}
-use Rattle.hip_rules.specs.Part.{one_more_by}
+use Rattle.hip_grammar.specs.Production.{one_more_by}
 use Rattle.hip_grammar.specs.Words.{comma}
 use Rattle.hip_grammar.specs.Grammar.{type_within}
 use Rattle.hip_parse.proofs.Some.{type_some}
@@ -21,7 +21,7 @@ more_fields-more-smaller t c = type_some c.args.depth (left c.more.self) (c.in_o
 
 pub more_fields-more-preserved : goal.more_fields-more-preserved
 more_fields-more-preserved t c =
-    rw c.in_ok-push.ensures.ok (goes_on Fault Ty comma (one_more_by comma (type_within c.args.depth)).read (type_some c.args.depth) c.more.items (left c.more.self) c.in_ok-item.item (left c.next_field.new.self) _ (sym c.at_mark.ensures ∙ c.more-test.true) c.in_ok-item.ensures c.more.invariant)
+    rw c.in_ok-push.ensures.ok (goes_on TextFault Ty comma (one_more_by comma (type_within c.args.depth)).read (type_some c.args.depth) c.more.items (left c.more.self) c.in_ok-item.item (left c.next_field.new.self) _ (sym c.at_mark.ensures ∙ c.more-test.true) c.in_ok-item.ensures c.more.invariant)
 
 pub more_fields-returns : goal.more_fields-returns
-more_fields-returns t c = is_done Fault Ty comma (one_more_by comma (type_within c.args.depth)).read (type_some c.args.depth) c.more.items (left c.more.self) _ (sym c.at_mark.ensures ∙ c.more-test.false) c.more.invariant
+more_fields-returns t c = is_done TextFault Ty comma (one_more_by comma (type_within c.args.depth)).read (type_some c.args.depth) c.more.items (left c.more.self) _ (sym c.at_mark.ensures ∙ c.more-test.false) c.more.invariant

@@ -1,7 +1,7 @@
 use Rattle.std.proofs.Common.{◌≡◌, ◌+◌, ◌*◌, length}
-use Rattle.hip_rules.specs.Reader.{many_at, with_front}
+use Rattle.hip_grammar.specs.Reader.{many_at, with_front}
 use Rattle.hip_parse.specs.Left.{left}
-use Rattle.hip_rules.specs.Part.{one_more_by}
+use Rattle.hip_grammar.specs.Production.{one_more_by}
 use Rattle.hip_grammar.specs.Words.{comma}
 use Rattle.hip_grammar.specs.Grammar.{type_within}
 use Rattle.hip_parse.proofs.parser.Parser.+types.Given as goal

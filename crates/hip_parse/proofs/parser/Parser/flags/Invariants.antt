@@ -1,7 +1,7 @@
 use Rattle.std.proofs.Common.{◌≡◌, length}
-use Rattle.hip_rules.specs.Reader.{many_at, taken_up}
+use Rattle.hip_grammar.specs.Reader.{many_at, taken_up}
 use Rattle.hip_parse.specs.Left.{left}
-use Rattle.hip_rules.specs.Part.{token}
+use Rattle.hip_grammar.specs.Production.{token}
 use Rattle.hip_grammar.specs.Words.{a_word_of, is_word_of, flag_word}
 use Rattle.hip_grammar.specs.Bodies.{with_flag, no_flags}
 use Rattle.hip_parse.proofs.parser.Parser.flags.Given as goal

@@ -1,5 +1,5 @@
 use Rattle.std.proofs.Common.{◌≡◌, length, codes}
-use Rattle.hip_rules.specs.Reader.{leaders_at, with_leaders}
+use Rattle.hip_grammar.specs.Reader.{leaders_at, with_leaders}
 use Rattle.hip_grammar.specs.Words.{is_local, is_word}
 use Rattle.hip_grammar.specs.Bodies.{assigned, phi}
 use Rattle.hip_parse.specs.Left.{left}

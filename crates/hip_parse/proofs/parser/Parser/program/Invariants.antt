@@ -1,5 +1,5 @@
 use Rattle.std.proofs.Common.{◌≡◌, length}
-use Rattle.hip_rules.specs.Reader.{many_at, taken_up}
+use Rattle.hip_grammar.specs.Reader.{many_at, taken_up}
 use Rattle.hip_grammar.specs.Text.{item, begins_item, with_item, no_items}
 use Rattle.hip_parse.specs.Left.{left}
 use Rattle.hip_parse.proofs.parser.Parser.program.Given as goal

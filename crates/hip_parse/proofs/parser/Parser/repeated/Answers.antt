@@ -1,7 +1,7 @@
 use Rattle.std.proofs.Common.{sym, ◌∙◌}
 use Rattle.std.proofs.lemmas.Result.{err_from_is_err_and}
-use Rattle.hip_rules.specs.Laws.Loops.{goes_on, is_done}
-use Rattle.hip_grammar.specs.declared.fault.Fault.{Fault}
+use Rattle.hip_grammar.specs.Laws.Loops.{goes_on, is_done}
+use Rattle.hip_grammar.specs.declared.fault.TextFault.{TextFault}
 use Rattle.hip_parse.specs.Left.{left}
 use Rattle.hip_parse.proofs.Loops.{ends}
 use Rattle.hip_parse.proofs.parser.Parser.repeated.Goals as goal
@@ -16,7 +16,7 @@ more-smaller g c = g.met.R.Repeated.some c.args.part (left c.more.self) (c.in_ok
 
 pub more-preserved : goal.more-preserved
 more-preserved g c =
-    rw c.in_ok-push.ensures.ok (goes_on Fault _ _ _ (g.met.R.Repeated.some c.args.part) c.more.items (left c.more.self) c.in_ok-item.item (left c.read_next.new.parser) _ (sym c.is_next.ensures ∙ c.more-test.true) c.in_ok-item.ensures c.more.invariant)
+    rw c.in_ok-push.ensures.ok (goes_on TextFault _ _ _ (g.met.R.Repeated.some c.args.part) c.more.items (left c.more.self) c.in_ok-item.item (left c.read_next.new.parser) _ (sym c.is_next.ensures ∙ c.more-test.true) c.in_ok-item.ensures c.more.invariant)
 
 pub returns : goal.returns
-returns g c = rw c.fitted.ensures (is_done Fault _ _ _ (g.met.R.Repeated.some c.args.part) c.more.items (left c.more.self) _ (sym c.is_next.ensures ∙ c.more-test.false) c.more.invariant)
+returns g c = rw c.fitted.ensures (is_done TextFault _ _ _ (g.met.R.Repeated.some c.args.part) c.more.items (left c.more.self) _ (sym c.is_next.ensures ∙ c.more-test.false) c.more.invariant)

@@ -1,5 +1,5 @@
 use Rattle.std.proofs.Common.{◌≡◌, length}
-use Rattle.hip_rules.specs.Reader.{many_at, with_front}
+use Rattle.hip_grammar.specs.Reader.{many_at, with_front}
 use Rattle.hip_parse.specs.Left.{left}
 use Rattle.hip_parse.proofs.parser.Parser.repeated.Given as goal
 

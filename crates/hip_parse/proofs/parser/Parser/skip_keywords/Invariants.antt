@@ -1,6 +1,6 @@
 use Rattle.std.proofs.Common.{◌≡◌, length}
-use Rattle.hip_rules.specs.Reader.{many_at, taken_up}
-use Rattle.hip_rules.specs.Part.{token}
+use Rattle.hip_grammar.specs.Reader.{many_at, taken_up}
+use Rattle.hip_grammar.specs.Production.{token}
 use Rattle.hip_grammar.specs.Words.{a_word_of, is_word_of}
 use Rattle.hip_parse.specs.Left.{left}
 use Rattle.hip_parse.proofs.parser.Parser.skip_keywords.Given as goal

@@ -1,5 +1,5 @@
 use Rattle.std.proofs.Common.{inl, refl}
-use Rattle.hip_engine.proofs.Quietly.{no_steps}
+use Rattle.hip_runner.proofs.Quietly.{no_steps}
 use Rattle.hip_report.proofs.tracker.Tracker.next_event.Goals as goal
 
 pub returns-then-self-clause-err : goal.returns-then-self-clause-err

@@ -2,7 +2,7 @@ use Rattle.std.proofs.Common.{◌≡◌, ◌+◌, length, sym, ap, ◌∙◌, su
 use Rattle.hip_types.specs.Areas.{volatile_start}
 use Rattle.hip_runs.specs.Step.{start}
 use Rattle.hip_storage.specs.Contents.{Contents, initial}
-use Rattle.hip_storage.specs.Standing.{HoldsState}
+use Rattle.hip_storage.specs.Represented.{HoldsState}
 use Rattle.hip_storage.specs.Laws.StartLaws.{starts}
 use Rattle.hip_storage.proofs.storage.Storage.new.Goals as goal
 

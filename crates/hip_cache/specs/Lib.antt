@@ -1,4 +1,0 @@
-pub mod Within
-pub mod Pending
-pub mod Running
-pub mod Laws

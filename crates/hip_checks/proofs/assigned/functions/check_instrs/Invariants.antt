@@ -1,7 +1,0 @@
-use Rattle.hip_sound.specs.Rules.{instr_register_uses}
-use Rattle.hip_checks.proofs.UseLists.{parts_left}
-use Rattle.hip_checks.proofs.UseLists.{Carries}
-use Rattle.hip_checks.proofs.assigned.functions.check_instrs.Given as goal
-
-abbrev pub invariant-each : goal.invariant-each
-invariant-each l = Carries l.body.function.now (parts_left (instr_register_uses l.function l.block) l.items l.index) (parts_left (instr_register_uses l.function l.block) l.instrs 0)

@@ -1,7 +1,0 @@
-use Rattle.std.proofs.Common.{◌≡◌, drop, map}
-use Rattle.hip_sound.specs.Types.{all_pass, same_scalar}
-use Rattle.hip_checks.proofs.places.instrs.scalars_are.Given as goal
-
-abbrev pub invariant-each : goal.invariant-each
-invariant-each l =
-    all_pass (map same_scalar (drop l.at l.types)) (map (λ a. a.ty) (drop l.at l.args)) ≡ all_pass (map same_scalar l.types) (map (λ a. a.ty) l.args)

@@ -1,7 +1,0 @@
-use Rattle.std.proofs.Common.{◌≡◌, drop}
-use Rattle.hip_sound.specs.Places.{are_among}
-use Rattle.hip_checks.specs.Seen.TargetsSeen.{case_labels}
-use Rattle.hip_checks.proofs.places.targets.cases_known.Given as goal
-
-abbrev pub invariant-each : goal.invariant-each
-invariant-each l = are_among l.labels (case_labels (drop l.case-index l.cases)) ≡ are_among l.labels (case_labels l.cases)

@@ -1,7 +1,0 @@
-use Rattle.std.proofs.Common.{◌≡◌, drop}
-use Rattle.hip_sound.specs.Names.{differ_after, all_differ}
-use Rattle.hip_checks.specs.Seen.NamesSeen.{seen}
-use Rattle.hip_checks.proofs.rules.named.check_all_differ.Given as goal
-
-abbrev pub invariant-names : goal.invariant-names
-invariant-names l = (differ_after l.earlier (seen (drop l.named-index l.names))).found ≡ (all_differ (seen l.names)).found

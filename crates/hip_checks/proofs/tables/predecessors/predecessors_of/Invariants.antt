@@ -1,6 +1,0 @@
-use Rattle.std.proofs.Common.{take}
-use Rattle.hip_checks.specs.Seen.Arrivals.{FindsPredecessors}
-use Rattle.hip_checks.proofs.tables.predecessors.predecessors_of.Given as goal
-
-abbrev pub invariant-each : goal.invariant-each
-invariant-each l = FindsPredecessors l.found.sets (take l.block-index l.blocks)

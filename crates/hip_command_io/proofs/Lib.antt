@@ -1,0 +1,4 @@
+pub mod Failing
+pub mod Runs
+pub mod Traces
+pub mod Recorded

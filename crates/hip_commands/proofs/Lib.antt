@@ -1,5 +1,0 @@
-pub mod OneProgram
-pub mod OneRecord
-pub mod OneRun
-pub mod Records
-pub mod Runs

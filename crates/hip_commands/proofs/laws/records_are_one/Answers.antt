@@ -1,5 +1,0 @@
-use Rattle.hip_commands.proofs.OneRecord.{one_record}
-use Rattle.hip_commands.proofs.laws.records_are_one.Goals as goal
-
-pub returns : goal.returns
-returns c = one_record c.files_give_one_answer.ensures

@@ -1,5 +1,0 @@
-use Rattle.hip_commands.proofs.OneRun.{one_run}
-use Rattle.hip_commands.proofs.laws.runs_are_one.Goals as goal
-
-pub returns : goal.returns
-returns c = one_run c.files_give_one_answer.ensures

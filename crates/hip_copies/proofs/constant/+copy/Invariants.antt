@@ -1,5 +1,0 @@
-use Rattle.std.proofs.Common.{◌≡◌, take}
-use Rattle.hip_copies.proofs.constant.+copy.Given as goal
-
-abbrev pub invariant-copy_items-loop-item : goal.invariant-copy_items-loop-item
-invariant-copy_items-loop-item l = l.copies ≡ take l.item-index l.items

@@ -1,5 +1,0 @@
-pub mod Advances
-pub mod Answered
-pub mod Crashes
-pub mod Faults
-pub mod OneCrash

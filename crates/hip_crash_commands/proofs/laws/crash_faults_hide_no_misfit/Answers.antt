@@ -1,5 +1,0 @@
-use Rattle.hip_crash_commands.proofs.Faults.{faults_hide_none}
-use Rattle.hip_crash_commands.proofs.laws.crash_faults_hide_no_misfit.Goals as goal
-
-pub returns : goal.returns
-returns c = faults_hide_none

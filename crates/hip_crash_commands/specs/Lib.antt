@@ -1,4 +1,0 @@
-pub mod Advancing
-pub mod Crash
-pub mod Images
-pub mod Laws

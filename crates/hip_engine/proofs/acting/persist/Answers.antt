@@ -1,5 +1,0 @@
-use Rattle.hip_engine.proofs.Acted.{shown_out}
-use Rattle.hip_engine.proofs.acting.persist.Goals as goal
-
-pub returns-in-Ok-clause-some : goal.returns-in-Ok-clause-some
-returns-in-Ok-clause-some c = shown_out c.args.code.now c.args.core.now c.move_on.new.self c.args.persistence c.in-Ok.event c.in-Ok.ensures c.move_on.ensures

@@ -1,3 +1,0 @@
-pub mod Grows
-pub mod Walks
-pub mod CloneNames

@@ -1,9 +1,0 @@
-use Rattle.std.proofs.Common.{◌≡◌, drop}
-use Rattle.hip_repairs.specs.Repaired.{repaired_body}
-use Rattle.hip_insertions.specs.Walk.{grown, wanted_in}
-use Rattle.hip_insertions.proofs.repair.Repair.add_body.Given as goal
-
-abbrev pub invariant-each : goal.invariant-each
-invariant-each l =
-    grown l.out (repaired_body l.self.clones (wanted_in l.self) l.place.is_clone l.place.function l.block l.index (drop l.index l.body))
-    ≡ grown l.initial.out (repaired_body l.self.clones (wanted_in l.self) l.place.is_clone l.place.function l.block 0 l.body)

@@ -1,0 +1,9 @@
+pub mod CallPaths
+pub mod Pending
+pub mod Regions
+pub mod CheckGroups
+pub mod Sufficiency
+pub mod MetMarks
+pub mod Noted
+pub mod Sights
+pub mod SoughtFindings

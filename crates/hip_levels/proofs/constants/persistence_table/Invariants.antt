@@ -1,7 +1,0 @@
-use Rattle.std.proofs.Common.{map, take}
-use Rattle.hip_names.specs.Tables.{StandsFor}
-use Rattle.hip_levels.proofs.ConstantLevels.{entry_of}
-use Rattle.hip_levels.proofs.constants.persistence_table.Given as goal
-
-abbrev pub invariant-each : goal.invariant-each
-invariant-each l = StandsFor l.table.names l.table.values (map entry_of (take l.global-index l.globals))

@@ -1,8 +1,0 @@
-use Rattle.hip_levels.specs.Numbered.{IsBelowAll, room}
-use Rattle.hip_levels.proofs.sweeping.settle.Given as goal
-
-abbrev pub invariant-sweeps : goal.invariant-sweeps
-invariant-sweeps l = IsBelowAll l.rules l.levels
-
-abbrev pub decreases-sweeps : goal.decreases-sweeps
-decreases-sweeps l = room l.levels

@@ -1,5 +1,0 @@
-use Rattle.hip_machine.proofs.Arms.{traps}
-use Rattle.hip_machine.proofs.calls.trap.Goals as goal
-
-pub returns-clause-does : goal.returns-clause-does
-returns-clause-does c = traps c.stop.new.self c.args.kind c.stop.ensures

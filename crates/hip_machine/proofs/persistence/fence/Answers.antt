@@ -1,5 +1,0 @@
-use Rattle.hip_machine.proofs.OtherArms.{fences}
-use Rattle.hip_machine.proofs.persistence.fence.Goals as goal
-
-pub returns-clause-does : goal.returns-clause-does
-returns-clause-does c = fences c.move_on.ensures

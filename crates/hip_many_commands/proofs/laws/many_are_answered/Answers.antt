@@ -1,5 +1,0 @@
-use Rattle.hip_many_commands.proofs.SomeMany.{many_are_answered}
-use Rattle.hip_many_commands.proofs.laws.many_are_answered.Goals as goal
-
-pub returns : goal.returns
-returns c = many_are_answered c.plans_cure.ensures c.direct_stores_are_quiet.ensures

@@ -1,5 +1,0 @@
-use Rattle.hip_many_commands.proofs.OneMany.{many_are_one}
-use Rattle.hip_many_commands.proofs.laws.many_are_one.Goals as goal
-
-pub returns : goal.returns
-returns c = many_are_one c.unions_are_one.ensures.one

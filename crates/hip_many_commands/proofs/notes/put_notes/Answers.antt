@@ -1,7 +1,0 @@
-use Rattle.hip_io.specs.Laws.SinkLaws.{and_then}
-use Rattle.hip_many_commands.proofs.notes.put_notes.Goals as goal
-
-pub returns : goal.returns
-returns g c =
-    and_then (and_then c.put_count-put.ensures (rw c.len-clones.ensures at c.put_repair_totals-put.ensures))
-    (rw c.as_slice.ensures at c.put_reasons.ensures)

@@ -1,9 +1,0 @@
-use Rattle.std.proofs.Common.{take}
-use Rattle.hip_io.specs.Sinks.{Writes}
-use Rattle.hip_many_commands.specs.Notes.{reason_lines}
-use Rattle.hip_many_commands.proofs.notes.put_reasons.Given as goal
-
-abbrev pub invariant-each : goal.invariant-each
-invariant-each g l =
-    Writes l.initial.put l.put (g.N.Sink.state l.initial.notes) (g.N.Sink.state l.notes)
-    (reason_lines l.program (take l.reason-index l.reasons))

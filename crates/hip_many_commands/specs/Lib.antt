@@ -1,6 +1,0 @@
-pub mod Asking
-pub mod Laws
-pub mod Many
-pub mod Notes
-pub mod RunLaws
-pub mod Runs

@@ -1,6 +1,0 @@
-use Rattle.std.proofs.Common.{◌≡◌, ◌++◌}
-use Rattle.hip_notes.specs.Checking.{stores_stated}
-use Rattle.hip_notes.proofs.checks.stores_of.Given as goal
-
-abbrev pub invariant-each : goal.invariant-each
-invariant-each l = l.stores ++ stores_stated l.check.births.now l.check.fence l.pending.stores.items l.tag-iterator ≡ stores_stated l.check.births.now l.check.fence l.pending.stores.items l.groups.entries

@@ -1,5 +1,0 @@
-pub mod Deliveries
-pub mod Quietly
-pub mod Silently
-pub mod Outputs
-pub mod TraceTexts

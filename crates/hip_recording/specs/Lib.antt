@@ -1,4 +1,0 @@
-pub mod Delivery
-pub mod Printing
-pub mod Recording
-pub mod Steps

@@ -1,0 +1,5 @@
+pub mod Local
+pub mod Engines
+pub mod Defined
+pub mod Traces
+pub mod ReadBack

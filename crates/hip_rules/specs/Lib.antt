@@ -1,4 +1,0 @@
-pub mod Rule
-pub mod Reader
-pub mod Part
-pub mod Laws

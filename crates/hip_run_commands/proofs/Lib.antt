@@ -1,0 +1,11 @@
+pub mod OneProgram
+pub mod OneRecord
+pub mod OneRun
+pub mod Records
+pub mod Runs
+pub mod Advances
+pub mod Answered
+pub mod Crashes
+pub mod EveryImage
+pub mod Faults
+pub mod OneCrash

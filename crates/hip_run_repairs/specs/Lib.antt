@@ -1,0 +1,2 @@
+pub mod RunRepairs
+pub mod Spared

@@ -1,0 +1,12 @@
+pub mod OpsAhead
+pub mod Start
+pub mod RunnerState
+pub mod Quiet
+pub mod Silent
+pub mod QuickSteps
+pub mod PlainSteps
+pub mod Reaches
+pub mod StandingCalls
+pub mod Actions
+pub mod StoresAhead
+pub mod Laws

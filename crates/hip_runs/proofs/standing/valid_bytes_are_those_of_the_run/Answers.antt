@@ -1,5 +1,0 @@
-use Rattle.hip_runs.proofs.standing.valid_bytes_are_those_of_the_run.Goals as goal
-use Rattle.hip_runs.specs.Laws.Standing.ValidLaws.{valid_is}
-
-pub returns : goal.returns
-returns c = valid_is

@@ -1,0 +1,8 @@
+use Rattle.std.proofs.Common.{◌≡◌, drop}
+use Rattle.hip_sound.specs.Registers.{edge_uses, phi_uses}
+use Rattle.hip_typing.specs.Seen.UsesSeen.{operands_agree}
+use Rattle.hip_typing.proofs.places.operands.edges_have_type.Given as goal
+
+abbrev pub invariant-each : goal.invariant-each
+invariant-each l =
+    operands_agree l.registers.names l.registers.values (edge_uses l.phi.ty (drop l.edge-index l.edge-items)) ≡ operands_agree l.registers.names l.registers.values (phi_uses l.phi)

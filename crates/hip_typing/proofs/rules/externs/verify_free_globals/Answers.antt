@@ -1,0 +1,11 @@
+use Rattle.hip_sound.specs.Rules.{free_global}
+use Rattle.hip_typing.proofs.Loops.{each_stops, each_goes_on}
+use Rattle.hip_typing.proofs.rules.externs.verify_free_globals.Goals as goal
+
+pub returns-in-Err : goal.returns-in-Err
+returns-in-Err c =
+    each_stops (Unit {0}) free_global c.args.globals.now c.globals.number c.index-globals-number.result c.in-Err.refused c.globals-test.true c.index-globals-number.is c.globals.invariant c.in-Err.ensures
+
+pub globals-preserved : goal.globals-preserved
+globals-preserved c =
+    each_goes_on free_global c.args.globals.now c.globals.number c.index-globals-number.result c.globals-test.true c.index-globals-number.is c.globals.invariant c.in_default.ensures

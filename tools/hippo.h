@@ -10,6 +10,10 @@
 // that is never read, and from splitting it.
 #define PERSISTENT __attribute__((section(".pm"), used))
 
+#ifdef __cplusplus
+extern "C" {
+#endif
+
 long long read_i64(void);                                  // the next number of the run's input
 void print_i64(long long number);                          // the number in decimal, and a line feed
 void pm_assert(const void *from, unsigned long long size); // these bytes must be durable here
@@ -18,5 +22,15 @@ void pm_assert(const void *from, unsigned long long size); // these bytes must b
 void pmem_flush(const void *from, size_t size);
 void pmem_persist(const void *from, size_t size);
 void pmem_drain(void);
+
+// What a program tells hippo-c explore (docs/EXPLORE.md). Otherwise they do nothing, and hippo_prints returns 0.
+void hippo_recovered(void);       // the recovery is over
+void hippo_op(void);              // an operation begins, which a power cut must leave done or not done
+void hippo_assume(int condition); // the program is not made for inputs that do not meet the condition
+long long hippo_prints(void);     // how many numbers were printed before the power cut
+
+#ifdef __cplusplus
+}
+#endif
 
 #endif

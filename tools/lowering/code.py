@@ -15,9 +15,9 @@ if TYPE_CHECKING:
 # Numbers are multiples of this one, as addresses of functions are, since programs keep marks in the lower bits.
 STEP = 16
 END = 65536
-TAKEN = re.compile(GLOBAL_NAME + r'(?![-A-Za-z$._0-9(])')
-
-BYTES = re.compile(r'\bc"[^"]*"')
+TAKEN = re.compile(GLOBAL_NAME + r"(?![-A-Za-z$._0-9(])")
+# Bytes, which may look like names, and the functions of labels.
+OTHERS = re.compile(r'\bc"[^"]*"|\bblockaddress\(' + GLOBAL_NAME)
 
 
 class Code:
@@ -33,9 +33,9 @@ class Code:
         known = self.module.function_names
         found = set()
         for line in lines:
-            if '@' not in line:
+            if "@" not in line:
                 continue
-            for match in TAKEN.finditer(BYTES.sub('', line)):
+            for match in TAKEN.finditer(OTHERS.sub("", line)):
                 name = self.module.resolved(match.group())
                 if name in known or name[1:] in EXTERNS:
                     found.add(name)
@@ -61,5 +61,5 @@ class Code:
     def constant(number: int) -> str:
         """A pointer of a number."""
         if number >= END:
-            raise Refused('more than 4,095 addresses of functions and labels are taken', 'limit')
-        return f'getelementptr (i8, ptr null, i64 {number})'
+            raise Refused("more than 4,095 addresses of functions and labels are taken", "limit")
+        return f"getelementptr (i8, ptr null, i64 {number})"

@@ -1,31 +1,52 @@
-"""From C files to one module of LLVM's text form, by clang, llvm-link and opt."""
+"""From C and C++ files to one module of LLVM's text form, by clang, llvm-link and opt."""
 import os
 import re
-import tempfile
+import stat
 from concurrent.futures import ThreadPoolExecutor
 from dataclasses import dataclass
+from typing import Iterable
 
-from .commands import NO_FILE, READ_FAULT, Failure, output_of
+from .before_passes import Facts, changed
+from .commands import NO_FILE, READ_FAULT, REFUSED, Failure, output_of
+from .compile_cache import kept
+from .divisions import with_checks
+from .ends import WORK
 from .inline import link_inline
-from .names import unescaped
+from .languages import FLAGS, command_for, compiler, is_cpp, is_source
+from .names import LOOKS_PERSISTENT, PERSISTENT, unescaped
 from .options import Options
+from .places import Places, has_circle
 from .runtime import Runtime, undefined
+from .setjmp import calls_setjmp, with_passes, without_passes
+from .vectors import USED as VECTORS
+from .wrapping import wrapped
 
 TOOLS = os.path.dirname(os.path.dirname(os.path.abspath(__file__)))
-COMPILE_FLAGS = '''-S -emit-llvm -target x86_64-pc-linux-gnu -mclwb -mclflushopt -fwrapv
-    -fno-strict-aliasing -fno-inline -fno-vectorize -fno-slp-vectorize -fno-unroll-loops -fno-stack-protector -fno-pic
-    -fno-exceptions -fno-asynchronous-unwind-tables -fno-discard-value-names -gline-tables-only
-    -Xclang -disable-O0-optnone'''.split()
+UNOPTIMISED = "-Xclang -disable-llvm-passes -o -".split()
+NOT_PUBLIC = re.compile(r"\b(?:internal|private|hidden|available_externally|linkonce\w*|weak\w*)\b")
 
-NOT_PUBLIC = re.compile(r'\b(?:internal|private|hidden|available_externally|linkonce\w*|weak\w*)\b')
+# A global with a section.
+SECTION = re.compile(r'^@("[^"\n]*"|[-A-Za-z$._0-9]+) = [^\n]* section "([^"\n]*)"', re.M)
+
+# A global with a section that another module defines.
+DECLARED_IN_SECTION = re.compile(
+    r'^@("[^"\n]*"|[-A-Za-z$._0-9]+) = (?:\w+ )*?external [^\n]* section "([^"\n]*)"', re.M
+)
 
 # LLVM's passes that run if the text has an instruction that they lower.
 ON_DEMAND = {
-    'lower-constant-intrinsics': r'@llvm\.(?:objectsize|is\.constant)\.',
-    'expand-large-div-rem': r' [us](?:div|rem) (?:exact )?i(?:6[5-9]|[7-9][0-9]|1[0-2][0-9]) ',
+    "lower-constant-intrinsics": r"@llvm\.(?:objectsize|is\.constant)\.",
+    "expand-large-div-rem": r" [us](?:div|rem) (?:exact )?i(?:6[5-9]|[7-9][0-9]|1[0-2][0-9]) ",
 }
 
-ATOMIC = r'^ .*\b(?:atomic|cmpxchg|atomicrmw|fence)\b'
+# Other targets have other layouts of types, or of variable arguments.
+TARGET = re.compile(r"x86_64-(?!.*(?:windows|win32|mingw|cygwin|uefi|x32)).*")
+LAYOUT = re.compile(r"e(?!.*\bp:(?!64\b)).*")
+
+# How bitcode begins, alone or in a wrapper.
+BITCODE = ("BC\xc0\xde", "\xde\xc0\x17\x0b")
+
+ATOMIC = r"^ .*\b(?:atomic|cmpxchg|atomicrmw|fence)\b"
 
 
 @dataclass
@@ -33,82 +54,179 @@ class Program:
     """The module of a program.
 
     In `text` each value and each block has a name. `own_names` are the names that the files define, `public_names` those that other
-    object files may use. `gated_names` and `assumed_names` are names of the runtime with the option that would link them, or does."""
+    object files may use. `gated_names` are names of the runtime with the option that would link them, `assumed_names` those that are linked, with the note
+    that says what is assumed, and its option. `facts` are those of the files before LLVM's passes."""
 
     text: str
     own_names: set[str]
     public_names: list[str]
     gated_names: dict[str, str]
-    assumed_names: dict[str, str]
+    assumed_names: dict[str, tuple[str, str]]
     has_atomics: bool
+    facts: Facts
 
 
 def program_of(options: Options) -> Program:
     """The program that the files of a command line make, with the functions of the runtime that it needs."""
-    with tempfile.TemporaryDirectory() as folder:
-        targets = [f'{folder}/{number}.ll' for number in range(len(options.files))]
-        with ThreadPoolExecutor(os.cpu_count()) as workers:
-            modules = list(workers.map(module_of, options.files, [options] * len(targets), targets))
-        linked = modules[0] if len(modules) == 1 else link(modules, f'{folder}/linked.ll')
-        text = read(linked)
-        own, public = names_of(text)
-        runtime = Runtime(options, folder, [*COMPILE_FLAGS, f'-I{TOOLS}'])
-        linked = runtime.link(linked, text)
-        text = read(linked)
-        if undefined(text):
-            commands = [command_for(file, '-O1', options) for file in options.files if file.endswith('.c')]
-            linked, inline = link_inline(linked, text, commands, options.level, folder)
-            if inline:
-                own |= inline
-                linked = runtime.link(linked, read(linked))
-                text = read(linked)
-        lowered = output_of(['opt-19', '-S', *passes(options, text), linked])
-        has_atomics = options.single_thread and re.search(ATOMIC, text, re.M) is not None
-        return Program(lowered, own, public, runtime.gated, runtime.assumed, has_atomics)
-
-
-def command_for(file: str, level: str, options: Options) -> list[str]:
-    """The command that compiles a C file. The level comes first: after the flags it would enable vectors again."""
-    return ['clang-19', level, *COMPILE_FLAGS, f'-I{TOOLS}', *options.clang, file]
+    folder = WORK.folder()
+    targets = [f"{folder}/{number}.ll" for number in range(len(options.files))]
+    with ThreadPoolExecutor(os.cpu_count()) as workers:
+        modules = list(workers.map(module_of, options.files, [options] * len(targets), targets))
+    files, facts = [file for file, _ in modules], Facts()
+    for _, of_file in modules:
+        facts.add(of_file)
+    declared = persistent_declarations(zip(options.files, files))
+    linked = files[0] if len(files) == 1 else link(files, f"{folder}/linked.ll")
+    text = read(linked)
+    check_definitions(declared, text)
+    own, public = names_of(text)
+    runtime = Runtime(options, folder, [*FLAGS, f"-I{TOOLS}"])
+    linked = runtime.link(linked, text)
+    text = read(linked)
+    if undefined(text):
+        commands = [command_for(file, "-O1", options, TOOLS) for file in options.files if is_source(file)]
+        linked, inline = link_inline(linked, text, commands, options.level, folder)
+        if inline:
+            own |= inline
+            linked = runtime.link(linked, read(linked))
+            text = read(linked)
+    checked = with_checks(text)
+    source = (linked, None) if checked == text else ("-", checked)
+    lowered = output_of(["opt-19", "-S", *passes(options, text), source[0]], source[1])
+    has_atomics = options.single_thread and re.search(ATOMIC, text, re.M) is not None
+    return Program(lowered, own, public, runtime.gated, runtime.assumed, has_atomics, facts)
 
 
 def global_places(options: Options) -> dict[str, str]:
-    """The places of globals in C, as `FILE:LINE: `, since line tables do not have them."""
+    """The places of globals in C and C++, as `FILE:LINE: `, since line tables do not have them."""
     found = {}
-    for file in options.files:
-        if file.endswith('.c'):
-            text = output_of([*command_for(file, '-O0', options), '-g', '-o', '-'])
-            files = dict(re.findall(r'^(!\d+) = !DIFile\(filename: "([^"]*)"', text, re.M))
-            for name, where, line in re.findall(
-                    r'!DIGlobalVariable\(name: "([^"]*)",.* file: (!\d+), line: (\d+)', text):
-                found.setdefault(name, f'{unescaped(files[where]) if where in files else file}:{line}: ')
+    for file in filter(is_source, options.files):
+        text = output_of([*command_for(file, "-O0", options, TOOLS), "-w", "-g", "-o", "-"])
+        files = Places(text).names
+        places = dict(re.findall(r"^(!\d+) = (?:distinct )?!DIGlobalVariable\((.*)", text, re.M))
+        variables = dict(re.findall(r"^(!\d+) = !DIGlobalVariableExpression\(var: (!\d+)", text, re.M))
+        for name, number in re.findall(r'^@("[^"\n]*"|[-A-Za-z$._0-9]+) = .*, !dbg (!\d+)', text, re.M):
+            where = re.search(r"\bfile: !(\d+), line: (\d+)", places.get(variables.get(number, ""), ""))
+            if where:
+                found.setdefault(name.strip('"'), f"{files.get(where[1], file)}:{where[2]}: ")
     return found
 
 
-def module_of(file: str, options: Options, target: str) -> str:
-    """The name of a file with the module of one file, which is C or LLVM's text form."""
-    read(file)
-    if not file.endswith('.c'):
-        return file
-    output_of([*command_for(file, options.level, options), '-o', target])
-    return target
+def module_of(file: str, options: Options, target: str) -> tuple[str, Facts]:
+    """The name of a file with the module of one file, which is C, C++ or LLVM's text form, and its facts."""
+    text, facts = read(file), Facts()
+    if text.startswith(BITCODE):
+        raise Failure(f"{file}: this is bitcode: give the text form that llvm-dis-19 makes of it", REFUSED)
+    if is_source(file):
+        text, facts = module_of_source(file, options)
+    else:
+        check_places(file, text)
+        given = text
+        text, facts = changed(text)
+        if text == given and os.path.isfile(file) and not options.wrap:  # so that LLVM's messages have its name
+            target = file
+    check_target(file, text)
+    if options.wrap:
+        text = wrapped(text, options.wrap)
+    return target if target == file else write(target, text), facts
+
+
+def module_of_source(file: str, options: Options) -> tuple[str, Facts]:
+    """The module of a source file, which a folder may keep, and its facts."""
+
+    def make() -> tuple[str, Facts]:
+        if is_cpp(file):
+            return compile_in_two_steps(file, options)
+        text = compiled(file, options)
+        return compile_in_two_steps(file, options) if calls_setjmp(text) else (text, Facts())
+
+    return kept(options.cache, command_for(file, options.level, options, TOOLS), make) if options.cache else make()
+
+
+def compiled(file: str, options: Options, *more: str) -> str:
+    """The text that clang makes of a file."""
+    text = output_of([*command_for(file, options.level, options, TOOLS), *(more or ("-o", "-"))])
+    if not text.startswith("; ModuleID"):
+        raise Failure(f"{file}: clang wrote no text of LLVM's: an argument after -- asks for something else", REFUSED)
+    return text
+
+
+def compile_in_two_steps(file: str, options: Options) -> tuple[str, Facts]:
+    """The module of a file that is changed before LLVM's passes, and its facts; the passes leave out the functions that call
+    `setjmp`."""
+    before, facts = changed(compiled(file, options, *UNOPTIMISED))
+    name, *flags = compiler(file)
+    optimise = [name, options.level, *FLAGS, *flags, "-w", "-x", "ir", "-o", "-", "-"]
+    if calls_setjmp(before):
+        return with_passes(output_of(optimise, without_passes(before))), facts
+    return output_of(optimise, before), facts
+
+
+def check_target(file: str, text: str) -> None:
+    """Refuses the text of a target with another layout than that of x86-64 and Linux."""
+    for word, form in (("triple", TARGET), ("datalayout", LAYOUT)):
+        found = re.search(rf'^target {word} = "([^"]+)"', text, re.M)
+        if found and not form.fullmatch(found[1]):
+            raise Failure(
+                f"{file}: the target {word} {found[1]} is not that of x86-64 and Linux, whose layout the lowered text has",
+                REFUSED,
+            )
+
+
+def check_places(file: str, text: str) -> None:
+    """Refuses places in C that lead in a circle, since clang writes none, and LLVM's tools do not end on them."""
+    if has_circle(text):
+        raise Failure(
+            f"{file}: the places of instructions lead in a circle: a scope or an inlined call is within itself", REFUSED
+        )
+
+
+def persistent_declarations(modules: Iterable[tuple[str, str]]) -> dict[str, str]:
+    """The names that a module declares in a section that looks persistent, and does not define, each with its file."""
+    return {
+        name: file
+        for file, module in modules
+        for name, section in DECLARED_IN_SECTION.findall(read(module))
+        if LOOKS_PERSISTENT.match(unescaped(section))
+    }
+
+
+def check_definitions(declared: dict[str, str], text: str) -> None:
+    """Refuses what is declared persistent in one file and defined as volatile in another: the definition alone would decide."""
+    defined = {name: line for name, line in re.findall(r'^@("[^"\n]*"|[-A-Za-z$._0-9]+) = (.*)$', text, re.M)}
+    for name, file in declared.items():
+        line = defined.get(name, "external")
+        if not re.search(r"\bexternal\b", line.split(" section ")[0]) and f' section "{PERSISTENT}"' not in line:
+            raise Failure(
+                f"{file}: {name} is declared persistent, and its definition is not: write PERSISTENT before the definition",
+                REFUSED,
+            )
 
 
 def link(modules: list[str], target: str) -> str:
     """The name of a file with all of the modules."""
-    output_of(['llvm-link-19', '-S', '-o', target, *modules])
+    output_of(["llvm-link-19", "-S", "-o", target, *modules])
     return target
 
 
+def write(file: str, text: str) -> str:
+    """The name of a file that has a text then."""
+    with open(file, "w", encoding="latin-1") as out:
+        out.write(text)
+    return file
+
+
 def read(file: str) -> str:
-    """The text of a file."""
+    """The text of a file or a pipe. A device may have no end."""
     try:
-        with open(file, encoding='latin-1') as text:
+        with open(file, encoding="latin-1") as text:
+            if stat.S_ISCHR(os.fstat(text.fileno()).st_mode):
+                raise Failure(f"read fault: {file}: this is a device", READ_FAULT)
             return text.read()
     except FileNotFoundError:
-        raise Failure(f'no file: {file}', NO_FILE) from None
+        raise Failure(f"no file: {file}", NO_FILE) from None
     except OSError as error:
-        raise Failure(f'read fault: {file}: {error.strerror}', READ_FAULT) from None
+        raise Failure(f"read fault: {file}: {error.strerror}", READ_FAULT) from None
 
 
 def names_of(text: str) -> tuple[set[str], list[str]]:
@@ -116,11 +234,11 @@ def names_of(text: str) -> tuple[set[str], list[str]]:
     own, public = set(), []
     for found in re.finditer(r'^(?:define ([^@\n]*)@|@)("[^"\n]*"|[-A-Za-z$._0-9]+)(.*)$', text, re.M):
         head, name, rest = found[1], found[2].strip('"'), found[3]
-        linkage = head if head is not None else rest.split(' global ')[0].split(' constant ')[0]
-        if head is None and re.match(r' = (?:\w+ )*?(?:external|extern_weak)\b', rest):
+        linkage = head if head is not None else rest.split(" global ")[0].split(" constant ")[0]
+        if head is None and re.match(r" = (?:\w+ )*?(?:external|extern_weak)\b", rest):
             continue
         own.add(name)
-        if not NOT_PUBLIC.search(linkage) and not name.startswith('llvm.'):
+        if not NOT_PUBLIC.search(linkage) and not name.startswith("llvm."):
             public.append(name)
     return own, public
 
@@ -128,15 +246,20 @@ def names_of(text: str) -> tuple[set[str], list[str]]:
 def passes(options: Options, text: str) -> list[str]:
     """LLVM's passes over the linked module: only what `main` reaches and what is persistent stays."""
     names, flags = [], []
-    if re.search(r'^define [^@\n]*@main\(', text, re.M):
-        kept = ['main', *re.findall(r'^@("[^"\n]*"|[-A-Za-z$._0-9]+) = [^\n]* section "\.pm"', text, re.M)]
-        names, flags = ['internalize', 'globaldce'], [f'-internalize-public-api-list={",".join(kept)}']
+    if re.search(r"^define [^@\n]*@main\(", text, re.M):
+        kept = [
+            "main",
+            *(name for name, section in SECTION.findall(text) if LOOKS_PERSISTENT.match(unescaped(section))),
+        ]
+        names, flags = ["internalize", "globaldce"], [f'-internalize-public-api-list={",".join(kept)}']
     functions = [name for name, pattern in ON_DEMAND.items() if re.search(pattern, text)]
-    if 'expand-large-div-rem' in functions:
-        flags += ['-mtriple=x86_64-pc-linux-gnu', '-expand-div-rem-bits=64']
+    if "expand-large-div-rem" in functions:
+        flags += ["-mtriple=x86_64-pc-linux-gnu", "-expand-div-rem-bits=64"]
     if options.single_thread and re.search(ATOMIC, text, re.M):
-        functions.append('lower-atomic')
-    if options.mem2reg:
-        functions.append('mem2reg')
+        functions.append("lower-atomic")
+    if options.mem2reg and not calls_setjmp(text):
+        functions.append("mem2reg")
+    if VECTORS.search(text):
+        functions.append("scalarizer")
     names.append(f'function({",".join([*functions, "instnamer"])})')
     return [f'-passes={",".join(names)}', *flags]

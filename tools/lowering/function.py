@@ -4,13 +4,17 @@ from __future__ import annotations
 import re
 from typing import TYPE_CHECKING, NamedTuple
 
+from .constants import zero_of
 from .instructions import INSTRUCTIONS
+from .jumps import put_tests
 from .names import GLOBAL_NAME
 from .refusals import Refused
+from .stack import block, padded
 from .tokens import LINKAGE, Tokens
 from .types import Type, alignment, bits, pieces, read_type, show_type, size
 from .values import collect_same_values, read_operand
-from .variable_arguments import registers_of
+from .users import refuse
+from .variable_arguments import WORD, float_registers_of, registers_of
 from .writer import Writer
 
 if TYPE_CHECKING:
@@ -18,7 +22,8 @@ if TYPE_CHECKING:
 
 LABEL = re.compile(r'("[^"]*"|[-A-Za-z$._0-9]+):(\s*;.*)?$')
 TARGET = re.compile(r'(%(?:"[^"]*"|[-A-Za-z$._0-9]+)) = ')
-ADDED_COMMENT = ' ; added'
+DEFAULT = re.compile(r'switch .*?, label (%(?:"[^"]*"|[-A-Za-z$._0-9]+)) \[')
+ADDED_COMMENT = " ; added"
 
 
 class Signature(NamedTuple):
@@ -38,29 +43,32 @@ class Signature(NamedTuple):
     def returned(self) -> str:
         """The type that stands before the function's name."""
         found = pieces(self.result)
-        return found[0] if len(found) == 1 else 'void'
+        return found[0] if len(found) == 1 else "void"
 
 
 class Function(Writer):
     """Reads the lines of a function, and writes its text in the subset."""
 
     def __init__(self, module: Module, head: str, body: list[str]) -> None:
-        super().__init__(ADDED_COMMENT if module.line_tables else '')
+        super().__init__(ADDED_COMMENT if module.line_tables else "")
         self.module = module
         self.values: dict[str, list[str]] = {}
         self.same_values: dict[str, str] = {}
         self.blocks: set[str] = set()
         self.metadata: dict[str, str] = {}
         self.parameters: list[str] = []
-        self.result_slot = self.variable_block = ''
-        self.registers_taken = 0
+        self.result_slot = self.variable_block = ""
+        self.registers_taken = self.float_registers_taken = 0
+        self.activation = ""
+        self.sites: list[tuple[str, list[tuple[str, str]]]] = []
         head, metadata = module.places.without_metadata(head)
         self.head_place = module.places.of(metadata)
-        self.head_comment = module.line_tables.head_comment(metadata) if module.line_tables else ''
+        self.head_comment = module.line_tables.head_comment(metadata) if module.line_tables else ""
         self.lines = [module.places.without_metadata(line) for line in join_switches(body)]
         self.definitions = {found[1]: line for line, _ in self.lines if (found := TARGET.match(line))}
-        self.written_name = '@' + re.search(GLOBAL_NAME + r'\(', head)[1]
-        self.signature = Signature('void', (), (), False)
+        self.defaults = {found[1] for line, _ in self.lines if (found := DEFAULT.match(line))}
+        self.written_name = "@" + re.search(GLOBAL_NAME + r"\(", head)[1]
+        self.signature = Signature("void", (), (), False)
         try:
             self.read_head(Tokens(head))
         except Refused as refusal:
@@ -68,87 +76,103 @@ class Function(Writer):
 
     def read_head(self, tokens: Tokens) -> None:
         """The function's parameters and its result."""
-        tokens.take('define')
+        tokens.take("define")
         tokens.take_all(LINKAGE)
         tokens.skip_attributes()
         result = self.type(tokens)
+        if self.written_name == "@main" and result != "i32":
+            raise Refused("main has another result than int", "main_type")
         tokens.take(self.written_name)
-        tokens.take('(')
+        tokens.take("(")
         types, by_value, variadic = [], [], False
         if len(pieces(result)) > 1:
-            self.result_slot = self.fresh('result')
-            self.parameters.append(f'ptr {self.result_slot}')
-        while tokens.peek() != ')':
-            if tokens.take_if('...'):
+            self.result_slot = self.fresh("result")
+            self.parameters.append(f"ptr {self.result_slot}")
+        while tokens.peek() != ")":
+            if tokens.take_if("..."):
                 variadic = True
                 break
             type_ = self.type(tokens)
-            _, copied = tokens.skip_attributes()
+            least, copied = tokens.skip_attributes()
             copied = copied and self.type(copied)
-            self.parameter(type_, tokens.take(), copied)
+            self.parameter(type_, tokens.take(), copied, least)
             self.registers_taken += registers_of(type_, copied, self.registers_taken)
+            self.float_registers_taken += float_registers_of(type_, self.float_registers_taken)
             types += pieces(type_)
             by_value += [copied is not None] * len(pieces(type_))
-            tokens.take_if(',')
+            tokens.take_if(",")
         if variadic:
-            self.variable_block = self.fresh('variable')
-            self.parameters.append(f'ptr {self.variable_block}')
+            self.variable_block = self.fresh("variable")
+            self.parameters.append(f"ptr {self.variable_block}")
         self.signature = Signature(result, tuple(types), tuple(by_value), variadic)
 
-    def parameter(self, type_: Type, written: str, copied: Type | None) -> None:
-        """A parameter; the function copies an aggregate that is passed by value."""
-        if self.written_name == '@main':
+    def parameter(self, type_: Type, written: str, copied: Type | None, least: int) -> None:
+        """A parameter; the function copies an aggregate that is passed by value to a block of its alignment."""
+        if self.written_name == "@main":
             self.module.start.give_parameter(self, written)
             return
         names = self.results(written, type_)
         if copied is None:
             self.values[written] = names
         else:
-            given = self.fresh(f'{names[0][1:]}.given')
-            self.entry.append(f'{names[0]} = alloca {self.module.room(copied)}')
+            given = self.fresh(f"{names[0][1:]}.given")
+            self.entry += block(self, names[0], copied, max(least, WORD))
             helper = self.module.copy_helper(alignment(copied), size(copied))
-            self.entry.append(f'call void {helper}(ptr {names[0]}, ptr {given}, i64 {size(copied)})')
+            self.entry.append(f"call void {helper}(ptr {names[0]}, ptr {given}, i64 {size(copied)})")
             names = [given]
-        self.parameters += [f'{piece} {name}' for piece, name in zip(pieces(type_), names)]
+        self.parameters += [f"{piece} {name}" for piece, name in zip(pieces(type_), names)]
 
-    def text(self) -> str:
-        """The function in the subset; refusals go to the module."""
+    def lower(self) -> None:
+        """Writes the lines of the function in the subset; refusals go to the module."""
         collect_same_values(self)
         for line, metadata in self.lines:
             try:
                 self.lower_line(line, metadata)
             except Refused as refusal:
-                at = f'{line[:110]} (in {self.written_name})'
-                self.module.refusals.add(refusal, self.module.places.of(metadata) or self.head_place, at)
+                refuse(self.module, refusal, self, metadata, line)
+
+    def text(self) -> str:
+        """The function in the subset."""
+        put_tests(self)
         name = self.module.names[self.written_name]
         head = f'define {self.signature.returned} @{name}({", ".join(self.parameters)}) {{{self.head_comment}'
-        return '\n'.join([head, *self.body(), '}'])
+        body = self.body()
+        if self.module.has_padded_blocks:
+            body = padded(body, self.fresh, self.added_comment)
+        return "\n".join([head, *body, "}"])
 
     def lower_line(self, line: str, metadata: dict[str, str]) -> None:
         """Writes the lines in the subset for a label or an instruction."""
         if label := LABEL.match(line):
-            self.begin_origin(self.register('%' + label[1])[1:])
+            self.begin_origin(self.register("%" + label[1])[1:])
             return
         if self.has_ended:
-            return
-        self.comment = self.module.line_tables.comment(metadata) if self.module.line_tables else ''
+            if line == "unreachable":
+                return
+            self.reopen()
+        self.comment = self.module.line_tables.comment(metadata) if self.module.line_tables else ""
         self.metadata = metadata
         target = TARGET.match(line)
         if target and target[1] in self.same_values:
             self.check_same(line)
             return
-        tokens = Tokens(line[target.end():] if target else line)
+        tokens = Tokens(line[target.end() :] if target else line)
         word = tokens.take()
-        if word in ('tail', 'musttail', 'notail'):
-            word = tokens.take('call')
+        if word in ("tail", "musttail", "notail"):
+            word = tokens.take("call")
         if word not in INSTRUCTIONS:
             raise unknown(word)
-        INSTRUCTIONS[word](self, tokens, target[1] if target else '', word)
+        INSTRUCTIONS[word](self, tokens, target[1] if target else "", word)
 
     def check_same(self, line: str) -> None:
         """Refuses a value that needs an option that is not given."""
-        if '@llvm.threadlocal.address' in line and not self.module.options.single_thread:
-            raise Refused('thread-local data', 'thread')
+        if "@llvm.threadlocal.address" in line and not self.module.options.single_thread:
+            raise Refused("thread-local data", "thread")
+
+    def zero_result(self) -> str:
+        """A result that nobody reads."""
+        returned = self.signature.returned
+        return returned if returned == "void" else f"{returned} {zero_of(returned)}"
 
     def place(self) -> str:
         """The place in C of the instruction that is lowered, or of the function if clang gives it no line."""
@@ -171,7 +195,7 @@ class Function(Writer):
             self.values[target] = values
             return
         for register, piece, value in zip(self.values[target], pieces(type_), values):
-            self.put(f'{register} = select i1 true, {piece} {value}, {piece} {value}')
+            self.put(f"{register} = select i1 true, {piece} {value}, {piece} {value}")
 
     def type(self, tokens: Tokens) -> Type:
         """The type that stands next."""
@@ -182,7 +206,7 @@ class Function(Writer):
         type_ = self.type(tokens)
         if bits(type_):
             return type_
-        raise Refused(f'{show_type(type_)} where an integer stands')
+        raise Refused(f"{show_type(type_)} where an integer stands")
 
     def operand(self, tokens: Tokens, type_: str) -> str:
         """The operand of one piece that stands next."""
@@ -197,20 +221,19 @@ class Function(Writer):
     def address(self, tokens: Tokens) -> str:
         """The pointer operand that stands next, after its type."""
         type_ = self.type(tokens)
-        if type_ != 'ptr':
-            raise Refused(f'{show_type(type_)} where a pointer stands')
-        return self.operand(tokens, 'ptr')
+        if type_ != "ptr":
+            raise Refused(f"{show_type(type_)} where a pointer stands")
+        return self.operand(tokens, "ptr")
 
     def label(self, tokens: Tokens) -> str:
         """`label %name`."""
-        tokens.take('label')
-        return f'label {self.register(tokens.take())}'
+        tokens.take("label")
+        return f"label {self.register(tokens.take())}"
 
 
 def unknown(word: str) -> Refused:
     """Why an instruction is refused, by its word."""
-    kind = 'vector' if word.endswith(('element', 'vector')) else 'float' if word[0] == 'f' else 'form'
-    return Refused(f'the instruction {word!r} is not in the subset', kind)
+    return Refused(f"the instruction {word!r} is not in the subset")
 
 
 def join_switches(body: list[str]) -> list[str]:
@@ -220,10 +243,10 @@ def join_switches(body: list[str]) -> list[str]:
     for line in body:
         if parts:
             parts.append(line)
-            if line.startswith(']'):
-                joined.append(' '.join(parts))
+            if line.startswith("]"):
+                joined.append(" ".join(parts))
                 parts = []
-        elif line.startswith('switch') and line.endswith('['):
+        elif line.startswith("switch") and line.endswith("["):
             parts = [line]
         else:
             joined.append(line)

@@ -2,7 +2,9 @@
 the register that is assigned (an empty text if there is none), and the word."""
 from .calls import INSTRUCTIONS as CALLS
 from .control import INSTRUCTIONS as CONTROL
+from .floats import INSTRUCTIONS as FLOATS
 from .integers import INSTRUCTIONS as INTEGERS
 from .memory import INSTRUCTIONS as MEMORY
+from .vectors import INSTRUCTIONS as VECTORS
 
-INSTRUCTIONS = {**INTEGERS, **MEMORY, **CONTROL, **CALLS}
+INSTRUCTIONS = {**INTEGERS, **FLOATS, **MEMORY, **CONTROL, **CALLS, **VECTORS}

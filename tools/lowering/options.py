@@ -1,12 +1,16 @@
 """The words of the command line of `lower`."""
+from __future__ import annotations
+
 import argparse
+import os
 import re
 from dataclasses import dataclass, field
+from typing import IO, Any
 
 from .commands import USAGE, Failure
 
-USAGE_LINE = 'lower [-O0|-O1|-O2|-O3|-Os] [OPTIONS] FILE... [--args WORD...] [-- CLANG-ARGUMENTS...]'
-UNITS = {'': 1, 'K': 1 << 10, 'M': 1 << 20}
+USAGE_LINE = "lower [-O0|-O1|-O2|-O3|-Os] [OPTIONS] FILE... [--args WORD...] [-- CLANG-ARGUMENTS...]"
+UNITS = {"": 1, "K": 1 << 10, "M": 1 << 20}
 
 
 @dataclass
@@ -15,7 +19,7 @@ class Pool:
 
     name: str
     size: int
-    content: str = ''
+    content: str = ""
 
 
 @dataclass
@@ -23,21 +27,32 @@ class Options:
     """The options of the command line."""
 
     files: list[str]
-    level: str = '-O1'
+    level: str = "-O1"
     mem2reg: bool = False
     heap: int | None = None
     pools: list[Pool] = field(default_factory=list)
-    output: str = ''
+    environment: list[str] = field(default_factory=list)
+    output: str = ""
     time_from_input: bool = False
     file_calls: bool = False
     single_thread: bool = False
     lines: bool = False
     non_temporal: bool = False
     array_bound: int | None = None
-    public: str = ''
+    target: str = ""
+    public: str = ""
+    requests: str = ""
+    compile_commands: str = ""
+    cache: str = ""
+    wrap: list[str] = field(default_factory=list)
     unaligned: bool = False
+    args_from_input: bool = False
     arguments: list[str] | None = None
     clang: list[str] = field(default_factory=list)
+
+
+class Help(Exception):
+    """The command line asks for the help, which is the message."""
 
 
 class Parser(argparse.ArgumentParser):
@@ -45,16 +60,41 @@ class Parser(argparse.ArgumentParser):
 
     def error(self, message: str) -> None:
         """Ends the command."""
-        raise Failure(f'usage: {USAGE_LINE}: {message}', USAGE)
+        raise Failure(f"usage: {USAGE_LINE}: {message}", USAGE)
+
+    def print_help(self, file: IO[str] | None = None) -> None:
+        """Hands over the text of the help; argparse's own form ignores a fault of its output."""
+        raise Help(self.format_help())
+
+
+class ShowVersion(argparse.Action):
+    """Answers the version."""
+
+    def __init__(self, option_strings: list[str], dest: str, **_: Any) -> None:
+        super().__init__(option_strings, dest, nargs=0, default=argparse.SUPPRESS, help="show the version")
+
+    def __call__(self, *_: object) -> None:
+        tools = os.path.dirname(os.path.dirname(os.path.abspath(__file__)))
+        kept = os.path.join(tools, "about", "version")
+        with open(
+            kept if os.path.isfile(kept) else os.path.join(os.path.dirname(tools), "VERSION"), encoding="utf-8"
+        ) as file:
+            raise Help(f"lower {file.readline().split()[-1]}\n")
 
 
 def parse(words: list[str], description: str) -> Options:
     """The options; what follows `--` goes to clang, what follows `--args` to the program."""
-    words, clang = split(words, '--')
-    words, arguments = split(words, '--args')
-    levels = [word for word in words if re.fullmatch('-O[0123s]', word)]
+    words, clang = split(words, "--")
+    words, arguments = split(words, "--args")
+    levels = [word for word in words if re.fullmatch("-O[0123s]", word)]
     given = build_parser(description).parse_args([word for word in words if word not in levels])
-    return Options(**vars(given), level=(levels or ['-O1'])[-1], arguments=arguments, clang=clang or [])
+    if given.args_from_input and arguments is not None:
+        raise Failure(f"usage: {USAGE_LINE}: give one of --args and --args-from-input", USAGE)
+    if word := next((word for word in clang or [] if word.startswith("-o")), ""):
+        raise Failure(f"usage: {USAGE_LINE}: {word} for clang: the text goes to standard output", USAGE)
+    if file := next((file for file in given.files if os.path.basename(file).startswith("@")), ""):
+        raise Failure(f"{file}: a name that begins with @ is to clang a file of arguments", USAGE)
+    return Options(**vars(given), level=(levels or ["-O1"])[-1], arguments=arguments, clang=clang or [])
 
 
 def split(words: list[str], mark: str) -> tuple[list[str], list[str] | None]:
@@ -62,47 +102,123 @@ def split(words: list[str], mark: str) -> tuple[list[str], list[str] | None]:
     if mark not in words:
         return words, None
     place = words.index(mark)
-    return words[:place], words[place + 1:]
+    return words[:place], words[place + 1 :]
 
 
 def build_parser(description: str) -> Parser:
     """Each option, with its help."""
-    parser = Parser(prog='lower', usage=USAGE_LINE, description=description,
-                    formatter_class=argparse.RawDescriptionHelpFormatter)
-    parser.add_argument('--mem2reg', action='store_true', help='keep locals in registers, after -O0')
-    parser.add_argument('--heap', type=size, metavar='SIZE', help='the size of the heap of malloc')
-    parser.add_argument('--pool', dest='pools', type=pool, action='append', default=[], metavar='NAME=SIZE[,FILE]',
-                        help='a file of persistent memory for pmem_map_file and similar calls; FILE has its initial bytes')
-    parser.add_argument('--ignore-output', dest='output', action='store_const', const='ignore', default='',
-                        help='calls of text output return their result, and write nothing')
-    parser.add_argument('--print-numbers', dest='output', action='store_const', const='print', default='',
-                        help='calls of text output print their integers by print_i64, and nothing else')
-    parser.add_argument('--time-from-input', action='store_true', help='calls for the time read the next number of the input')
-    parser.add_argument('--file-calls', action='store_true',
-                        help='open, mmap, msync and similar calls work on the pools')
-    parser.add_argument('--single-thread', action='store_true', help='assume that one thread makes all atomic accesses')
-    parser.add_argument('--unaligned', action='store_true', help='allow accesses at any address, as x86-64 does')
-    parser.add_argument('--non-temporal', action='store_true',
-                        help='lower a non-temporal store to a store and a flush after it')
-    parser.add_argument('--array-bound', type=size, metavar='SIZE', help='the size of an array of variable length')
-    parser.add_argument('--public', metavar='FILE', default='',
-                        help="write the names that other object files may use, for opt's -internalize-public-api-file")
-    parser.add_argument('--lines', action='store_true', help='add a comment after each instruction, with its place in C')
-    parser.add_argument('files', nargs='+', metavar='FILE')
+    parser = Parser(
+        prog="lower", usage=USAGE_LINE, description=description, formatter_class=argparse.RawDescriptionHelpFormatter
+    )
+    parser.add_argument("--version", action=ShowVersion)
+    parser.add_argument("--mem2reg", action="store_true", help="keep locals in registers, after -O0")
+    parser.add_argument("--heap", type=size, metavar="SIZE", help="the size of the heap of malloc")
+    parser.add_argument(
+        "--pool",
+        dest="pools",
+        type=pool,
+        action="append",
+        default=[],
+        metavar="NAME=SIZE[,FILE]",
+        help="a file of persistent memory for pmem_map_file and similar calls; FILE has its initial bytes",
+    )
+    parser.add_argument(
+        "--environment",
+        type=variable,
+        action="append",
+        default=[],
+        metavar="NAME=VALUE",
+        help="a variable of the environment, for getenv and the third parameter of main",
+    )
+    parser.add_argument(
+        "--ignore-output",
+        dest="output",
+        action="store_const",
+        const="ignore",
+        default="",
+        help="calls of text output return their result, and write nothing",
+    )
+    parser.add_argument(
+        "--print-numbers",
+        dest="output",
+        action="store_const",
+        const="print",
+        default="",
+        help="calls of text output print their integers by print_i64, and nothing else",
+    )
+    parser.add_argument(
+        "--time-from-input", action="store_true", help="calls for the time read the next number of the input"
+    )
+    parser.add_argument(
+        "--file-calls", action="store_true", help="open, mmap, msync and similar calls work on the pools"
+    )
+    parser.add_argument("--single-thread", action="store_true", help="assume that one thread makes all atomic accesses")
+    parser.add_argument("--unaligned", action="store_true", help="allow accesses at any address, as x86-64 does")
+    parser.add_argument(
+        "--args-from-input",
+        action="store_true",
+        help="the words of the command line are the first numbers of the input, with eight bytes in each, and a 0 after them",
+    )
+    parser.add_argument(
+        "--non-temporal", action="store_true", help="lower a non-temporal store to a store and a flush after it"
+    )
+    parser.add_argument("--array-bound", type=size, metavar="SIZE", help="the size of an array of variable length")
+    parser.add_argument(
+        "-o", dest="target", metavar="FILE", default="", help="write the text to FILE, and not to standard output"
+    )
+    parser.add_argument(
+        "--public",
+        metavar="FILE",
+        default="",
+        help="write the names that other object files may use, for opt's -internalize-public-api-file",
+    )
+    parser.add_argument(
+        "--compile-commands",
+        metavar="FILE",
+        default="",
+        help="a compile_commands.json, which has the arguments of clang for each C file",
+    )
+    parser.add_argument(
+        "--cache", metavar="FOLDER", default="", help="keep the modules of C files in a folder, for the next command"
+    )
+    parser.add_argument(
+        "--wrap",
+        metavar="NAME",
+        action="append",
+        default=[],
+        help="a file that does not define the function NAME calls __wrap_NAME in its place, and __real_NAME is NAME",
+    )
+    parser.add_argument(
+        "--requests",
+        metavar="FILE",
+        default="",
+        help="if the program has requests to Valgrind, write a second text in which those of pmemcheck are noted",
+    )
+    parser.add_argument(
+        "--lines", action="store_true", help="add a comment after each instruction, with its place in C"
+    )
+    parser.add_argument("files", nargs="+", metavar="FILE")
     return parser
 
 
 def size(text: str) -> int:
     """A number of bytes, with K or M after it for 1,024 or 1,048,576 of them."""
-    if not (read := re.fullmatch(r'([0-9]{1,9})([KM]?)', text)):
-        raise argparse.ArgumentTypeError(f'{text!r} is not a size, such as 4096, 64K or 2M')
+    if not (read := re.fullmatch(r"([0-9]{1,9})([KM]?)", text)):
+        raise argparse.ArgumentTypeError(f"{text!r} is not a size, such as 4096, 64K or 2M")
     return int(read[1]) * UNITS[read[2]]
+
+
+def variable(text: str) -> str:
+    """`NAME=VALUE`."""
+    if not re.fullmatch(r"[^=]+=.*", text, re.S):
+        raise argparse.ArgumentTypeError(f"{text!r} is not a variable, such as HOME=/root")
+    return text
 
 
 def pool(text: str) -> Pool:
     """`NAME=SIZE` or `NAME=SIZE,FILE`."""
-    name, mark, rest = text.partition('=')
-    bytes_, _, content = rest.partition(',')
+    name, mark, rest = text.partition("=")
+    bytes_, _, content = rest.partition(",")
     if not (name and mark):
-        raise argparse.ArgumentTypeError(f'{text!r} is not a pool, such as data.pool=1M')
+        raise argparse.ArgumentTypeError(f"{text!r} is not a pool, such as data.pool=1M")
     return Pool(name, size(bytes_), content)

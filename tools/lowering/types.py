@@ -1,8 +1,9 @@
-"""Types: a scalar is its word, an array ('array', count, element), a struct ('struct', fields) or ('packed', fields).
+"""Types: a scalar is its word, an array ('array', count, element), a vector ('vector', count, element), a struct ('struct', fields) or
+('packed', fields).
 
 Sizes and alignments are those of LLVM on x86-64. What a register holds is kept in *pieces*, scalars of the subset: an
 integer of another width in one of the next width, whose upper bits are zero, one above 64 bits in several of 64 bits,
-an aggregate in the pieces of its fields."""
+a floating-point number in an integer that has its bits, an aggregate or a vector in the pieces of its fields."""
 from __future__ import annotations
 
 import re
@@ -12,62 +13,86 @@ from .refusals import Refused
 from .tokens import Tokens
 
 Type = str | tuple
-INTEGERS = {'i1': 1, 'i8': 1, 'i16': 2, 'i32': 4, 'i64': 8}
-SCALARS = {**INTEGERS, 'ptr': 8}
-FLOATS = set('half bfloat float double x86_fp80 fp128 ppc_fp128'.split())
+INTEGERS = {"i1": 1, "i8": 1, "i16": 2, "i32": 4, "i64": 8}
+SCALARS = {**INTEGERS, "ptr": 8}
+# The integers that have the bits of floating-point numbers.
+FLOATS = {"half": "i16", "bfloat": "i16", "float": "i32", "double": "i64", "x86_fp80": "i80", "fp128": "i128"}
 MOST_PIECES = 64
+# Types of many elements; a vector has them bit by bit, and another alignment.
+LISTS = ("array", "vector")
 WIDEST = 64 * MOST_PIECES
 
 
 def read_type(tokens: Tokens, named: dict[str, str | Type]) -> Type:
     """The type that stands next; `named` has the texts of the named types, which are written out in place."""
     text = tokens.take()
-    if text in SCALARS or text == 'void':
+    if text in SCALARS or text in FLOATS or text == "void":
         return text
-    if text == '[':
+    if text == "[":
         count = int(tokens.take())
-        tokens.take('x')
+        tokens.take("x")
         element = read_type(tokens, named)
-        tokens.take(']')
-        return ('array', count, element)
-    if text == '{':
-        return ('struct', read_fields(tokens, named))
-    if text == '<' and tokens.take_if('{'):
-        packed = ('packed', read_fields(tokens, named))
-        tokens.take('>')
+        tokens.take("]")
+        return ("array", count, element)
+    if text == "{":
+        return ("struct", read_fields(tokens, named))
+    if text == "<" and tokens.take_if("{"):
+        packed = ("packed", read_fields(tokens, named))
+        tokens.take(">")
         return packed
-    if text.startswith('%') and text in named:
+    if text.startswith("%") and text in named:
         if isinstance(named[text], str):
-            named[text] = ('opaque',) if named[text] == 'opaque' else read_type(Tokens(named[text]), named)
+            named[text] = ("opaque",) if named[text] == "opaque" else read_type(Tokens(named[text]), named)
         return named[text]
-    if re.fullmatch(r'i[1-9][0-9]*', text):
+    if re.fullmatch(r"i[1-9][0-9]*", text):
         if int(text[1:]) > WIDEST:
-            raise Refused(f'the type {text} is not in the subset', 'width')
+            raise Refused(f"the type {text} is not in the subset", "width")
         return text
-    if text == '<':
-        raise Refused(f'a vector of {tokens.peek()} x {tokens.peek(2)}', 'vector')
-    raise Refused(f'the type {text} is not in the subset', 'float' if text in FLOATS else 'form')
+    if text == "<":
+        return read_vector(tokens, named)
+    raise Refused(f"the type {text} is not in the subset")
+
+
+def read_vector(tokens: Tokens, named: dict[str, str | Type]) -> Type:
+    """A vector, after its opening bracket. The number of elements of some is known to the processor alone."""
+    if tokens.kind() != "number":
+        raise Refused(f"a vector of {tokens.peek()}", "vector")
+    count = int(tokens.take())
+    tokens.take("x")
+    element_type = read_type(tokens, named)
+    tokens.take(">")
+    return ("vector", count, element_type)
 
 
 def read_fields(tokens: Tokens, named: dict) -> tuple:
     """The types of the fields of a struct, after its opening brace, which is closed after them."""
     fields = []
-    while tokens.peek() != '}':
+    while tokens.peek() != "}":
         fields.append(read_type(tokens, named))
-        if not tokens.take_if(','):
+        if not tokens.take_if(","):
             break
-    tokens.take('}')
+    tokens.take("}")
     return tuple(fields)
 
 
 def is_aggregate(type_: Type) -> bool:
-    """Whether the type is an array or a struct."""
+    """Whether the type is an array, a vector or a struct."""
     return isinstance(type_, tuple)
 
 
 def bits(type_: Type) -> int:
     """The width of an integer type, or 0."""
-    return int(type_[1:]) if isinstance(type_, str) and type_[0] == 'i' else 0
+    return int(type_[1:]) if isinstance(type_, str) and type_[0] == "i" else 0
+
+
+def width(type_: str) -> int:
+    """The number of bits of a scalar."""
+    return 64 if type_ == "ptr" else bits(as_integer(type_))
+
+
+def as_integer(type_: Type) -> Type:
+    """The integer type that has the bits of a floating-point type; any other type is itself."""
+    return FLOATS.get(type_, type_) if isinstance(type_, str) else type_
 
 
 def next_power(number: int) -> int:
@@ -79,20 +104,21 @@ def container(type_: str) -> str:
     """The integer type of the subset that holds an integer of up to 64 bits; `ptr` holds itself."""
     if type_ in SCALARS:
         return type_
-    return f'i{max(8, next_power(bits(type_)))}'
+    return f"i{max(8, next_power(bits(type_)))}"
 
 
 @lru_cache(None)
 def pieces(type_: Type) -> tuple[str, ...]:
     """The types of the scalars of the subset that hold a value in registers."""
-    if type_ == 'void':
+    if type_ == "void":
         return ()
     if isinstance(type_, str):
-        return ('i64',) * -(-bits(type_) // 64) if bits(type_) > 64 else (container(type_),)
+        type_ = as_integer(type_)
+        return ("i64",) * -(-bits(type_) // 64) if bits(type_) > 64 else (container(type_),)
     alignment(type_)
-    if type_[0] == 'array' and type_[1] > MOST_PIECES:
-        raise Refused(f'a value of type {show_type(type_)}: a register holds at most {MOST_PIECES} elements')
-    fields = (type_[2],) * type_[1] if type_[0] == 'array' else type_[1]
+    if type_[0] in LISTS and type_[1] > MOST_PIECES:
+        raise Refused(f"a value of type {show_type(type_)}: a register holds at most {MOST_PIECES} elements")
+    fields = (type_[2],) * type_[1] if type_[0] in LISTS else type_[1]
     return tuple(piece for field in fields for piece in pieces(field))
 
 
@@ -100,25 +126,30 @@ def pieces(type_: Type) -> tuple[str, ...]:
 def alignment(type_: Type) -> int:
     """The alignment of a type in memory."""
     if isinstance(type_, str):
+        type_ = as_integer(type_)
         if type_ in SCALARS:
             return SCALARS[type_]
         if not bits(type_):
-            raise Refused(f'the type {type_} has no size')
+            raise Refused(f"the type {type_} has no size")
         return min(max(1, next_power(bits(type_)) // 8), 16)
-    if type_[0] == 'array':
+    if type_[0] == "array":
         return alignment(type_[2])
-    if type_[0] == 'opaque':
-        raise Refused('an incomplete struct has no size')
-    return 1 if type_[0] == 'packed' else max([1] + [alignment(field) for field in type_[1]])
+    if type_[0] == "vector":
+        return next_power(-(-type_[1] * width(type_[2]) // 8))
+    if type_[0] == "opaque":
+        raise Refused("an incomplete struct has no size")
+    return 1 if type_[0] == "packed" else max([1] + [alignment(field) for field in type_[1]])
 
 
 @lru_cache(None)
 def size(type_: Type) -> int:
     """The distance between two neighbours in an array of a type."""
     if isinstance(type_, str):
-        return 8 if type_ == 'ptr' else round_up(-(-bits(type_) // 8), alignment(type_))
-    if type_[0] == 'array':
+        return 8 if type_ == "ptr" else round_up(-(-bits(as_integer(type_)) // 8), alignment(type_))
+    if type_[0] == "array":
         return type_[1] * size(type_[2])
+    if type_[0] == "vector":
+        return alignment(type_)
     whole = alignment(type_)
     return round_up(field_offsets(type_)[-1], whole)
 
@@ -128,25 +159,27 @@ def field_offsets(type_: Type) -> tuple[int, ...]:
     """The offsets of the fields of a struct, and the end of the last one."""
     offsets, end = [], 0
     for field in type_[1]:
-        begin = end if type_[0] == 'packed' else round_up(end, alignment(field))
+        begin = end if type_[0] == "packed" else round_up(end, alignment(field))
         offsets.append(begin)
         end = begin + size(field)
     return (*offsets, end)
 
 
 def element(type_: Type, index: int) -> tuple[int, Type]:
-    """The offset and the type of an element of an array or a struct."""
-    if type_[0] == 'array':
+    """The offset and the type of an element of an array, a vector or a struct."""
+    if type_[0] in LISTS:
         return index * size(type_[2]), type_[2]
     return field_offsets(type_)[index], type_[1][index]
 
 
 def leaves(type_: Type, offset: int = 0) -> list[tuple[int, str]]:
-    """The offset and the type of each scalar of a type that registers hold."""
+    """The offset and the type of each scalar and each vector of a type that registers hold, without floating-point types."""
     if isinstance(type_, str):
+        return [(offset, as_integer(type_))]
+    if type_[0] == "vector":
         return [(offset, type_)]
     pieces(type_)
-    count = type_[1] if type_[0] == 'array' else len(type_[1])
+    count = type_[1] if type_[0] == "array" else len(type_[1])
     return [leaf for index in range(count) for leaf in leaves_of_element(type_, index, offset)]
 
 
@@ -165,8 +198,10 @@ def show_type(type_: Type) -> str:
     """The text of a type."""
     if isinstance(type_, str):
         return type_
-    if type_[0] == 'array':
-        return f'[{type_[1]} x {show_type(type_[2])}]'
-    if type_[0] == 'opaque':
-        return 'an incomplete struct'
-    return '{ ' + ', '.join(map(show_type, type_[1])) + ' }' if type_[1] else '{}'
+    if type_[0] == "array":
+        return f"[{type_[1]} x {show_type(type_[2])}]"
+    if type_[0] == "vector":
+        return f"<{type_[1]} x {show_type(type_[2])}>"
+    if type_[0] == "opaque":
+        return "an incomplete struct"
+    return "{ " + ", ".join(map(show_type, type_[1])) + " }" if type_[1] else "{}"

@@ -1,65 +1,18 @@
 // Calls on files, for `--file-calls`: the only files are the pools. A write stores into the mapped bytes; fsync, fdatasync and msync
-// make them durable by flushes and a fence, as does each write of a descriptor that was opened with O_SYNC or O_DSYNC.
+// make them durable by flushes and a fence, as does each write to a file that was opened with O_SYNC or O_DSYNC.
+#include "descriptor.h"
 #include "hippo.h"
-#include "pool.h"
 #include <errno.h>
 #include <fcntl.h>
-#include <stdarg.h>
 #include <string.h>
 #include <sys/stat.h>
 #include <sys/uio.h>
 #include <sys/vfs.h>
 #include <unistd.h>
 
-enum { FIRST = 3, DESCRIPTORS = 32 };
-
-struct descriptor {
-  struct hippo_pool *pool; // a null pointer while the descriptor is closed
-  int flags;
-  off_t offset;
-};
-
-static struct descriptor descriptors[DESCRIPTORS];
-
 static int failed(int number) {
   errno = number;
   return -1;
-}
-
-static struct descriptor *open_descriptor(int number) {
-  int known = number >= FIRST && number < FIRST + DESCRIPTORS && descriptors[number - FIRST].pool;
-  if (!known) errno = EBADF;
-  return known ? &descriptors[number - FIRST] : NULL;
-}
-
-struct hippo_pool *hippo_pool_of_descriptor(int number) {
-  struct descriptor *found = open_descriptor(number);
-  return found ? found->pool : NULL;
-}
-
-int open(const char *path, int flags, ...) {
-  struct hippo_pool *pool = hippo_pool_of_path(path);
-  if (!pool || hippo_pool_open(pool, flags)) return -1;
-  for (int i = 0; i < DESCRIPTORS; i++)
-    if (!descriptors[i].pool) {
-      descriptors[i] = (struct descriptor){pool, flags, 0};
-      return FIRST + i;
-    }
-  return failed(EMFILE);
-}
-
-int open64(const char *path, int flags, ...) { return open(path, flags); }
-
-int creat(const char *path, mode_t mode) {
-  (void)mode;
-  return open(path, O_CREAT | O_WRONLY | O_TRUNC);
-}
-
-int close(int number) {
-  struct descriptor *from = open_descriptor(number);
-  if (!from) return -1;
-  from->pool = NULL;
-  return 0;
 }
 
 static int persist_file(const struct hippo_pool *pool) {
@@ -75,26 +28,36 @@ int fsync(int number) {
 int fdatasync(int number) { return fsync(number); }
 
 ssize_t pread(int number, void *to, size_t size, off_t offset) {
-  struct hippo_pool *pool = hippo_pool_of_descriptor(number);
-  if (!pool) return -1;
   if (offset < 0) return failed(EINVAL);
+  struct hippo_open_file *from = hippo_open_file(number);
+  if (!from) return -1;
+  if (!hippo_may_read(from)) return failed(EBADF);
+  struct hippo_pool *pool = from->pool;
   size_t left = (size_t)offset < pool->file->length ? pool->file->length - offset : 0;
   if (size > left) size = left;
   memcpy(to, pool->bytes + offset, size);
   return size;
 }
 
-ssize_t pwrite(int number, const void *from, size_t size, off_t offset) {
-  struct descriptor *to = open_descriptor(number);
+// Writes at a place, or at the end of a file that is opened with O_APPEND, as Linux does; returns where the next byte goes, or -1.
+static off_t write_at(int number, const void *from, size_t size, off_t offset) {
+  struct hippo_open_file *to = hippo_open_file(number);
   if (!to) return -1;
-  if (offset < 0) return failed(EINVAL);
+  if (!hippo_may_write(to)) return failed(EBADF);
   struct hippo_pool *pool = to->pool;
-  size_t end = (size_t)offset + size;
-  if (end > pool->size) return failed(ENOSPC);
+  if (to->flags & O_APPEND) offset = pool->file->length;
+  if (size == 0) return offset;
+  if ((size_t)offset > pool->size || size > pool->size - offset) return failed(ENOSPC);
   memcpy(pool->bytes + offset, from, size);
   if (to->flags & (O_SYNC | O_DSYNC)) pmem_persist(pool->bytes + offset, size);
+  size_t end = offset + size;
   if (end > pool->file->length && hippo_pool_set_length(pool, end)) return -1;
-  return size;
+  return end;
+}
+
+ssize_t pwrite(int number, const void *from, size_t size, off_t offset) {
+  if (offset < 0) return failed(EINVAL);
+  return write_at(number, from, size, offset) < 0 ? -1 : (ssize_t)size;
 }
 
 ssize_t pread64(int number, void *to, size_t size, off64_t offset) { return pread(number, to, size, offset); }
@@ -105,7 +68,7 @@ ssize_t pwrite64(int number, const void *from, size_t size, off64_t offset) {
 
 ssize_t read(int number, void *to, size_t size) {
   if (number == STDIN_FILENO) return 0;
-  struct descriptor *from = open_descriptor(number);
+  struct hippo_open_file *from = hippo_open_file(number);
   ssize_t count = from ? pread(number, to, size, from->offset) : -1;
   if (count > 0) from->offset += count;
   return count;
@@ -113,18 +76,18 @@ ssize_t read(int number, void *to, size_t size) {
 
 ssize_t write(int number, const void *from, size_t size) {
   if (number == STDOUT_FILENO || number == STDERR_FILENO) return size;
-  struct descriptor *to = open_descriptor(number);
-  if (to && to->flags & O_APPEND) to->offset = to->pool->file->length;
-  ssize_t count = to ? pwrite(number, from, size, to->offset) : -1;
-  if (count > 0) to->offset += count;
-  return count;
+  struct hippo_open_file *to = hippo_open_file(number);
+  off_t next = to ? write_at(number, from, size, to->offset) : -1;
+  if (next < 0) return -1;
+  to->offset = next;
+  return size;
 }
 
 ssize_t pwritev(int number, const struct iovec *parts, int count, off_t offset) {
   ssize_t written = 0;
   for (int i = 0; i < count; i++) {
     ssize_t part = pwrite(number, parts[i].iov_base, parts[i].iov_len, offset + written);
-    if (part < 0) return -1;
+    if (part < 0) return written ? written : -1;
     written += part;
   }
   return written;
@@ -134,27 +97,43 @@ ssize_t writev(int number, const struct iovec *parts, int count) {
   ssize_t written = 0;
   for (int i = 0; i < count; i++) {
     ssize_t part = write(number, parts[i].iov_base, parts[i].iov_len);
-    if (part < 0) return -1;
+    if (part < 0) return written ? written : -1;
     written += part;
   }
   return written;
 }
 
+// Where a search for data or for a hole ends: a file has data up to its end.
+static off_t found_at(const struct hippo_pool *pool, off_t offset, int from) {
+  off_t length = pool->file->length;
+  if (offset < 0 || offset >= length) return failed(ENXIO);
+  return from == SEEK_DATA ? offset : length;
+}
+
 off_t lseek(int number, off_t offset, int from) {
-  struct descriptor *moved = open_descriptor(number);
+  struct hippo_open_file *moved = hippo_open_file(number);
   if (!moved) return -1;
-  off_t start = from == SEEK_SET ? 0 : from == SEEK_CUR ? moved->offset : (off_t)moved->pool->file->length;
-  if (start + offset < 0) return failed(EINVAL);
-  moved->offset = start + offset;
-  return moved->offset;
+  switch (from) {
+  case SEEK_SET: break;
+  case SEEK_CUR: offset += moved->offset; break;
+  case SEEK_END: offset += moved->pool->file->length; break;
+  case SEEK_DATA: case SEEK_HOLE:
+    offset = found_at(moved->pool, offset, from);
+    if (offset < 0) return -1;
+    break;
+  default: return failed(EINVAL);
+  }
+  if (offset < 0) return failed(EINVAL);
+  moved->offset = offset;
+  return offset;
 }
 
 off64_t lseek64(int number, off64_t offset, int from) { return lseek(number, offset, from); }
 
 int ftruncate(int number, off_t length) {
-  struct hippo_pool *pool = hippo_pool_of_descriptor(number);
-  if (!pool) return -1;
-  return length < 0 ? failed(EINVAL) : hippo_pool_set_length(pool, length);
+  struct hippo_open_file *file = hippo_open_file(number);
+  if (!file) return -1;
+  return length < 0 || !hippo_may_write(file) ? failed(EINVAL) : hippo_pool_set_length(file->pool, length);
 }
 
 int ftruncate64(int number, off64_t length) { return ftruncate(number, length); }
@@ -167,10 +146,11 @@ int truncate(const char *path, off_t length) {
 
 // A pool always has room up to its size; the file becomes at least as long as the end of the range.
 int posix_fallocate(int number, off_t offset, off_t length) {
-  struct hippo_pool *pool = hippo_pool_of_descriptor(number);
-  if (!pool) return EBADF;
+  struct hippo_open_file *file = hippo_open_file(number);
+  if (offset < 0 || length <= 0) return EINVAL;
+  if (!file || !hippo_may_write(file)) return EBADF;
   size_t end = offset + length;
-  return end > pool->file->length && hippo_pool_set_length(pool, end) ? ENOSPC : 0;
+  return end > file->pool->file->length && hippo_pool_set_length(file->pool, end) ? ENOSPC : 0;
 }
 
 static int fill_status(const struct hippo_pool *pool, struct stat *to) {
@@ -228,24 +208,3 @@ int unlink(const char *path) {
 }
 
 int remove(const char *path) { return unlink(path); }
-
-// One process runs, so each lock is free.
-int fcntl(int number, int command, ...) {
-  va_list arguments;
-  va_start(arguments, command);
-  if (command == F_GETLK) va_arg(arguments, struct flock *)->l_type = F_UNLCK;
-  va_end(arguments);
-  struct descriptor *of = open_descriptor(number);
-  if (!of) return -1;
-  return command == F_GETFL ? of->flags : 0;
-}
-
-int flock(int number, int operation) {
-  (void)operation;
-  return open_descriptor(number) ? 0 : -1;
-}
-
-int lockf(int number, int command, off_t length) {
-  (void)command, (void)length;
-  return open_descriptor(number) ? 0 : -1;
-}

@@ -1,6 +1,7 @@
 // malloc and similar functions over a volatile arena of HIPPO_HEAP_SIZE bytes. When no free block is large enough and the arena
 // is full, they return a null pointer with ENOMEM, as C allows. Blocks are adjacent; a freed block joins its free neighbours, and
-// free blocks are in lists by size. A second free of one block traps.
+// free blocks are in lists by size. A map outside of the arena, which stores past a block do not reach, has the memory that is in
+// use; a free of any other address traps, and so does a second free of one block.
 #include "heap.h"
 #include <errno.h>
 #include <stddef.h>
@@ -22,6 +23,7 @@ enum { HEADER = offsetof(struct block, next), SMALLEST = HIPPO_HEAP_SMALLEST, UN
 _Static_assert(SMALLEST == sizeof(struct block), "a free block has its links in it");
 
 static _Alignas(64) unsigned char arena[HIPPO_HEAP_SIZE / UNIT * UNIT];
+static unsigned char used[HIPPO_HEAP_SIZE / UNIT / 8 + 1]; // a bit for each unit: the memory of a block in use begins there
 static size_t end;        // where the blocks end in the arena
 static size_t last_size;  // the size of the block that ends there
 static struct block *lists[LISTS]; // free blocks of up to SMALLEST << n bytes, that are too large for the list before
@@ -39,6 +41,23 @@ static struct block *following(struct block *block) { return at((unsigned char *
 static int is_last(struct block *block) { return (unsigned char *)following(block) == arena + end; }
 
 static int is_free(const struct block *block) { return !(block->size & USED); }
+
+// The place of the bit of some memory; it traps if no block can begin there.
+static size_t unit_of(const void *memory) {
+  size_t offset = (uintptr_t)memory - (uintptr_t)arena;
+  if (offset >= sizeof arena || offset % UNIT) __builtin_trap();
+  return offset / UNIT;
+}
+
+// Marks memory as in use, or as free again.
+static void mark(const void *memory) { used[unit_of(memory) / 8] ^= 1 << unit_of(memory) % 8; }
+
+// The block of memory, which must be in use; otherwise it traps.
+static struct block *used_block(void *memory) {
+  size_t unit = unit_of(memory);
+  if (!(used[unit / 8] >> unit % 8 & 1)) __builtin_trap();
+  return block_of(memory);
+}
 
 // The size of the block that holds this number of bytes, or 0 if the arena is too small for it.
 static size_t block_size(size_t size) {
@@ -140,13 +159,14 @@ void *malloc(size_t size) {
     return NULL;
   }
   use(block, whole);
+  mark(payload(block));
   return payload(block);
 }
 
 void free(void *memory) {
   if (!memory) return;
-  struct block *block = block_of(memory);
-  if (is_free(block)) __builtin_trap();
+  struct block *block = used_block(memory);
+  mark(memory);
   release(block);
 }
 
@@ -182,7 +202,7 @@ void *realloc(void *memory, size_t size) {
     free(memory);
     return NULL;
   }
-  struct block *block = block_of(memory);
+  struct block *block = used_block(memory);
   size_t whole = block_size(size);
   if (whole > size_of(block)) grow(block, whole);
   if (whole && whole <= size_of(block)) {
@@ -206,11 +226,13 @@ void *reallocarray(void *memory, size_t count, size_t size) {
 }
 
 void *hippo_heap_cut(void *memory, void *place) {
-  struct block *block = block_of(memory), *second = block_of(place);
+  struct block *block = used_block(memory), *second = block_of(place);
   size_t first = (unsigned char *)second - (unsigned char *)block;
   second->size = (size_of(block) - first) | USED;
   set_size(second, size_of(block) - first, USED);
   set_size(block, first, USED);
+  mark(memory);
+  mark(place);
   release(block);
   return place;
 }

@@ -1,13 +1,16 @@
-// setjmp only: it returns 0, and there is no longjmp that would return to it.
+// Jumps. A buffer has two words: which run of a function called setjmp, and where. tools/lower writes them, and what hippo_jump does
+// (lowering/jumps.py).
 
-int setjmp(void *buffer) {
-  (void)buffer;
-  return 0;
+void hippo_jump(long frame, long site, int value);
+
+void longjmp(void *buffer, int value) {
+  const long *target = buffer;
+  if (target[0] <= 0) __builtin_trap(); // setjmp did not fill this buffer
+  hippo_jump(target[0], target[1], value ? value : 1);
 }
 
-int _setjmp(void *buffer) { return setjmp(buffer); }
+void _longjmp(void *buffer, int value) { longjmp(buffer, value); }
 
-int __sigsetjmp(void *buffer, int save_mask) {
-  (void)save_mask;
-  return setjmp(buffer);
-}
+void siglongjmp(void *buffer, int value) { longjmp(buffer, value); }
+
+void __longjmp_chk(void *buffer, int value) { longjmp(buffer, value); }

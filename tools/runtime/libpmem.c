@@ -8,7 +8,7 @@
 #include <sys/types.h>
 
 // The flags of pmem_map_file and of the calls that copy, by their values in <libpmem.h>.
-enum { FILE_CREATE = 1, FILE_EXCLUSIVE = 2, FILE_TEMPORARY = 8 };
+enum { FILE_CREATE = 1, FILE_EXCLUSIVE = 2, FILE_SPARSE = 4, FILE_TEMPORARY = 8 };
 enum { NO_DRAIN = 1, NO_FLUSH = 32 };
 
 static unsigned long length_for(const struct hippo_pool *pool, size_t length, int flags) {
@@ -17,7 +17,7 @@ static unsigned long length_for(const struct hippo_pool *pool, size_t length, in
 
 void *pmem_map_file(const char *path, size_t length, int flags, mode_t mode, size_t *mapped, int *is_pmem) {
   (void)mode;
-  if (flags & FILE_TEMPORARY || !(flags & FILE_CREATE) != !length) {
+  if (flags & ~(FILE_CREATE | FILE_EXCLUSIVE | FILE_SPARSE) || !(flags & FILE_CREATE) != !length) {
     errno = EINVAL;
     return NULL;
   }
@@ -25,6 +25,10 @@ void *pmem_map_file(const char *path, size_t length, int flags, mode_t mode, siz
   int open_flags = (flags & FILE_CREATE ? O_CREAT : 0) | (flags & FILE_EXCLUSIVE ? O_EXCL : 0);
   if (!pool || hippo_pool_open(pool, open_flags)) return NULL;
   if (flags & FILE_CREATE && hippo_pool_set_length(pool, length)) return NULL;
+  if (!pool->file->length) {
+    errno = EINVAL;
+    return NULL;
+  }
   if (mapped) *mapped = length_for(pool, length, flags);
   if (is_pmem) *is_pmem = 1;
   return pool->bytes;
@@ -40,8 +44,9 @@ int pmem_is_pmem(const void *address, size_t length) {
   return pool && length <= (size_t)(pool->bytes + pool->size - (const unsigned char *)address);
 }
 
+// The calls of this kind say nothing about an empty range.
 int pmem_msync(const void *address, size_t length) {
-  pmem_persist(address, length);
+  if (length) pmem_persist(address, length);
   return 0;
 }
 
@@ -51,8 +56,8 @@ int pmem_deep_flush(const void *address, size_t length) {
 }
 
 int pmem_deep_drain(const void *address, size_t length) {
-  (void)address, (void)length;
-  pmem_drain();
+  (void)address;
+  if (length) pmem_drain();
   return 0;
 }
 

@@ -1,47 +1,66 @@
-// libpmem2's calls over the pools. A configuration is one object, a source is its pool, a map is a part of a pool. The region is
-// flushed by cache lines, so that is the granularity of stores.
+// libpmem2's calls over the pools. A source is an open file, a map is a part of a pool, or, where its sharing is private, a copy of it on
+// the heap. The region is flushed by cache lines, so that is the granularity of stores.
+#include "descriptor.h"
 #include "hippo.h"
-#include "pool.h"
 #include <errno.h>
+#include <stdint.h>
+#include <stdlib.h>
 #include <string.h>
 
 // By their values in <libpmem2.h>.
 enum granularity { GRANULARITY_BYTE, GRANULARITY_CACHE_LINE, GRANULARITY_PAGE };
+enum sharing { SHARED, PRIVATE };
 enum { NO_DRAIN = 1, NO_FLUSH = 32 };
-enum { E_MAP_RANGE = -100006, E_GRANULARITY_NOT_SET = -100003, E_GRANULARITY_NOT_SUPPORTED = -100009 };
+static const unsigned CAN_EXECUTE = 1u << 29, CAN_READ = 1u << 30, CAN_WRITE = 1u << 31;
+enum {
+  E_INVALID_FILE_HANDLE = -100004, E_MAP_RANGE = -100006, E_GRANULARITY_NOT_SET = -100008,
+  E_GRANULARITY_NOT_SUPPORTED = -100009, E_OFFSET_OUT_OF_RANGE = -100010, E_OFFSET_UNALIGNED = -100011, E_LENGTH_UNALIGNED = -100015,
+  E_SOURCE_EMPTY = -100018, E_INVALID_SHARING_VALUE = -100019, E_DEEP_FLUSH_RANGE = -100024, E_INVALID_PROT_FLAG = -100031,
+  E_NO_ACCESS = -100032
+};
 
 struct pmem2_config {
-  int granularity; // -1 while it is not set
+  int is_used, granularity; // the granularity is -1 while it is not set
+  enum sharing sharing;
+  unsigned protection;
   size_t offset, length;
 };
 
 struct pmem2_map {
   unsigned char *address;
   size_t size;
+  int is_private;
 };
 
-enum { MAPS = 16 };
+enum { CONFIGS = 16, MAPS = 16, ALIGNMENT = 4096 };
 
-static struct pmem2_config config;
+static struct pmem2_config configs[CONFIGS];
 static struct pmem2_map maps[MAPS];
 
 int pmem2_config_new(struct pmem2_config **to) {
-  config = (struct pmem2_config){.granularity = -1};
-  *to = &config;
-  return 0;
+  for (struct pmem2_config *config = configs; config < configs + CONFIGS; config++)
+    if (!config->is_used) {
+      *config = (struct pmem2_config){.is_used = 1, .granularity = -1, .protection = CAN_READ | CAN_WRITE};
+      *to = config;
+      return 0;
+    }
+  return -ENOMEM;
 }
 
 int pmem2_config_delete(struct pmem2_config **from) {
+  if (*from) (*from)->is_used = 0;
   *from = NULL;
   return 0;
 }
 
 int pmem2_config_set_required_store_granularity(struct pmem2_config *to, enum granularity granularity) {
+  if ((unsigned)granularity > GRANULARITY_PAGE) return E_GRANULARITY_NOT_SUPPORTED;
   to->granularity = granularity;
   return 0;
 }
 
 int pmem2_config_set_offset(struct pmem2_config *to, size_t offset) {
+  if (offset > INT64_MAX) return E_OFFSET_OUT_OF_RANGE;
   to->offset = offset;
   return 0;
 }
@@ -51,58 +70,77 @@ int pmem2_config_set_length(struct pmem2_config *to, size_t length) {
   return 0;
 }
 
-int pmem2_config_set_sharing(struct pmem2_config *to, int sharing) {
-  (void)to, (void)sharing;
+int pmem2_config_set_sharing(struct pmem2_config *to, enum sharing sharing) {
+  if (sharing != SHARED && sharing != PRIVATE) return E_INVALID_SHARING_VALUE;
+  to->sharing = sharing;
   return 0;
 }
 
 int pmem2_config_set_protection(struct pmem2_config *to, unsigned protection) {
-  (void)to, (void)protection;
+  if (protection & ~(CAN_EXECUTE | CAN_READ | CAN_WRITE)) return E_INVALID_PROT_FLAG;
+  to->protection = protection;
   return 0;
 }
 
-int pmem2_source_from_fd(struct hippo_pool **to, int descriptor) {
-  *to = hippo_pool_of_descriptor(descriptor);
-  return *to ? 0 : -EBADF;
+int pmem2_source_from_fd(struct hippo_open_file **to, int descriptor) {
+  struct hippo_open_file *file = hippo_open_file(descriptor);
+  if (!file || !hippo_may_read(file)) return E_INVALID_FILE_HANDLE;
+  *to = file;
+  return 0;
 }
 
-int pmem2_source_delete(struct hippo_pool **from) {
+int pmem2_source_delete(struct hippo_open_file **from) {
   *from = NULL;
   return 0;
 }
 
-int pmem2_source_size(const struct hippo_pool *source, size_t *to) {
-  *to = source->file->length;
+int pmem2_source_size(const struct hippo_open_file *source, size_t *to) {
+  *to = source->pool->file->length;
   return 0;
 }
 
-int pmem2_source_alignment(const struct hippo_pool *source, size_t *to) {
+int pmem2_source_alignment(const struct hippo_open_file *source, size_t *to) {
   (void)source;
-  *to = 4096;
+  *to = ALIGNMENT;
   return 0;
 }
 
-static int range_error(const struct pmem2_config *with, size_t length, size_t file_length) {
+// What is wrong with a mapping of a file, or 0.
+static int map_error(const struct pmem2_config *with, const struct hippo_open_file *source) {
+  size_t file_length = source->pool->file->length;
   if (with->granularity < 0) return E_GRANULARITY_NOT_SET;
-  if (with->granularity == GRANULARITY_BYTE) return E_GRANULARITY_NOT_SUPPORTED;
-  if (with->offset > file_length || length > file_length - with->offset) return E_MAP_RANGE;
-  return 0;
+  if (file_length == 0) return E_SOURCE_EMPTY;
+  if (with->offset % ALIGNMENT) return E_OFFSET_UNALIGNED;
+  if (with->offset > file_length || with->length > file_length - with->offset) return E_MAP_RANGE;
+  if (with->length % ALIGNMENT) return E_LENGTH_UNALIGNED;
+  if (with->sharing == SHARED && with->protection & CAN_WRITE && !hippo_may_write(source)) return E_NO_ACCESS;
+  return with->granularity == GRANULARITY_BYTE ? E_GRANULARITY_NOT_SUPPORTED : 0;
 }
 
-int pmem2_map_new(struct pmem2_map **to, const struct pmem2_config *with, const struct hippo_pool *source) {
-  size_t file_length = source->file->length, length = with->length ? with->length : file_length - with->offset;
-  int error = range_error(with, length, file_length);
+// The memory of a mapping: the pool's bytes, or a copy of them.
+static unsigned char *memory_of(const struct pmem2_config *with, unsigned char *bytes, size_t length) {
+  if (with->sharing == SHARED) return bytes;
+  unsigned char *copy = aligned_alloc(ALIGNMENT, length);
+  return copy ? memcpy(copy, bytes, length) : NULL;
+}
+
+int pmem2_map_new(struct pmem2_map **to, const struct pmem2_config *with, const struct hippo_open_file *source) {
+  *to = NULL;
+  int error = map_error(with, source);
   if (error) return error;
-  for (struct pmem2_map *map = maps; map < maps + MAPS; map++)
-    if (!map->address) {
-      *map = (struct pmem2_map){source->bytes + with->offset, length};
-      *to = map;
-      return 0;
-    }
-  return -ENOMEM;
+  size_t length = with->length ? with->length : source->pool->file->length - with->offset;
+  struct pmem2_map *map = maps;
+  while (map < maps + MAPS && map->address) map++;
+  if (map == maps + MAPS) return -ENOMEM;
+  unsigned char *address = memory_of(with, source->pool->bytes + with->offset, length);
+  if (!address) return -ENOMEM;
+  *map = (struct pmem2_map){address, length, with->sharing == PRIVATE};
+  *to = map;
+  return 0;
 }
 
 int pmem2_map_delete(struct pmem2_map **from) {
+  if ((*from)->is_private) free((*from)->address);
   (*from)->address = NULL;
   *from = NULL;
   return 0;
@@ -117,18 +155,21 @@ enum granularity pmem2_map_get_store_granularity(const struct pmem2_map *map) {
   return GRANULARITY_CACHE_LINE;
 }
 
-int pmem2_deep_flush(const struct pmem2_map *map, void *address, size_t length) {
-  (void)map;
-  pmem_persist(address, length);
-  return 0;
-}
-
 // The functions that a map returns. Memory outside of pools is volatile, and a flush of it does nothing.
 static void flush(const void *address, size_t length) {
   if (hippo_pool_with(address)) pmem_flush(address, length);
 }
 
 static void drain(void) { pmem_drain(); }
+
+int pmem2_deep_flush(const struct pmem2_map *map, void *address, size_t length) {
+  size_t offset = (unsigned char *)address - map->address;
+  if (offset > map->size || length > map->size - offset) return E_DEEP_FLUSH_RANGE;
+  if (!length) return 0;
+  flush(address, length);
+  drain();
+  return 0;
+}
 
 static void persist(const void *address, size_t length) {
   flush(address, length);

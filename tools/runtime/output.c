@@ -174,3 +174,10 @@ int fseek(FILE *stream, long offset, int from) {
 long ftell(FILE *stream) { return fseek(stream, 0, SEEK_CUR); }
 
 void rewind(FILE *stream) { (void)stream; }
+
+void setlinebuf(FILE *stream) { setvbuf(stream, NULL, 0, 0); }
+
+FILE *fdopen(int descriptor, const char *mode) {
+  if (descriptor >= 0 && descriptor < 3) return &streams[descriptor];
+  return fopen("", mode);
+}

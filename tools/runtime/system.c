@@ -1,4 +1,4 @@
-// Queries about the system: a run has one process, pages of 4,096 bytes and no environment.
+// Queries about the system: a run has one process, pages of 4,096 bytes, and the environment of --environment.
 #include <errno.h>
 #include <sched.h>
 #include <stddef.h>
@@ -19,15 +19,35 @@ gid_t getegid(void) { return 0; }
 
 int getpagesize(void) { return PAGE; }
 
+// Limits of Linux on x86-64, and one processor.
 long sysconf(int name) {
-  if (name == _SC_PAGESIZE) return PAGE;
-  if (name == _SC_NPROCESSORS_ONLN || name == _SC_NPROCESSORS_CONF) return 1;
+  switch (name) {
+  case _SC_PAGESIZE: return PAGE;
+  case _SC_NPROCESSORS_ONLN: case _SC_NPROCESSORS_CONF: return 1;
+  case _SC_OPEN_MAX: case _SC_IOV_MAX: return 1024;
+  case _SC_CLK_TCK: return 100;
+  case _SC_LEVEL1_DCACHE_LINESIZE: return 64;
+  case _SC_LOGIN_NAME_MAX: return 256;
+  case _SC_HOST_NAME_MAX: return 64;
+  }
   errno = EINVAL;
   return -1;
 }
 
+// The numbers of a device, as Linux packs them.
+unsigned gnu_dev_major(unsigned long device) { return (device >> 8 & 0xfff) | (device >> 32 & 0xfffff000); }
+unsigned gnu_dev_minor(unsigned long device) { return (device & 0xff) | (device >> 12 & 0xffffff00); }
+unsigned long gnu_dev_makedev(unsigned major, unsigned minor) {
+  unsigned long high = major & 0xfffff000, low = minor & 0xffffff00;
+  return high << 32 | low << 12 | (major & 0xfff) << 8 | (minor & 0xff);
+}
+
+extern char *hippo_environment[];
+
 char *getenv(const char *name) {
-  (void)name;
+  size_t length = strlen(name);
+  for (char **entry = hippo_environment; *entry; entry++)
+    if (strncmp(*entry, name, length) == 0 && (*entry)[length] == '=') return *entry + length + 1;
   return NULL;
 }
 

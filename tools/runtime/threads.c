@@ -26,6 +26,8 @@ int pthread_rwlock_rdlock(pthread_rwlock_t *l UNUSED) { return 0; }
 int pthread_rwlock_wrlock(pthread_rwlock_t *l UNUSED) { return 0; }
 int pthread_rwlock_tryrdlock(pthread_rwlock_t *l UNUSED) { return 0; }
 int pthread_rwlock_trywrlock(pthread_rwlock_t *l UNUSED) { return 0; }
+int pthread_rwlock_timedrdlock(pthread_rwlock_t *l UNUSED, const struct timespec *t UNUSED) { return 0; }
+int pthread_rwlock_timedwrlock(pthread_rwlock_t *l UNUSED, const struct timespec *t UNUSED) { return 0; }
 int pthread_rwlock_unlock(pthread_rwlock_t *l UNUSED) { return 0; }
 
 int pthread_spin_init(pthread_spinlock_t *l UNUSED, int shared UNUSED) { return 0; }

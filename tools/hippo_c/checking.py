@@ -4,11 +4,11 @@ import json
 import os
 import sys
 
-from . import baseline, running
+from . import baseline, depfile, fingerprints, running
 from .answer import answer_of
-from .diagnostics import Printer, amount, print_checked, print_trap
+from .diagnostics import Printer, amount, print_checked, print_declared, print_trap
 from .history import histories_of
-from .numbers import from_to
+from .numbers import DEFAULT_TURNS, from_to
 from .page import page_of
 from .progress import Progress
 from .sarif import sarif_of
@@ -17,54 +17,73 @@ from .suggesting import Suggestions, print_suggestion, print_verified, suggestio
 from .together import print_together
 from .traps import find_trap
 from .trouble import Trouble
+from .writing import STANDARD_OUTPUT, output_file
 
 
 def add_options(command: argparse.ArgumentParser) -> None:
     """The options of check that other commands do not have."""
-    command.add_argument('--inputs', metavar='FILE', help='a file with an input in each line; each is checked')
-    command.add_argument('--groups', type=from_to(0), default=50, metavar='N', help='show at most N groups, 0 for all (50)')
-    command.add_argument('--fix', action='store_true', help='suggest for each group what to add to the C')
-    command.add_argument('--diff', metavar='FILE', help='write the suggestions as a unified diff, - for standard output')
-    command.add_argument('--verify-fix', action='store_true', help='check the C again with the suggestions applied')
-    command.add_argument('--json', metavar='FILE', help='write the answer as JSON, - for standard output')
-    command.add_argument('--sarif', metavar='FILE', help='write the answer as SARIF 2.1.0')
-    command.add_argument('--html', metavar='FILE', help='write the answer as a page for a browser')
-    command.add_argument('--baseline', metavar='FILE', help='leave out the groups that this file lists')
-    command.add_argument('--write-baseline', metavar='FILE', help='list the groups of this check in a file')
-    command.add_argument('--no-coverage', action='store_true', help='do not count the lines of C that ran')
+    command.add_argument("--inputs", metavar="FILE", help="a file with an input in each line; each is checked")
+    command.add_argument(
+        "--groups", type=from_to(0), default=50, metavar="N", help="show at most N groups, 0 for all (50)"
+    )
+    command.add_argument("--fix", action="store_true", help="suggest for each group what to add to the C")
+    command.add_argument(
+        "--diff", metavar="FILE", help="write the suggestions as a unified diff, - for standard output"
+    )
+    command.add_argument("--verify-fix", action="store_true", help="check the C again with the suggestions applied")
+    command.add_argument("--apply", action="store_true", help="edit the C files by the suggestions")
+    command.add_argument("--json", metavar="FILE", help="write the answer as JSON, - for standard output")
+    command.add_argument("--sarif", metavar="FILE", help="write the answer as SARIF 2.1.0")
+    command.add_argument("--html", metavar="FILE", help="write the answer as a page for a browser")
+    command.add_argument("--baseline", metavar="FILE", help="leave out the groups that this file lists")
+    command.add_argument("--write-baseline", metavar="FILE", help="list the groups of this check in a file")
+    command.add_argument(
+        "--declared",
+        action="store_true",
+        help="show the reports of bytes that the program declares volatile to pmemcheck",
+    )
+    command.add_argument("--no-coverage", action="store_true", help="do not count the lines of C that ran")
+    depfile.add_option(command)
 
 
 def printer_of(options: argparse.Namespace) -> Printer:
     """The printer of diagnostics on standard output, in colours if the options or the terminal want them."""
-    colour = options.color == 'always' or (
-        options.color == 'auto' and sys.stdout.isatty() and os.environ.get('TERM') != 'dumb' and 'NO_COLOR' not in os.environ)
+    colour = options.color == "always" or (
+        options.color == "auto"
+        and sys.stdout.isatty()
+        and os.environ.get("TERM") != "dumb"
+        and "NO_COLOR" not in os.environ
+    )
     return Printer(sys.stdout, colour, not options.no_source)
 
 
 def check(options: argparse.Namespace, request: Request, progress: Progress) -> int:
     """Checks the program on each input: 0 if nothing was found, 1 if something was, 2 if a run did not end."""
     printer = printer_of(options)
-    if options.expand_macros and (options.diff or options.verify_fix):
-        raise Trouble('--diff and --verify-fix edit the files as they are: leave out --expand-macros')
+    if options.expand_macros and (options.diff or options.verify_fix or options.apply):
+        raise Trouble("--diff, --verify-fix and --apply edit the files as they are: leave out --expand-macros")
+    depfile.check_word(options)
+    known = baseline.read(options.baseline) if options.baseline else set()
+    request.wants_declared = True
     with Session(request, progress) as session:
         session.lower()
+        depfile.write_depfile(options, session)
         results = []
         for number, numbers in enumerate(request.inputs, 1):
-            name = f'program.{number}.trace' if len(request.inputs) > 1 else 'program.trace'
+            name = f"program.{number}.trace" if len(request.inputs) > 1 else "program.trace"
             results.append(session.check(numbers, name, not options.no_coverage))
-        wants_fix = options.fix or options.diff or options.verify_fix or options.html
-        known = baseline.read(options.baseline) if options.baseline else set()
+        wants_fix = options.fix or options.diff or options.verify_fix or options.html or options.sarif or options.apply
+        if options.baseline or options.write_baseline or options.json or options.sarif or options.html:
+            fingerprints.give(session, results)
         if options.write_baseline:
             baseline.write(options.write_baseline, session, results)
-        left_out = baseline.leave_out(session, results, known)
-        wants_notes = options.fix or options.verify_fix
+        left_out = baseline.leave_out(results, known)
+        wants_notes = options.fix or options.verify_fix or options.apply
         found = suggestions_for(session, results) if wants_fix else None
         write_forms(options, session, results, found, printer)
         progress.wipe()
-        if '-' not in (options.diff, options.json, options.sarif):
-            print_all(printer, session, results, options.groups, found if wants_notes else None)
-            if left_out:
-                printer.line(f'{amount(left_out, "group")} of the baseline left out')
+        if "-" not in (options.diff, options.json, options.sarif):
+            print_all(printer, session, results, options, found if wants_notes else None)
             if len(results) > 1:
                 print_together(printer, session, results)
         if found and options.diff:
@@ -73,45 +92,61 @@ def check(options: argparse.Namespace, request: Request, progress: Progress) -> 
             after = verify(session, results, found)
             progress.wipe()
             print_verified(printer, after, found)
+        if found and options.apply:
+            printer.line(f'edited: {amount(found.additions.apply(), "file")}')
+        if options.baseline and "-" not in (options.diff, options.json, options.sarif):
+            baseline.print_left_out(printer, options.baseline, left_out, results)
     return code_of(results)
 
 
-def write_forms(options: argparse.Namespace, session: Session, results: list[Checked], found: Suggestions | None,
-                printer: Printer) -> None:
+def write_forms(
+    options: argparse.Namespace, session: Session, results: list[Checked], found: Suggestions | None, printer: Printer
+) -> None:
     """Writes the answer in the requested forms."""
     if not (options.json or options.sarif or options.html):
         return
     answer = answer_of(session, results, found)
     for path, form in ((options.json, lambda: answer), (options.sarif, lambda: sarif_of(answer))):
         if path:
-            write_text(path, json.dumps(form(), indent=2) + '\n', printer)
+            write_text(path, json.dumps(form(), indent=2) + "\n", printer)
     if options.html:
         write_text(options.html, page_of(answer, histories_of(session, results)), printer)
 
 
 def write_text(path: str, text: str, printer: Printer) -> None:
     """Writes a text into a file, or to standard output if the path is `-`."""
-    if path == '-':
+    if path == STANDARD_OUTPUT:
         printer.stream.write(text)
         return
-    with running.whole_file(path) as file:
-        file.write(text.encode('utf-8', 'replace'))
+    with output_file(path) as file:
+        file.write(text.encode("utf-8", "replace"))
 
 
-def print_all(printer: Printer, session: Session, results: list[Checked], most: int, found: Suggestions | None) -> None:
-    """Prints the results of all inputs, with at most `most` groups of each."""
+def print_all(
+    printer: Printer, session: Session, results: list[Checked], options: argparse.Namespace, found: Suggestions | None
+) -> None:
+    """Prints the results of all inputs."""
     for number, checked in enumerate(results, 1):
         if len(results) > 1:
             printer.line(f'input {number}: {" ".join(map(str, checked.numbers))}'.rstrip())
         notes = (lambda group: print_suggestion(printer, found.of(group))) if found else None
-        print_checked(printer, session, checked, most, notes)
+        if options.declared:
+            print_declared(printer, session, checked)
+        print_checked(printer, session, checked, options.groups, notes)
 
 
 def code_of(results: list[Checked]) -> int:
     """1 if a run has a report, otherwise 2 if a run did not return from main, otherwise 0."""
     if any(checked.groups for checked in results):
         return 1
-    return 0 if all(checked.ended.startswith('stop') for checked in results) else 2
+    return 0 if all(checked.ended.startswith("stop") for checked in results) else 2
+
+
+def how_it_ended(ended: running.Ended, request: Request) -> str:
+    """How a run ended that did not trap."""
+    if ended.how == "cut":
+        return f"the run was cut after {DEFAULT_TURNS if request.limit is None else request.limit:,} turns; --limit N gives it more"
+    return f'main returned {ended.word("stop")}'
 
 
 def run(options: argparse.Namespace, request: Request, progress: Progress) -> int:
@@ -120,15 +155,15 @@ def run(options: argparse.Namespace, request: Request, progress: Progress) -> in
     with Session(request, progress) as session:
         session.lower()
         progress.wipe()
-        limit = ['--limit', str(request.limit)] if request.limit is not None else []
+        limit = ["--limit", str(request.limit)] if request.limit is not None else []
         numbers = request.inputs[0]
-        words = ['run', session.text_path, *limit, '--', *map(str, numbers)]
+        words = ["run", session.text_path, *limit, "--", *map(str, numbers)]
         process = running.start([running.hippo_program(), *words], stdout=None)
         ended = running.accept(words, running.finish(process), (0, running.TRAPPED, running.CUT))
-        if kind := ended.word('trap'):
+        if kind := ended.word("trap"):
             trap = find_trap(session.program, numbers, kind)
-            checked = Checked(numbers, '', [], None, ended.how, {}, trap)
+            checked = Checked(numbers, "", [], None, ended.how, trap=trap)
             print_trap(printer, session, checked)
         else:
-            printer.line(ended.how)
+            printer.line(how_it_ended(ended, request))
     return 0 if ended.code == 0 else 2

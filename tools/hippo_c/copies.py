@@ -4,10 +4,12 @@ from __future__ import annotations
 import re
 from typing import TYPE_CHECKING
 
+from lowering.names import last_part
+
 from .edits import Additions, Edit, applied
-from .places import head_of
+from .places import Place, head_of
 from .program import Site
-from .syntax import Statement, Tree
+from .syntax import Statement, Tree, Unclear
 
 if TYPE_CHECKING:
     from .fixes import Fixer
@@ -22,16 +24,17 @@ class Copies:
         self.waiting: list[str] = []
         self.trees: dict[str, Tree] = {}
         self.uses: dict[str, list[tuple[Tree, int]]] = {}
+        self.reason = "the call is not written by its name"
 
     def name_of(self, clone: str) -> str:
         """The name of a copy in C."""
         original = self.fixer.session.program.functions[self.repair.clones[clone]]
-        return f'{original.name_in_c}_flushed'
+        return f"{last_part(original.name_in_c)}_flushed"
 
     def call(self, tree: Tree, offset: int, clone: str, additions: Additions | None = None) -> bool:
         """Replaces the name of the called function at a place by that of its copy; false if the name does not stand there."""
-        name = self.name_of(clone)[:-len('_flushed')].encode()
-        if tree.source[offset:offset + len(name)] != name:
+        name = self.name_of(clone)[: -len("_flushed")].encode()
+        if tree.source[offset : offset + len(name)] != name:
             return False
         (additions or self.additions).replace(tree, Edit(offset, offset + len(name), self.name_of(clone)))
         self.uses.setdefault(clone, []).append((tree, tree.function.begin))
@@ -42,8 +45,16 @@ class Copies:
     def finish(self) -> bool:
         """Writes each copy after its original; false if that is not possible for one of them."""
         while self.waiting:
-            if not self.copy(self.waiting.pop(0)):
+            clone = self.waiting.pop(0)
+            try:
+                copied = self.copy(clone)
+            except Unclear as reason:
+                self.reason = f"in '{self.name_of(clone)[:-len('_flushed')]}' {reason}"
                 return False
+            if not copied:
+                self.reason = f"'{self.name_of(clone)[:-len('_flushed')]}' cannot be copied by rule"
+                return False
+        self.reason = "the copied functions are in several files"
         return all(self.declare(clone) for clone in self.trees)
 
     def copy(self, clone: str) -> bool:
@@ -57,28 +68,30 @@ class Copies:
         inside.sources[tree.file] = tree.source
         if not self.flush_stores(clone, tree, inside) or not self.follow_calls(clone, tree, inside):
             return False
-        head = re.compile(rb'\b' + re.escape(original.name_in_c.encode()) + rb'\b').search(tree.source, tree.function.begin)
+        head = re.compile(rb"\b" + re.escape(last_part(original.name_in_c).encode()) + rb"\b").search(
+            tree.source, tree.function.begin
+        )
         inside.replace(tree, Edit(head.start(), head.end(), self.name_of(clone)))
         text = applied(tree.source, inside.edits(tree.file), tree.function.begin, tree.function.end)
         end = tree.function.end
-        self.additions.replace(tree, Edit(end, end, '\n\n' + text.decode('utf-8', 'surrogateescape')))
+        self.additions.replace(tree, Edit(end, end, "\n\n" + text.decode("utf-8", "surrogateescape")))
         return True
 
-    def statement(self, site: Site, tree: Tree) -> tuple[Statement | None, int]:
-        """The statement of an instruction in a function, and the offset of the instruction in the file."""
+    def statement(self, site: Site, tree: Tree) -> tuple[Place | None, Statement | None, int]:
+        """The place of an instruction in a function, its statement, and its offset in the file."""
         places = self.fixer.places.of(site)
         place = next((place for place in places if place.exact and place.file == tree.file), None)
         offset = tree.offset(place.line, place.column) if place else -1
-        return (tree.statement(offset) if place else None), offset
+        return place or next(iter(places), None), (tree.statement(offset) if place else None), offset
 
     def flush_stores(self, clone: str, tree: Tree, inside: Additions) -> bool:
         """Puts a flush after each store that has one in the clone; false if that is not possible."""
         for item in self.repair.insertions:
             if item.clone != clone or item.is_fence:
                 continue
-            statement, offset = self.statement(item.site, tree)
-            text = self.fixer.flush_text(tree, statement, offset, item.instruction.callee != 'pmem_flush')
-            if text is None or statement.role == 'other':
+            place, statement, offset = self.statement(item.site, tree)
+            text = self.fixer.flush_text(place, tree, statement, offset, item.instruction.callee != "pmem_flush")
+            if statement.role == "other":
                 return False
             inside.add(tree, statement, [text], [])
         return True
@@ -90,16 +103,18 @@ class Copies:
         for site, instruction in program.sites():
             if site[0] != original or instruction.callee not in cloned:
                 continue
-            statement, offset = self.statement(site, tree)
+            place, statement, offset = self.statement(site, tree)
             called = program.functions[instruction.callee]
             if not self.stores(instruction.callee):
                 continue
+            if called.is_dispatch:
+                return False
             if self.fixer.places.is_users_function(called):
                 if not self.call(tree, offset, cloned[instruction.callee], inside):
                     return False
                 continue
-            text = self.fixer.flush_text(tree, statement, offset, False)
-            if text is None or statement.role == 'other':
+            text = self.fixer.flush_text(place, tree, statement, offset, False)
+            if statement.role == "other":
                 return False
             inside.add(tree, statement, [text], [])
         return True
@@ -122,9 +137,9 @@ class Copies:
             return False
         first = min(begin for _, begin in self.uses[clone])
         if first < tree.function.begin:
-            body = next(node for node in tree.function.inner if node.kind == 'CompoundStmt')
+            body = next(node for node in tree.function.inner if node.kind == "CompoundStmt")
             head = tree.text(tree.function.begin, body.begin).strip()
-            original = self.name_of(clone)[:-len('_flushed')]
-            head = re.sub(rf'\b{re.escape(original)}\b', self.name_of(clone), head, count=1)
-            self.additions.replace(tree, Edit(first, first, f'{head};\n\n'))
+            original = self.name_of(clone)[: -len("_flushed")]
+            head = re.sub(rf"\b{re.escape(original)}\b", self.name_of(clone), head, count=1)
+            self.additions.replace(tree, Edit(first, first, f"{head};\n\n"))
         return True

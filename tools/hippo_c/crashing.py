@@ -9,10 +9,12 @@ from collections.abc import Callable, Iterable, Iterator
 from concurrent.futures import FIRST_COMPLETED, Future, ThreadPoolExecutor, wait
 from dataclasses import dataclass, field
 
-from . import images, running
+from . import debugging, images, running
 from .checking import printer_of
-from .crash_answers import print_crashes
-from .images import Point
+from .crash_answers import image_of, print_crashes
+from .crash_verdicts import try_images
+from .following import follow
+from .images import Choice, Point
 from .numbers import from_to, seconds
 from .progress import Progress
 from .session import Request, Session
@@ -26,16 +28,21 @@ Fails = Callable[[str], bool]
 @dataclass
 class Outcome:
     """A point that was tried: `ended` is `stop C`, `trap K` or `cut`."""
+
     point: Point
     ended: str
 
 
 @dataclass
 class Exploration:
-    """The points that were tried, counted by their entries, and the outcomes of those that fail."""
+    """The points that were tried, counted by their entries, and the outcomes of those that fail; the number of the entries of which each image
+    was tried, and of all."""
+
     tried: Counter = field(default_factory=Counter)
     failing: list[Outcome] = field(default_factory=list)
     whole: bool = True
+    entries: int = 0
+    all_entries: int = 0
 
     @property
     def count(self) -> int:
@@ -45,67 +52,135 @@ class Exploration:
 
 def add_options(command: argparse.ArgumentParser) -> None:
     """The options of crash that other commands do not have."""
-    command.add_argument('--entries', metavar='A-B', help='the entries of the trace after which the power is cut')
-    command.add_argument('--sample', type=from_to(0), default=2, metavar='N', help='random images for each entry (2)')
-    command.add_argument('--seed', type=int, default=1, metavar='N', help='the seed of these images (1)')
-    command.add_argument('--time', type=seconds, metavar='SECONDS', help='stop after this time')
-    command.add_argument('--jobs', type=from_to(1), default=os.cpu_count(), metavar='N',
-                         help='the number of parallel runs (one for each processor)')
-    command.add_argument('--pick', dest='picks', nargs='*', metavar='LINE:UPTO',
-                         help='try only this image, after the one entry of --entries')
-    command.add_argument('--status', action='store_true',
-                         help='an image also fails if main returns another number than in the recorded run')
+    command.add_argument("--entries", metavar="A-B", help="the entries of the trace after which the power is cut")
+    command.add_argument(
+        "--sample",
+        type=from_to(0),
+        metavar="N",
+        help="try N random images for each entry, by hippo alone, in place of all images",
+    )
+    command.add_argument("--images", type=from_to(1), metavar="N", help="try N images, chosen at random from all")
+    command.add_argument("--seed", type=int, default=1, metavar="N", help="the seed of these images (1)")
+    command.add_argument("--time", type=seconds, metavar="SECONDS", help="stop after this time")
+    command.add_argument(
+        "--jobs",
+        type=from_to(1),
+        default=os.cpu_count(),
+        metavar="N",
+        help="the number of parallel runs (one for each processor)",
+    )
+    command.add_argument(
+        "--pick",
+        dest="picks",
+        nargs="*",
+        metavar="LINE:UPTO",
+        help="try only this image, after the one entry of --entries",
+    )
+    command.add_argument(
+        "--status",
+        action="store_true",
+        help="an image also fails if main returns another number than in the recorded run",
+    )
+    command.add_argument(
+        "--crashes", type=from_to(1, 4), default=2, metavar="N", help="power cuts one after another that are tried (2)"
+    )
+    command.add_argument(
+        "--recover",
+        action="append",
+        default=[],
+        metavar="FUNCTION",
+        help="the recovery ends when this function returns",
+    )
+    command.add_argument(
+        "--runs",
+        type=from_to(1),
+        metavar="N",
+        help="stop after N runs in place of a time, so that equal words give equal answers",
+    )
+    command.add_argument(
+        "--then",
+        nargs="+",
+        action="append",
+        default=[],
+        metavar="WORD",
+        help="another power cut, in the run after that of --pick: ENTRY LINE:UPTO...; may be given again",
+    )
+    debugging.add_options(command)
+    command.add_argument(
+        "--prints",
+        type=from_to(0, 1 << 62),
+        default=0,
+        metavar="N",
+        help="what hippo_prints returns after the power cut (0)",
+    )
 
 
 def crash(options: argparse.Namespace, request: Request, progress: Progress) -> int:
     """Tries the images: 0 if no run fails, 1 if one does."""
     if len(request.inputs) > 1:
-        raise Trouble('crash takes one input')
+        raise Trouble("crash takes one input")
+    debugging.prepare(options)
     printer = printer_of(options)
     with Session(request, progress) as session:
         session.lower()
-        path, ended = session.record(request.inputs[0], 'program.trace')
+        path, ended = session.record(request.inputs[0], "program.trace")
         recorded = ended.how
-        if recorded == 'cut':
-            raise Trouble('the run was cut', 'give it more turns by --limit')
+        if recorded == "cut":
+            raise Trouble("the run was cut", "give it more turns by --limit")
         first, last = entries_of(options.entries)
+        if options.then or options.prints:
+            if options.picks is None or first != last:
+                raise Trouble("--then and --prints need one entry and --pick: --entries N --pick LINE:UPTO..")
+            return follow(options, session, printer, path, recorded, first)
+        chosen = (options.sample, options.images, options.picks, options.entries)
+        if chosen == (None,) * 4 and recorded.startswith("stop"):
+            return try_images(options, session, printer)
         if options.picks is not None:
-            points = iter([single_point(options, first, last)])
+            choice = Choice(first, last, 0, 0, entries=1)
+            points = iter([[single_point(options, first, last)]])
         else:
-            points = images.points_of(path, lambda number: first <= number <= last, options.seed, options.sample)
+            choice = Choice(first, last, options.seed, 2 if options.sample is None else options.sample, options.images)
+            points = images.points_of(path, choice, options.time is not None)
         fails = failing_test(recorded, options.status)
         found = explore(session, path, points, fails, options)
-        if found.whole and not found.tried:
-            raise Trouble(f'--entries {options.entries}: the trace has entries 1 to {sum(1 for _ in pieces(path))}')
+        found.all_entries = choice.entries
+        if not choice.entries:
+            raise Trouble(f"--entries {options.entries}: the trace has entries 1 to {sum(1 for _ in pieces(path))}")
+        if not found.tried:
+            raise Trouble(f"--time {options.time:g}: the time ended before an image was tried", "give it more time")
         shrunk = [shrink(session, path, outcome, fails) for outcome in smallest_of(found)]
-        progress.say('looking for the places')
+        progress.say("looking for the places")
         print_crashes(printer, session, path, found, shrunk, words_again(options, request))
+        if options.debug:
+            debugging.write_native(
+                options, session, image_of(session, path, single_point(options, first, last)), printer
+            )
     return 1 if found.failing else 0
 
 
 def entries_of(text: str | None) -> tuple[int, int]:
     """The first and the last entry of `A-B`, or of one number."""
-    found = re.fullmatch(r'([0-9]{1,18})(?:-([0-9]{1,18}))?', text) if text is not None else None
+    found = re.fullmatch(r"([0-9]{1,18})(?:-([0-9]{1,18}))?", text) if text is not None else None
     if text is not None and not found:
-        raise Trouble(f'--entries {text}: neither a number nor A-B')
+        raise Trouble(f"--entries {text}: neither a number nor A-B")
     first, last = (int(found[1]), int(found[2] or found[1])) if found else (1, 1 << 62)
     if first > last:
-        raise Trouble(f'--entries {text}: the first entry is above the last')
+        raise Trouble(f"--entries {text}: the first entry is above the last")
     return first, last
 
 
 def single_point(options: argparse.Namespace, first: int, last: int) -> Point:
     """The image that `--pick` names."""
     if first != last:
-        raise Trouble('--pick needs one entry: --entries N')
-    if strange := [pick for pick in options.picks if not re.fullmatch(r'[0-9]{1,18}:[0-9]{1,18}', pick)]:
-        raise Trouble(f'--pick {strange[0]}: not LINE:UPTO')
-    return Point(first, tuple(tuple(map(int, pick.split(':'))) for pick in options.picks), ())
+        raise Trouble("--pick needs one entry: --entries N")
+    if strange := [pick for pick in options.picks if not re.fullmatch(r"[0-9]{1,18}:[0-9]{1,18}", pick)]:
+        raise Trouble(f"--pick {strange[0]}: not LINE:UPTO")
+    return Point(first, tuple(tuple(map(int, pick.split(":"))) for pick in options.picks))
 
 
 def failing_test(recorded: str, status: bool) -> Fails:
     """The test whether a run from an image fails: it traps, it is cut, or, with `--status`, main returns another number."""
-    return lambda ended: not ended.startswith('stop') or status and ended != recorded
+    return lambda ended: not ended.startswith("stop") or status and ended != recorded
 
 
 def try_point(session: Session, path: str, point: Point) -> Outcome:
@@ -115,25 +190,31 @@ def try_point(session: Session, path: str, point: Point) -> Outcome:
 
 def try_picks(session: Session, path: str, point: Point, accepted: tuple[int, ...]) -> running.Ended:
     """Runs the program from an image, with one of the accepted exit codes."""
-    picks = [f'{line}:{upto}' for line, upto in point.picks]
-    words = ['crash', session.text_path, path, str(point.entry), *picks]
+    picks = [f"{line}:{upto}" for line, upto in point.picks]
+    words = ["crash", session.text_path, path, str(point.entry), *picks]
     process = running.start([running.hippo_program(), *words], stdout=subprocess.DEVNULL)
     return running.accept(words, running.finish(process), accepted)
 
 
-def explore(session: Session, path: str, points: Iterator[Point], fails: Fails, options: argparse.Namespace) -> Exploration:
+def explore(
+    session: Session, path: str, points: Iterator[list[Point]], fails: Fails, options: argparse.Namespace
+) -> Exploration:
     """Tries points, several at a time, until no point is left or the time runs out."""
     found, until = Exploration(), time.monotonic() + (options.time or 1e18)
     with ThreadPoolExecutor(options.jobs) as pool:
-        running_now = set()
-        for point in points:
-            if time.monotonic() > until:
-                found.whole = False
+        running_now: set[Future[Outcome]] = set()
+        for of_entry in points:
+            for point in of_entry:
+                if time.monotonic() > until:
+                    found.whole = False
+                    break
+                running_now.add(pool.submit(try_point, session, path, point))
+                if len(running_now) >= 4 * options.jobs:
+                    done, running_now = wait(running_now, return_when=FIRST_COMPLETED)
+                    take_in(found, done, fails, session.progress)
+            if not found.whole:
                 break
-            running_now.add(pool.submit(try_point, session, path, point))
-            if len(running_now) >= 4 * options.jobs:
-                done, running_now = wait(running_now, return_when=FIRST_COMPLETED)
-                take_in(found, done, fails, session.progress)
+            found.entries += 1
         take_in(found, wait(running_now)[0], fails, session.progress)
     found.failing.sort(key=lambda outcome: (outcome.point.entry, len(outcome.point.picks), outcome.point.picks))
     return found
@@ -147,7 +228,7 @@ def take_in(found: Exploration, done: Iterable[Future[Outcome]], fails: Fails, p
         if fails(outcome.ended):
             found.failing.append(outcome)
     if progress.often():
-        progress.show(f'trying: {found.count:,} crash images, {len(found.failing):,} fail')
+        progress.show(f"trying: {found.count:,} crash images, {len(found.failing):,} fail")
 
 
 def smallest_of(found: Exploration) -> list[Outcome]:
@@ -171,9 +252,9 @@ def shrink(session: Session, path: str, outcome: Outcome, fails: Fails) -> Outco
 
 def words_again(options: argparse.Namespace, request: Request) -> list[str]:
     """The words that run this program again, up to the entry."""
-    words = ['hippo-c', 'crash', *request.files, *request.lower]
+    words = ["hippo-c", "crash", *request.files, *request.lower, *(boundary.given for boundary in request.boundaries)]
     if options.input_file:
-        words += ['--input-file', options.input_file]
+        words += ["--input-file", options.input_file]
     elif request.inputs[0]:
-        words += ['--input', *map(str, request.inputs[0])]
+        words += ["--input", *map(str, request.inputs[0])]
     return words

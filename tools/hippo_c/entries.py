@@ -9,16 +9,16 @@ from .places import Places
 from .program import REGION_BASE, Instruction, Program, Site
 from .traces import pieces
 
-HEADER_AND_END = ('START', 'REGISTER', 'INPUT', 'IMAGE', 'STOP', 'TRAP', 'CUT')
+HEADER_AND_END = ("START", "REGISTER", "INPUT", "IMAGE", "STOP", "TRAP", "CUT")
 
 
 def operands(text: str) -> list[str]:
     """The operands of an instruction or of a call, cut at the commas that are in no brackets."""
-    found = re.search(r'call \S+ @[-\w$.]+\((.*)\)$', text, re.ASCII)
+    found = re.search(r"call \S+ @[-\w$.]+\((.*)\)$", text, re.ASCII)
     text, depth, start, parts = found[1] if found else text, 0, 0, []
     for place, letter in enumerate(text):
-        depth += (letter in '([{') - (letter in ')]}')
-        if letter == ',' and depth == 0:
+        depth += (letter in "([{") - (letter in ")]}")
+        if letter == "," and depth == 0:
             parts.append(text[start:place].strip())
             start = place + 1
     return parts + [text[start:].strip()]
@@ -26,12 +26,12 @@ def operands(text: str) -> list[str]:
 
 def printed(instruction: Instruction) -> list[str]:
     """The operands that decide whether an instruction makes an entry; none if it always or never makes one."""
-    if instruction.text.startswith('store '):
+    if instruction.text.startswith("store "):
         return [operands(instruction.text)[1]]
     callee = instruction.callee
     if callee in LINE_FLUSHES:
         return [operands(instruction.text)[0]]
-    if callee == 'pmem_flush':
+    if callee == "pmem_flush":
         return operands(instruction.text)[:2]
     return []
 
@@ -49,8 +49,11 @@ def paths_of_entries(places: Places, numbers: list[int], path: str) -> dict[int,
 
     After a site in a function that is not the user's comes the site of the user's call that ran it."""
     program = places.program
-    made = [(site, instruction) for site, instruction in program.sites()
-            if printed(instruction) or instruction.callee in (*FENCES, 'pm_assert') or is_way_out(places, site, instruction)]
+    made = [
+        (site, instruction)
+        for site, instruction in program.sites()
+        if printed(instruction) or instruction.callee in (*FENCES, "pm_assert") or is_way_out(places, site, instruction)
+    ]
     marks: dict[Site, tuple[list[str], list[str]]] = {}
     for number, (site, instruction) in enumerate(made):
         after = [str(-1 - number)] if is_way_out(places, site, instruction) else []
@@ -63,7 +66,7 @@ def paths_of_entries(places: Places, numbers: list[int], path: str) -> dict[int,
             if entry.startswith(HEADER_AND_END):
                 continue
             sites, value = next(ran, ((), 0))
-            if not sites or entry.startswith('STORE') and int(entry.split(';')[1], 16) != value:
+            if not sites or entry.startswith("STORE") and int(entry.split(";")[1], 16) != value:
                 break
             found[number] = sites
     return found
@@ -73,11 +76,12 @@ def is_way_out(places: Places, site: Site, instruction: Instruction) -> bool:
     """Whether an instruction is a call from the user's functions to one that is not the user's."""
     functions = places.program.functions
     callee = functions.get(instruction.callee)
-    return (callee is not None and not places.is_users_function(callee)
-            and places.is_users_function(functions[site[0]]))
+    return callee is not None and not places.is_users_function(callee) and places.is_users_function(functions[site[0]])
 
 
-def sites_in_order(made: list[tuple[Site, Instruction]], marks: Iterator[int], program: Program) -> Iterator[tuple[tuple[Site, ...], int]]:
+def sites_in_order(
+    made: list[tuple[Site, Instruction]], marks: Iterator[int], program: Program
+) -> Iterator[tuple[tuple[Site, ...], int]]:
     """The sites of the entries with the first operand of each, from the marks of a run."""
     size, outside = program.region_size(), []
     for mark in marks:

@@ -4,25 +4,30 @@ A suggestion is not proved. The repaired text is proved; `--verify-fix` checks t
 from dataclasses import dataclass
 
 from lowering.externs import LIBPMEM, LINE_FLUSHES
+from lowering.languages import is_source
+from lowering.names import shortened
 
 from .copies import Copies
 from .edits import Additions
+from .objects import assigned_object, is_constructor, is_of_atomics, made_object, returned_object, stored_object
 from .parsing import parsed
-from .places import Place
+from .places import SYSTEM, Place
 from .plan import Insertion, Repair
 from .program import Site
 from .reports import Group
 from .session import Session
-from .syntax import Statement, Tree, address_of
+from .syntax import Statement, Tree, Unclear, address_of
 
 
 @dataclass
 class Suggestion:
     """What to do at a place, the statements that are added there, and the edits if they are known."""
+
     place: Place | None
     text: str
     statements: list[str]
     additions: Additions | None = None
+    reason: str = ""
 
 
 class Fixer:
@@ -32,7 +37,7 @@ class Fixer:
         self.session, self.repair, self.places = session, repair, session.places
         callees = {instruction.callee for _, instruction in session.program.sites()}
         self.uses_libpmem = bool(callees & LIBPMEM) and not callees & LINE_FLUSHES
-        self.fence = 'pmem_drain();' if self.uses_libpmem else '_mm_sfence();'
+        self.fence = "pmem_drain();" if self.uses_libpmem else "_mm_sfence();"
         self.put_in: dict[Site, list[Insertion]] = {}
         for item in repair.insertions:
             if not item.clone:
@@ -40,7 +45,7 @@ class Fixer:
 
     def suggest(self, group: Group) -> Suggestion | None:
         """What to do about a group; nothing if the plan has nothing for it."""
-        if group.kind == 'fence' and group.flush:
+        if group.kind == "fence" and group.flush:
             return self.after_flush((group.flush,))
         found = [suggestion for suggestion in map(self.for_path, (group.path, *group.more)) if suggestion]
         return max(found, key=lambda suggestion: len(suggestion.statements), default=None)
@@ -51,10 +56,43 @@ class Fixer:
             if level == 0 and site in self.put_in:
                 items = self.put_in[site]
                 fenced = any(item.is_fence for item in items)
-                wide = any(item.instruction.callee == 'pmem_flush' for item in items)
-                return self.flush(path, fenced, wide)
+                wide = any(item.instruction.callee == "pmem_flush" for item in items)
+                found = self.flush(path, fenced, wide)
+                return found if found.additions else self.after_construction(path, fenced) or found
             if site in self.repair.hoists:
-                return self.hoist(path[level:], self.repair.hoists[site])
+                found = self.hoist(path, level, self.repair.hoists[site])
+                return found if found.additions else self.after_construction(path[level:], True) or found
+        return None
+
+    def after_construction(self, path: tuple[Site, ...], fenced: bool) -> Suggestion | None:
+        """A flush of the whole object after the statement that makes it, if a constructor of the user's is on the path."""
+        functions = self.session.program.functions
+        made = [
+            number
+            for number, site in enumerate(path)
+            if is_constructor(functions[site[0]].name_in_c) and self.places.is_users_function(functions[site[0]])
+        ]
+        if not made:
+            return None
+        last = made[0]
+        while last + 1 in made:  # the constructor of a base or of a member
+            last += 1
+        place, tree, statement, offset = self.located(path[last + 1 :])
+        if tree is None or statement is None:
+            return None
+        fences = [self.fence] if fenced else []
+        if found := made_object(tree, statement):
+            text = f"pmem_flush({found[0]}, {found[1]});"
+            additions, reason = self.added(place, tree, statement, [text], fences)
+            shown = " ".join([text, *fences])
+            return Suggestion(
+                place, f"add '{shown}' after this statement, which makes the object", [text, *fences], additions, reason
+            )
+        statements = ["pmem_flush(made, sizeof *made);", *fences]
+        if returned := returned_object(tree, offset, statements):
+            additions = Additions()
+            additions.replace(tree, returned[0])
+            return Suggestion(place, f"write '{returned[1]}'", statements, additions)
         return None
 
     def located(self, path: tuple[Site, ...]) -> tuple[Place | None, Tree | None, Statement | None, int]:
@@ -69,10 +107,12 @@ class Fixer:
     def tree_of(self, place: Place) -> Tree | None:
         """The definition of the function that a place is in."""
         session = self.session
-        units = [file for file in session.request.files if file.endswith('.c')]
+        units = [file for file in session.request.files if is_source(file)]
         units.sort(key=lambda file: file != place.file)
         for unit in units:
-            for tree in parsed(unit, (f'-I{session.names.include}', *session.request.clang)).named(place.function):
+            for tree in parsed(unit, (f"-I{session.names.include}", *session.request.clang_of(unit))).named(
+                place.function
+            ):
                 offset = tree.offset(place.line, place.column)
                 if tree.file == place.file and tree.function.begin <= offset < tree.function.end:
                     return tree
@@ -81,52 +121,95 @@ class Fixer:
     def after_flush(self, path: tuple[Site, ...]) -> Suggestion:
         """A fence after a flush that no fence follows."""
         place, tree, statement, _ = self.located(path)
-        additions = self.added(tree, statement, [], [self.fence])
-        return Suggestion(place, f"add '{self.fence}' after this flush", [self.fence], additions)
+        additions, reason = self.added(place, tree, statement, [], [self.fence])
+        return Suggestion(place, f"add '{self.fence}' after this flush", [self.fence], additions, reason)
 
-    def added(self, tree: Tree | None, statement: Statement | None, flushes: list[str], fences: list[str]) -> Additions | None:
-        """The edits that put statements after one, if that is possible."""
-        if tree is None or statement is None or statement.role == 'other':
-            return None
+    def added(
+        self, place: Place | None, tree: Tree | None, statement: Statement | None, flushes: list[str], fences: list[str]
+    ) -> tuple[Additions | None, str]:
+        """The edits that put statements after one, or why that is not possible."""
+        if reason := why_not(place, tree, statement):
+            return None, reason
         additions = Additions()
         additions.add(tree, statement, flushes, fences)
-        return additions
+        return additions, ""
 
     def flush(self, path: tuple[Site, ...], fenced: bool, wide: bool) -> Suggestion:
         """A flush after the statement that stores, and a fence if none follows."""
         place, tree, statement, offset = self.located(path)
         fences = [self.fence] if fenced else []
         direct = bool(self.places.of(path[0]))
-        text = self.flush_text(tree, statement, offset, direct and not wide)
-        if text is None:
-            more = f", and then '{self.fence}'" if fenced else ''
-            return Suggestion(place, f'flush what this statement stores{more}', fences)
-        shown = ' '.join([text, *fences])
-        additions = self.added(tree, statement, [text], fences)
-        return Suggestion(place, f"add '{shown}' after this statement", [text, *fences], additions)
+        try:
+            text = self.of_object(path, tree, statement, offset) or self.flush_text(
+                place, tree, statement, offset, direct and not wide
+            )
+        except Unclear as reason:
+            more = f", and then '{self.fence}'" if fenced else ""
+            return Suggestion(
+                place, f"flush what this statement stores{more}", fences, reason=self.in_library(path) or str(reason)
+            )
+        shown = " ".join([text, *fences])
+        additions, reason = self.added(place, tree, statement, [text], fences)
+        return Suggestion(place, f"add '{shown}' after this statement", [text, *fences], additions, reason)
 
-    def flush_text(self, tree: Tree | None, statement: Statement | None, offset: int, one_line: bool) -> str | None:
+    def in_library(self, path: tuple[Site, ...]) -> str:
+        """Why there is no edit for a store inside a header of the system; an empty text if it is elsewhere."""
+        function = self.session.program.functions[path[0][0]]
+        if function.place is None or not function.place.file.startswith(SYSTEM):
+            return ""
+        return f"the store is inside '{shortened(function.name_in_c)}'; the program that hippo-c repair writes has the flush"
+
+    def of_object(self, path: tuple[Site, ...], tree: Tree | None, statement: Statement | None, offset: int) -> str:
+        """The flush of an object of C++ that a statement stores to: of a `std::atomic` by its functions, or of a class that is copied
+        as bytes; an empty text if it is another store."""
+        if tree is None or statement is None:
+            return ""
+        function = self.session.program.functions[path[0][0]]
+        frames = self.session.program.instruction(path[0]).frames
+        if is_of_atomics(frames and frames[0].function or function.name_in_c):
+            address = stored_object(tree, statement, offset) or ""
+            line = f"pmem_flush({address}, sizeof(*({address})));" if self.uses_libpmem else f"_mm_clwb({address});"
+            return address and line
+        inner = path[1] if len(path) > 1 and function.name_in_c in ("memcpy", "memmove") else path[0]
+        if not self.places.is_users_function(self.session.program.functions[inner[0]]):
+            return ""
+        copied = assigned_object(tree, statement, offset)
+        return f"pmem_flush({address_of(copied)}, sizeof({copied}));" if copied else ""
+
+    def flush_text(
+        self, place: Place | None, tree: Tree | None, statement: Statement | None, offset: int, one_line: bool
+    ) -> str:
         """The flush of what a statement stores at a place, if its expression can be repeated."""
         if tree is None or statement is None:
-            return None
+            raise Unclear(why_not(place, tree, statement))
         if one_line and not self.uses_libpmem:
-            left = tree.stored(statement, offset)
-            return f'_mm_clwb({address_of(left)});' if left else None
-        found = tree.range(statement, offset)
-        return f'pmem_flush({found[0]}, {found[1]});' if found else None
+            return f"_mm_clwb({address_of(tree.stored(statement, offset))});"
+        address, size = tree.range(statement, offset)
+        return f"pmem_flush({address}, {size});"
 
-    def hoist(self, path: tuple[Site, ...], clone: str) -> Suggestion:
+    def hoist(self, path: tuple[Site, ...], level: int, clone: str) -> Suggestion:
         """A flushing copy of a function that is called; if the function is not the user's, a flush of its range."""
-        original = self.session.program.functions[self.repair.clones[clone]]
+        original = self.session.program.called(path, level)
         if not self.places.is_users_function(original):
-            return self.flush(path, True, True)
-        place, tree, statement, offset = self.located(path)
+            return self.flush(path[level:], True, True)
+        place, tree, statement, offset = self.located(path[level:])
         name = original.name_in_c
-        additions = self.added(tree, statement, [], [self.fence])
+        additions, reason = self.added(place, tree, statement, [], [self.fence])
         copies = Copies(self)
         if additions and copies.call(tree, offset, clone) and copies.finish():
             additions.merge(copies.additions)
-        else:
-            additions = None
-        text = f"call a copy of '{name}' here that flushes what it stores, and then '{self.fence}'"
-        return Suggestion(place, text, [self.fence], additions)
+        elif additions:
+            additions, reason = None, copies.reason
+        text = f"call a copy of '{shortened(name)}' here that flushes what it stores, and then '{self.fence}'"
+        return Suggestion(place, text, [self.fence], additions, reason)
+
+
+def why_not(place: Place | None, tree: Tree | None, statement: Statement | None) -> str:
+    """Why no statement can be put after one; an empty text if one can."""
+    if place is None:
+        return "it stands in no file of yours"
+    if not place.exact:
+        return "clang merged its line with others; -O0 keeps them apart"
+    if tree is None or statement is None:
+        return "clang names no statement here"
+    return "the statement stands in a condition or in the head of a loop" if statement.role == "other" else ""

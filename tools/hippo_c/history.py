@@ -12,12 +12,13 @@ from .traces import pieces
 MOST_EVENTS = 40
 # An event of a cache line: the number of its entry, its kind, and the offset and the size of its bytes.
 Event = tuple[int, str, int, int]
-DURABLE, STORED, FLUSHED = '.', 's', 'f'
+DURABLE, STORED, FLUSHED = ".", "s", "f"
 
 
 @dataclass
 class History:
     """The last events of a line before a check; `state` has a letter for each byte before the first of them."""
+
     line: int
     check: int
     state: list[str] = field(default_factory=lambda: [DURABLE] * LINE)
@@ -28,7 +29,7 @@ class History:
     def take(self, event: Event) -> None:
         """Takes in an event; drops the oldest one if there are too many."""
         changed = applied(self.now, event)
-        if event[1] == 'fence' and changed == self.now and STORED not in changed:
+        if event[1] == "fence" and changed == self.now and STORED not in changed:
             return
         self.now = changed
         self.events.append(event)
@@ -38,17 +39,22 @@ class History:
 
     def data(self, places: dict[int, str]) -> dict:
         """The history as plain data, with the places in C of its events."""
-        rows = [[*event, places.get(event[0], '')] for event in self.events]
-        return {'state': ''.join(self.state), 'left_out': self.left_out, 'events': rows,
-                'address': REGION_BASE + self.line * LINE, 'check': self.check}
+        rows = [[*event, places.get(event[0], "")] for event in self.events]
+        return {
+            "state": "".join(self.state),
+            "left_out": self.left_out,
+            "events": rows,
+            "address": REGION_BASE + self.line * LINE,
+            "check": self.check,
+        }
 
 
 def applied(state: list[str], event: Event) -> list[str]:
     """The bytes of a line after an event."""
     _, kind, offset, size = event
-    if kind == 'store':
-        return state[:offset] + [STORED] * size + state[offset + size:]
-    before, after = (STORED, FLUSHED) if kind == 'flush' else (FLUSHED, DURABLE)
+    if kind == "store":
+        return state[:offset] + [STORED] * size + state[offset + size :]
+    before, after = (STORED, FLUSHED) if kind == "flush" else (FLUSHED, DURABLE)
     return [after if letter == before else letter for letter in state]
 
 
@@ -56,15 +62,16 @@ def histories_of(session: Session, results: list[Checked]) -> list[list[dict]]:
     """For each input the history of each group's cache line, up to the check of its first report."""
     found = []
     for checked in results:
-        session.progress.say('reading the history of cache lines')
+        session.progress.say("reading the history of cache lines")
         found.append(histories(session, checked))
     return found
 
 
 def histories(session: Session, checked: Checked) -> list[dict]:
     """The history of the cache line of each group of one input."""
-    by_group = [History((checked.trace.wanted[group.entry][0] - REGION_BASE) // LINE, group.check)
-                for group in checked.groups]
+    by_group = [
+        History((checked.trace.wanted[group.entry][0] - REGION_BASE) // LINE, group.check) for group in checked.groups
+    ]
     unique = {(history.line, history.check): history for history in sorted(by_group, key=lambda one: one.check)}
     by_line: dict[int, list[History]] = {}
     for history in unique.values():
@@ -82,25 +89,27 @@ def histories(session: Session, checked: Checked) -> list[dict]:
 
 def settle(active: set[int], line: int, event: Event, history: History) -> None:
     """Updates the set of lines with bytes that are not durable, after an event of a line."""
-    if event[1] == 'store':
+    if event[1] == "store":
         active.add(line)
-    elif event[1] == 'fence' and event[0] < history.check and set(history.now) == {DURABLE}:
+    elif event[1] == "fence" and event[0] < history.check and set(history.now) == {DURABLE}:
         active.discard(line)
 
 
-def events_of(number: int, entry: str, lines: dict[int, list[History]], active: set[int]) -> Iterator[tuple[int, Event]]:
+def events_of(
+    number: int, entry: str, lines: dict[int, list[History]], active: set[int]
+) -> Iterator[tuple[int, Event]]:
     """The events of an entry, each with its line, in the lines of histories; a fence is an event of the lines that are not durable."""
-    word, *rest = entry.split(';')
-    if word in ('STORE', 'FLUSH', 'PERSIST'):
+    word, *rest = entry.split(";")
+    if word in ("STORE", "FLUSH", "PERSIST"):
         start, size = int(rest[0], 16) - REGION_BASE, int(rest[-1], 16)
         for line in range(start // LINE, (start + max(size, 1) - 1) // LINE + 1):
             if line in lines:
                 first = max(start - line * LINE, 0)
                 last = min(start + size - line * LINE, LINE)
-                yield line, (number, 'store' if word == 'STORE' else 'flush', first, last - first)
-    if word in ('FENCE', 'PERSIST'):
+                yield line, (number, "store" if word == "STORE" else "flush", first, last - first)
+    if word in ("FENCE", "PERSIST"):
         for line in list(active):
-            yield line, (number, 'fence', 0, 0)
+            yield line, (number, "fence", 0, 0)
 
 
 def entry_places(session: Session, checked: Checked) -> dict[int, str]:
@@ -109,5 +118,5 @@ def entry_places(session: Session, checked: Checked) -> dict[int, str]:
     short: dict[tuple, str] = {}
     for path in set(paths.values()):
         place = session.places.first(path)
-        short[path] = place.short if place else ''
+        short[path] = place.short if place else ""
     return {entry: short[path] for entry, path in paths.items()}

@@ -1,119 +1,155 @@
 """Names of persistent objects as C has them, by the debug information of clang: `ring.slots[3].text[8]`."""
 import re
-import subprocess
+from collections.abc import Callable
 from concurrent.futures import ThreadPoolExecutor
+from functools import cache
+
+from lowering.languages import is_source
+from lowering.names import demangled
 
 from .clang import emit_text
 from .program import Program
+from .reading import compiled_files
+from .running import tool
 
-NODE = re.compile(r'^!(\d+) = (?:distinct )?!(DI\w+|)(?:\((.*)\)|\{(.*)\})$', re.M)
+NODE = re.compile(r"^!(\d+) = (?:distinct )?!(DI\w+|)(?:\((.*)\)|\{(.*)\})$", re.M)
 VARIABLE = re.compile(r'^@("[^"]*"|[-\w$.]+) = .*!dbg !(\d+)', re.M | re.ASCII)
-SAME_TYPE = ('DW_TAG_typedef', 'DW_TAG_const_type', 'DW_TAG_volatile_type', 'DW_TAG_atomic_type')
+SAME_TYPE = ("DW_TAG_typedef", "DW_TAG_const_type", "DW_TAG_volatile_type", "DW_TAG_atomic_type")
 
 
 class Types:
     """The types of the globals of one C file."""
 
     def __init__(self, text: str) -> None:
-        self.nodes = {number: fields or items or '' for number, _, fields, items in NODE.findall(text)}
+        self.nodes = {number: fields or items or "" for number, _, fields, items in NODE.findall(text)}
         self.variables: dict[str, str | None] = {}
         for name, number in VARIABLE.findall(text):
-            variable = self.link(number, 'var') or number
-            self.variables[name.strip('"')] = self.link(variable, 'type')
+            variable = self.link(number, "var") or number
+            self.variables[name.strip('"')] = self.link(variable, "type")
 
     def link(self, number: str | None, name: str) -> str | None:
         """The number of the node that a field names."""
-        found = re.search(rf'\b{name}: !(\d+)', self.nodes.get(number, ''))
+        found = re.search(rf"\b{name}: !(\d+)", self.nodes.get(number, ""))
         return found and found[1]
 
     def value(self, number: str | None, name: str) -> int:
         """The integer in a field, or 0."""
-        found = re.search(rf'\b{name}: (-?\d+)', self.nodes.get(number, ''))
+        found = re.search(rf"\b{name}: (-?\d+)", self.nodes.get(number, ""))
         return int(found[1]) if found else 0
 
     def items(self, number: str | None) -> list[str]:
         """The elements of a type: the fields of a struct, the dimensions of an array."""
-        return re.findall(r'!(\d+)', self.nodes.get(self.link(number, 'elements'), ''))
+        return re.findall(r"!(\d+)", self.nodes.get(self.link(number, "elements"), ""))
 
     def plain(self, number: str | None) -> str | None:
         """A type without its other names."""
         while number and self.tag(number) in SAME_TYPE:
-            number = self.link(number, 'baseType')
+            number = self.link(number, "baseType")
         return number
 
     def tag(self, number: str | None) -> str | None:
         """The kind of a type."""
-        found = re.search(r'\btag: (\w+)', self.nodes.get(number, ''))
+        found = re.search(r"\btag: (\w+)", self.nodes.get(number, ""))
         return found and found[1]
 
     def bytes(self, number: str | None) -> int:
         """The size of a type."""
         number = self.plain(number)
-        return self.value(number, 'size') // 8
+        return self.value(number, "size") // 8
 
     def within(self, number: str | None, offset: int) -> str:
         """The path of fields and elements to the innermost object at an offset."""
         number = self.plain(number)
         tag = number and self.tag(number)
-        if tag == 'DW_TAG_array_type':
+        if tag == "DW_TAG_array_type":
             return self.in_array(number, offset)
-        if tag not in ('DW_TAG_structure_type', 'DW_TAG_union_type'):
-            return ''
+        if tag not in ("DW_TAG_structure_type", "DW_TAG_class_type", "DW_TAG_union_type"):
+            return ""
         for member in self.items(number):
-            start, size = self.value(member, 'offset') // 8, self.value(member, 'size') // 8
+            if (
+                self.tag(member) not in ("DW_TAG_member", "DW_TAG_inheritance")
+                or "DIFlagStaticMember" in self.nodes[member]
+            ):
+                continue
+            start, size = self.value(member, "offset") // 8, self.value(member, "size") // 8
+            if self.tag(member) == "DW_TAG_inheritance":
+                size = self.bytes(self.link(member, "baseType"))
             if start <= offset < start + size:
                 name = re.search(r'\bname: "([^"]*)"', self.nodes[member])
-                inner = self.within(self.link(member, 'baseType'), offset - start)
-                return (f'.{name[1]}' if name else '') + inner
-        return ''
+                inner = self.within(self.link(member, "baseType"), offset - start)
+                return (f".{name[1]}" if name else "") + inner
+        return ""
 
     def in_array(self, number: str, offset: int) -> str:
         """The same in an array: the indices of the element, and the path in it."""
-        element = self.link(number, 'baseType')
-        size, text = self.bytes(element), ''
-        counts = [self.value(item, 'count') for item in self.items(number)]
+        element = self.link(number, "baseType")
+        size, text = self.bytes(element), ""
+        counts = [self.value(item, "count") for item in self.items(number)]
         if not size:
-            return ''
+            return ""
         index, offset = offset // size, offset % size
         for count in reversed(counts[1:]):
-            text = f'[{index % max(count, 1)}]' + text
+            text = f"[{index % max(count, 1)}]" + text
             index //= max(count, 1)
-        return f'[{index}]' + text + self.within(element, offset)
+        return f"[{index}]" + text + self.within(element, offset)
+
+
+@cache
+def shown(name: str) -> str:
+    """The name of a global as the source has it."""
+    return demangled([name]).get(name, name)
 
 
 class Names:
     """The names of persistent objects of a program; the C files are compiled when a name is first needed."""
 
-    def __init__(self, program: Program, files: list[str], clang: list[str], include: str) -> None:
+    def __init__(self, program: Program, files: list[str], clang_of: Callable[[str], list[str]], include: str) -> None:
         self.program, self.include = program, include
-        self.files, self.clang = [file for file in files if file.endswith('.c')], clang
+        self.files, self.clang_of = files, clang_of
         self.units: list[Types] | None = None
+        self.compiled: dict[str, set[str]] = {}
 
     def of(self, address: int) -> str:
         """The name of the object at an address, as near as it is known."""
         found = self.program.object_at(address)
         if not found:
-            return f'{address:#x}'
+            return f"{address:#x}"
         item, offset = found
         types, number = self.type_of(item.name, item.size)
         if not number:
-            return item.name + (f'+{offset}' if offset else '')
-        return re.sub(r'\.\d+$', '', item.name) + types.within(number, offset)
+            return shown(item.name) + (f"+{offset}" if offset else "")
+        return shown(re.sub(r"\.\d+$", "", item.name)) + types.within(number, offset)
 
     def type_of(self, name: str, size: int) -> tuple[Types | None, str | None]:
         """The type of the only global with this name, or with this name without a linker's number, and with this size."""
-        if self.units is None:
-            with ThreadPoolExecutor() as pool:
-                self.units = [Types(text) for text in pool.map(self.debug_text, self.files)]
-        for wanted in (name, re.sub(r'\.\d+$', '', name)):
-            found = {unit: unit.variables[wanted] for unit in self.units
-                     if wanted in unit.variables and unit.bytes(unit.variables[wanted]) == size}
+        for wanted in (name, re.sub(r"\.\d+$", "", name)):
+            found = {
+                unit: unit.variables[wanted]
+                for unit in self.types()
+                if wanted in unit.variables and unit.bytes(unit.variables[wanted]) == size
+            }
             if len(found) == 1:
                 return next(iter(found.items()))
         return None, None
 
+    def types(self) -> list[Types]:
+        """The types of each C file."""
+        if self.units is None:
+            with ThreadPoolExecutor() as pool:
+                texts = list(pool.map(self.debug_text, self.files))
+            self.units = [Types(text) for text, file in zip(texts, self.files) if is_source(file)]
+            self.compiled = compiled_files(texts)
+        return self.units
+
+    def compiled_files(self) -> dict[str, set[str]]:
+        """The files that clang read for the program: by their real paths, the digests of their contents."""
+        self.types()
+        return self.compiled
+
     def debug_text(self, file: str) -> str:
-        """LLVM's text form of a C file with debug information; without it, names are those of the globals alone."""
-        command = emit_text(self.include, self.clang, file, '-g')
-        ran = subprocess.run(command, stdout=subprocess.PIPE, stderr=subprocess.DEVNULL, stdin=subprocess.DEVNULL)
-        return ran.stdout.decode('latin-1')
+        """LLVM's text form of a file with debug information; without it, names are those of the globals alone."""
+        if not is_source(file):
+            with open(file, encoding="latin-1") as text:
+                return text.read()
+        command = emit_text(self.include, self.clang_of(file), file, "-g", "-gdwarf-5")
+        return tool(command).stdout.decode("latin-1")

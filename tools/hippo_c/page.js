@@ -85,9 +85,9 @@ function picture(group) {
 
 function legend() {
   const made = element('p', undefined, {class: 'legend hint'});
-  for (const [name, text] of [['--old', 'as at the start'], ['--stored', 'stored'], ['--flushed', 'flushed'], ['--durable', 'durable']]) {
+  for (const [name, text] of [['old', 'as at the start'], ['s', 'stored'], ['f', 'flushed'], ['d', 'durable']]) {
     const part = element('span');
-    part.append(element('i', undefined, {style: `background: var(${name})`}), text);
+    part.append(element('i', undefined, {class: name}), text);
     made.append(part);
   }
   return made;
@@ -104,7 +104,7 @@ function show(number) {
   if (group.check) item(path, group.at_end ? 'the return of main: ' : 'the check: ', group.check);
   detail.replaceChildren(close, element('h3', group.message), path);
   if (group.suggestion) {
-    const text = element('p', `Suggestion${group.suggestion.by_hand ? ' (by hand)' : ''}: ${group.suggestion.text}. `);
+    const text = element('p', `Suggestion${group.suggestion.by_hand ? ` (by hand: ${group.suggestion.reason})` : ''}: ${group.suggestion.text}. `);
     if (group.suggestion.place) text.append(link(group.suggestion.place));
     detail.append(text);
   }

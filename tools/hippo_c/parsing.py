@@ -1,19 +1,22 @@
-"""The functions of C files as clang parses them."""
+"""The functions of C and C++ files as clang parses them."""
 import json
 import os
-import subprocess
 import tempfile
 from collections.abc import Iterator
 from functools import cache
 
-from .clang import CLANG
+from lowering.languages import arguments_for, is_cpp
+from lowering.names import last_part, without_arguments
+
+from .clang import CLANG, clang_for
+from .running import tool
 from .sources import bytes_of, overlay
 from .syntax import Node, Tree
 
 # A file of fewer bytes than LARGE is parsed as a whole after FEW functions; until then, and otherwise, function by function.
 FEW, LARGE = 6, 200_000
 # Replaces <immintrin.h>, whose tree has 160 MB, by the part that a program for persistent memory needs.
-INTRINSICS = b'''#ifndef __IMMINTRIN_H
+INTRINSICS = b"""#ifndef __IMMINTRIN_H
 #define __IMMINTRIN_H
 void _mm_clwb(const void *);
 void _mm_clflushopt(const void *);
@@ -25,7 +28,20 @@ void _mm_pause(void);
 void _mm_stream_si32(int *, int);
 void _mm_stream_si64(long long *, long long);
 #endif
-'''
+"""
+
+
+FUNCTIONS = ("FunctionDecl", "CXXMethodDecl", "CXXConstructorDecl", "CXXDestructorDecl", "CXXConversionDecl")
+AROUND = (
+    "TranslationUnitDecl",
+    "NamespaceDecl",
+    "LinkageSpecDecl",
+    "CXXRecordDecl",
+    "ClassTemplateDecl",
+    "FunctionTemplateDecl",
+    "ClassTemplateSpecializationDecl",
+    "ClassTemplatePartialSpecializationDecl",
+)
 
 
 class Reader:
@@ -33,87 +49,114 @@ class Reader:
 
     def __init__(self, file: str) -> None:
         self.file = file
+        self.home: str | None = None
+
+    def function(self, raw: dict) -> Node:
+        """A function with all nodes in it; those that stand in another file, as members' initial values may, have no range."""
+        self.home = None
+        return self.node(raw)
 
     def node(self, raw: dict) -> Node:
         """A node with all nodes in it."""
         begin = end = None
-        node = Node(raw.get('kind', ''), -1, -1, False, raw.get('opcode', ''), raw.get('name', ''))
+        is_here = True
+        node = Node(
+            raw.get("kind", ""), -1, -1, False, raw.get("opcode", ""), raw.get("name", "") or raw.get("member", "")
+        )
+        node.has_else = raw.get("hasElse", False)
         for key, value in raw.items():
-            if key == 'loc':
+            if key == "loc":
                 self.location(value)
-            elif key == 'range':
-                begin, end = self.location(value.get('begin', {})), self.location(value.get('end', {}))
-            elif key == 'referencedDecl':
-                node.name = value.get('name', '')
-            elif key == 'inner':
+            elif key == "range":
+                begin, end = self.location(value.get("begin", {})), self.location(value.get("end", {}))
+                self.home, is_here = self.home or self.file, self.home in (None, self.file)
+            elif key == "referencedDecl":
+                node.name = value.get("name", "")
+            elif key == "inner":
                 node.inner = [self.node(child) for child in value]
-        if begin and end:
-            node.begin, node.end, node.macro = begin[0], end[0] + end[1], begin[2] or end[2]
+        if begin and end and is_here:
+            node.begin, node.end, node.macro, node.from_macro = begin[0], end[0] + end[1], begin[2] or end[2], begin[2]
         return node
 
     def location(self, raw: dict) -> tuple[int, int, bool] | None:
         """The offset, the length of the token, and whether it is in a macro's expansion."""
-        if 'expansionLoc' in raw:
-            self.location(raw.get('spellingLoc', {}))
-            found = self.location(raw['expansionLoc'])
+        if "expansionLoc" in raw:
+            self.location(raw.get("spellingLoc", {}))
+            found = self.location(raw["expansionLoc"])
             return found and (found[0], found[1], True)
-        self.file = raw.get('file', self.file)
-        return (raw['offset'], raw.get('tokLen', 0), False) if 'offset' in raw else None
+        self.file = raw.get("file", self.file)
+        return (raw["offset"], raw.get("tokLen", 0), False) if "offset" in raw else None
 
 
 class Parsed:
-    """The functions of one C file and of the headers that it includes; clang runs when one is first needed."""
+    """The functions of one file and of the headers that it includes; clang runs when one is first needed."""
 
     def __init__(self, unit: str, clang: tuple[str, ...]) -> None:
         self.unit, self.clang = unit, clang
         self.functions: dict[str, list[Tree]] = {}
         self.parsed: set[str] = set()
         self.whole = False
-        self.reader = Reader('')
+        self.reader = Reader("")
 
     def named(self, name: str) -> list[Tree]:
         """The definitions of a function."""
-        if name not in self.parsed and not self.whole:
-            self.whole = len(self.parsed) >= FEW and len(bytes_of(self.unit)) < LARGE
+        qualified = without_arguments(name)
+        name = last_part(name)
+        if qualified not in self.parsed and not self.whole:
+            # The headers of C++ are too large for one tree.
+            self.whole = len(self.parsed) >= FEW and len(bytes_of(self.unit)) < LARGE and not is_cpp(self.unit)
             if self.whole:
                 self.functions = {}
-            self.parsed.add(name)
-            for raw in self.documents([] if self.whole else ['-Xclang', f'-ast-dump-filter={name}']):
-                for function in raw.get('inner', []) if raw.get('kind') == 'TranslationUnitDecl' else [raw]:
-                    self.take(function, None if self.whole else name)
+            self.parsed.add(qualified)
+            for raw in self.documents([] if self.whole else ["-Xclang", f"-ast-dump-filter={qualified}"]):
+                self.take(raw, None if self.whole else name, self.reader if self.whole else Reader(""))
         return self.functions.get(name, [])
 
     def documents(self, filtered: list[str]) -> Iterator[dict]:
         """The trees that clang writes."""
-        with tempfile.TemporaryDirectory(prefix='hippo-c-') as folder:
+        with tempfile.TemporaryDirectory(prefix="hippo-c-") as folder:
             small = overlay({intrinsics_header(): INTRINSICS}, folder)
-            command = [*CLANG, '-fsyntax-only', '-Wno-error=implicit-function-declaration', *small, *self.clang, '-Xclang',
-                       '-ast-dump=json', *filtered, self.unit]
-            ran = subprocess.run(command, stdout=subprocess.PIPE, stderr=subprocess.DEVNULL, stdin=subprocess.DEVNULL)
-        text, place, decoder = ran.stdout.decode('utf-8', 'replace'), 0, json.JSONDecoder()
-        while (place := text.find('{', place)) >= 0:
+            command = [
+                *clang_for(self.unit),
+                "-fsyntax-only",
+                "-Wno-error=implicit-function-declaration",
+                *small,
+                *arguments_for(self.unit, list(self.clang)),
+                "-Xclang",
+                "-ast-dump=json",
+                *filtered,
+                self.unit,
+            ]
+            ran = tool(command)
+        text, place, decoder = ran.stdout.decode("utf-8", "replace"), 0, json.JSONDecoder()
+        while (place := text.find("{", place)) >= 0:
             raw, place = decoder.raw_decode(text, place)
             yield raw
 
-    def take(self, raw: dict, name: str | None) -> None:
-        """Keeps a definition, with the file that its location names, or else that of the last location."""
-        reader = self.reader if self.whole else Reader('')
+    def take(self, raw: dict, name: str | None, reader: Reader) -> None:
+        """Keeps the definitions, each with the file that its location names, or else that of the last location."""
+        if raw.get("kind") in AROUND:
+            for place in (raw.get("loc", {}), *raw.get("range", {}).values()):
+                reader.location(place)
+            for child in raw.get("inner", []):
+                self.take(child, name, reader)
+            return
         before = reader.file
-        function = reader.node(raw)
-        if raw.get('kind') != 'FunctionDecl' or name not in (None, raw.get('name')):
+        function = reader.function(raw)
+        if raw.get("kind") not in FUNCTIONS or name not in (None, raw.get("name")):
             return
         first = Reader(before)
-        first.location(raw.get('loc', {}))
-        if any(node.kind == 'CompoundStmt' for node in function.inner):
+        first.location(raw.get("loc", {}))
+        if any(node.kind == "CompoundStmt" for node in function.inner):
             tree = Tree(first.file, bytes_of(first.file), function)
-            self.functions.setdefault(raw['name'], []).append(tree)
+            self.functions.setdefault(raw["name"], []).append(tree)
 
 
 @cache
 def intrinsics_header() -> str:
     """The path of clang's <immintrin.h>."""
-    ran = subprocess.run([CLANG[0], '-print-resource-dir'], stdout=subprocess.PIPE, stdin=subprocess.DEVNULL)
-    return os.path.join(ran.stdout.decode().strip(), 'include', 'immintrin.h')
+    ran = tool([CLANG[0], "-print-resource-dir"])
+    return os.path.join(ran.stdout.decode().strip(), "include", "immintrin.h")
 
 
 @cache

@@ -1,33 +1,44 @@
 """The part of a repaired program that comes from some C files, for the build of a library without its driver."""
 import re
-import subprocess
 from dataclasses import dataclass
 
+from lowering.languages import is_source
+
 from .clang import emit_text
+from .part_ends import CALL, REGISTER, Ends, refuse_tables, shared_variables
 from .plan import Repair
 from .program import GLOBAL, Function, type_text
+from .running import tool
 from .session import Session
 from .trouble import Trouble
 
-DEFINED = re.compile(r'^define ([^@]*)@("[^"]*"|[-\w$.]+)\(|^@("[^"]*"|[-\w$.]+) = ([^=]*?)(?:global|constant) ', re.M | re.ASCII)
-HIDDEN = re.compile(r'\b(internal|private|external|available_externally|linkonce\w*)\b')
-USED = re.compile(r'@([-\w$.]+)', re.ASCII)
+DEFINED = re.compile(
+    r'^define ([^@]*)@("[^"]*"|[-\w$.]+)\(|^@("[^"]*"|[-\w$.]+) = ([^=]*?)(?:global|constant) ', re.M | re.ASCII
+)
+HIDDEN = re.compile(r"\b(internal|private|external|available_externally|linkonce\w*)\b")
+INTERNAL = re.compile(r"@([-\w$.]+) = internal global ", re.ASCII)
+USED = re.compile(r"@([-\w$.]+)", re.ASCII)
 
 
 @dataclass
 class Part:
     """The lines before the functions, and the functions with their heads."""
+
     head: list[str]
     functions: list[tuple[Function, str]]
 
 
-def visible_names(session: Session, file: str) -> set[str]:
-    """The names that a C file defines for the linker."""
-    command = emit_text(session.names.include, session.request.clang, file)
-    ran = subprocess.run(command, stdout=subprocess.PIPE, stderr=subprocess.PIPE, stdin=subprocess.DEVNULL)
+def clang_text(session: Session, file: str) -> str:
+    """The text that clang makes of a file, without optimisation."""
+    command = emit_text(session.names.include, session.request.clang_of(file), file, "-fno-discard-value-names")
+    ran = tool(command)
     if ran.returncode:
         raise Trouble(f'{file}: clang-19 does not compile it at -O0:\n{ran.stderr.decode("utf-8", "replace").rstrip()}')
-    text = ran.stdout.decode('latin-1')
+    return ran.stdout.decode("latin-1")
+
+
+def visible_names(text: str) -> set[str]:
+    """The names that a file defines for the linker."""
     found = set()
     for before, function, variable, kind in DEFINED.findall(text):
         if not HIDDEN.search(before + kind):
@@ -37,23 +48,37 @@ def visible_names(session: Session, file: str) -> set[str]:
 
 def part_for(session: Session, repair: Repair, files: list[str]) -> Part:
     """The functions of these files, and all that they need that no other file defines."""
-    given = [file for file in session.request.files if file.endswith('.c')]
+    given = [file for file in session.request.files if is_source(file)]
     if strange := [file for file in files if file not in given]:
-        raise Trouble(f'{strange[0]}: not one of the files of the program', 'name it as it is named before --for')
-    own = set().union(*(visible_names(session, file) for file in files))
-    others = set().union(*(visible_names(session, file) for file in given if file not in files)) - own
+        raise Trouble(f"{strange[0]}: not one of the files of the program", "name it as it is named before --for")
+    texts = {file: clang_text(session, file) for file in given}
+    part = {file: text for file, text in texts.items() if file in files}
+    refuse_tables(part, {file: text for file, text in texts.items() if file not in files})
+    own = set().union(*map(visible_names, part.values()))
+    others = set().union(*(visible_names(text) for file, text in texts.items() if file not in files)) - own
     repaired = repair.repaired
-    kept = closure(repair, [name for name in repaired.functions if name in own], others)
+    ends = Ends(repaired, list(part.values()))
+    kept = closure(repair, [*(name for name in repaired.functions if name in own), *ends.names], others)
+    if REGISTER in kept:
+        kept = closure(repair, [*kept, CALL], others)
+    registered = ends.lines(kept)
+    kept.discard(REGISTER)
+    shared = shared_variables(list(part.values())) - own - others
     functions = [(function, shown_head(function, own)) for name, function in repaired.functions.items() if name in kept]
     used = set().union(*(names_in(function) for function, _ in functions)) | own
     head = [line for line in map(lambda text: head_line(text, own, others, used), repaired.head) if line]
+    head = [joined(line, shared) for line in head] + registered
     head += [declaration(repaired.functions[name]) for name in sorted(used & others & set(repaired.functions))]
     return Part(head, functions)
 
 
 def names_in(function: Function) -> set[str]:
     """The names of globals and functions that a function uses."""
-    lines = [line for block in function.blocks for line in (*block.phis, *(instruction.text for instruction in block.instructions))]
+    lines = [
+        line
+        for block in function.blocks
+        for line in (*block.phis, *(instruction.text for instruction in block.instructions))
+    ]
     return {name for line in lines for name in USED.findall(line)}
 
 
@@ -70,7 +95,7 @@ def closure(repair: Repair, roots: list[str], others: set[str]) -> set[str]:
 
 def shown_head(function: Function, own: set[str]) -> str:
     """The head of a function, which is internal if the files do not define it for the linker."""
-    return function.head if function.name in own else function.head.replace('define ', 'define internal ', 1)
+    return function.head if function.name in own else function.head.replace("define ", "define internal ", 1)
 
 
 def head_line(line: str, own: set[str], others: set[str], used: set[str]) -> str:
@@ -81,13 +106,19 @@ def head_line(line: str, own: set[str], others: set[str], used: set[str]) -> str
     name = found[1]
     if name in others:
         text = type_text(line, found.end())
-        return f'@{name} = external {found[2]} {text.strip()}' if name in used else ''
+        return f"@{name} = external {found[2]} {text.strip()}" if name in used else ""
     if name in own:
         return line
-    return line.replace(f'@{name} = ', f'@{name} = internal ', 1) if name in used else ''
+    return line.replace(f"@{name} = ", f"@{name} = internal ", 1) if name in used else ""
+
+
+def joined(line: str, shared: set[str]) -> str:
+    """The line of a global; one that other files of C++ may have too is for the linker to join."""
+    found = INTERNAL.match(line)
+    return line.replace(" = internal ", " = linkonce_odr ", 1) if found and found[1] in shared else line
 
 
 def declaration(function: Function) -> str:
     """The declaration of a function that another file defines."""
-    head = re.sub(r' %[-\w$.]+(?=[,)])', '', function.head[len('define '):].removesuffix(' {'))
-    return f'declare {head}'
+    head = re.sub(r" %[-\w$.]+(?=[,)])", "", function.head[len("define ") :].removesuffix(" {"))
+    return f"declare {head}"

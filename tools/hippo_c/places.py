@@ -2,17 +2,19 @@
 import os
 from typing import NamedTuple
 
+from .letters import shown
 from .program import Function, Program, Site
 from .running import TOOLS
 
-OWN = (f'{TOOLS}/runtime/', f'{TOOLS}/hippo.h')
-SYSTEM = ('/usr/include/', '/usr/lib/', '/usr/local/include/')
+OWN = (f"{TOOLS}/runtime/", f"{TOOLS}/hippo.h")
+SYSTEM = ("/usr/include/", "/usr/lib/", "/usr/local/include/")
 
 
 class Place(NamedTuple):
     """A place in the user's C, and its function.
 
     If clang gives no line for an instruction, the place is the line of the function's head, and `exact` is false."""
+
     file: str
     line: int
     column: int
@@ -20,12 +22,12 @@ class Place(NamedTuple):
     exact: bool = True
 
     def __str__(self) -> str:
-        return f'{self.file}:{self.line}:{self.column}'
+        return f"{shown(self.file)}:{self.line}:{self.column}"
 
     @property
     def short(self) -> str:
         """`FILE:LINE`."""
-        return f'{self.file}:{self.line}'
+        return f"{shown(self.file)}:{self.line}"
 
 
 def is_users(file: str) -> bool:
@@ -52,7 +54,7 @@ class Places:
         instruction = self.program.instruction(site)
         if function is None or instruction is None or not self.is_users_function(function):
             return []
-        named = [frame._replace(function=frame.function or function.name_in_c) for frame in instruction.frames]
+        named = [frame._replace(function=shown(frame.function or function.name_in_c)) for frame in instruction.frames]
         found = [Place(*frame) for frame in named if frame.line and self.is_users(frame.file)]
         return found or [head_of(function)]
 

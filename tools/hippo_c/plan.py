@@ -1,21 +1,22 @@
 """What a repair added: compares the repaired program with the program, instruction by instruction."""
 import re
-from collections.abc import Callable, Iterator
+from collections.abc import Callable, Collection, Iterator
 from dataclasses import dataclass
 
 from lowering.externs import FENCES
 
 from .program import Instruction, Program, Site
 
-CALLEE = re.compile(r'(call \S+ @)[-\w$.]+\(', re.ASCII)
+CALLEE = re.compile(r"(call \S+ @)[-\w$.]+\(", re.ASCII)
 
 
 @dataclass
 class Insertion:
     """An instruction that the repair put after a site: in the function itself, or in the named clone."""
+
     site: Site
     instruction: Instruction
-    clone: str = ''
+    clone: str = ""
 
     @property
     def is_fence(self) -> bool:
@@ -43,7 +44,7 @@ class Repair:
     def match(self, name: str, original: str) -> list[tuple[str, str]]:
         """Pairs a function with its original; the clones that it calls, with their originals."""
         found = []
-        clone = name if name != original else ''
+        clone = name if name != original else ""
         for new, old in zip(self.repaired.functions[name].blocks, self.program.functions[original].blocks):
             for index, site, is_new, instruction in paired(new.instructions, old.instructions, self.is_clone):
                 place = (original, old.label, site)
@@ -61,6 +62,26 @@ class Repair:
         """Whether the repair added a function of this name."""
         return name in self.repaired.functions and name not in self.program.functions
 
+    def leave_out(self, checks: Collection[Site]) -> None:
+        """Removes the copies of these checks of the program from the repaired program; no other instruction depends on a check."""
+        for function in self.repaired.functions.values():
+            for block in function.blocks:
+                pairs = [
+                    (self.sites.pop((function.name, block.label, index)), instruction)
+                    for index, instruction in enumerate(block.instructions)
+                ]
+                pairs = [
+                    (site, instruction)
+                    for site, instruction in pairs
+                    if instruction.callee != "pm_assert" or site not in checks
+                ]
+                block.instructions = [instruction for _, instruction in pairs]
+                self.sites.update(((function.name, block.label, index), site) for index, (site, _) in enumerate(pairs))
+        if not any(instruction.callee == "pm_assert" for _, instruction in self.repaired.sites()):
+            self.repaired.head = [
+                line for line in self.repaired.head if not line.startswith("declare void @pm_assert(")
+            ]
+
     def site_of(self, site: Site) -> Site:
         """The site of the program from which the repair made a site of the repaired program."""
         return self.sites.get(site, site)
@@ -73,15 +94,17 @@ def inserted(new: list[Instruction], old: list[Instruction], is_clone: Callable[
     left, found = len(old) - 1, set()
     for index in range(len(new) - 1, -1, -1):
         one = new[index]
-        plain = CALLEE.sub(r'\1(', one.text) if is_clone(one.callee) else one.text
-        if left >= 0 and plain in (old[left].text, CALLEE.sub(r'\1(', old[left].text)):
+        plain = CALLEE.sub(r"\1(", one.text) if is_clone(one.callee) else one.text
+        if left >= 0 and plain in (old[left].text, CALLEE.sub(r"\1(", old[left].text)):
             left -= 1
         else:
             found.add(index)
     return found
 
 
-def paired(new: list[Instruction], old: list[Instruction], is_clone: Callable[[str], bool]) -> Iterator[tuple[int, int, bool, Instruction]]:
+def paired(
+    new: list[Instruction], old: list[Instruction], is_clone: Callable[[str], bool]
+) -> Iterator[tuple[int, int, bool, Instruction]]:
     """For each instruction of `new`: its number, the number of the one of `old` that it copies or follows, whether the repair added it,
     and itself."""
     extra, site = inserted(new, old, is_clone), -1

@@ -5,20 +5,24 @@ from collections.abc import Iterator
 from typing import NamedTuple
 
 from lowering import lines
+from lowering.dispatch import DISPATCH
 from lowering.lines import Frame
 from lowering.tokens import Tokens
 from lowering.types import alignment, read_type, size
 
-HEAD = re.compile(r'define \S+ @([-\w$.]+)\(', re.ASCII)
-GLOBAL = re.compile(r'@([-\w$.]+) = (global|constant) ', re.ASCII)
+from .letters import shown
+
+HEAD = re.compile(r"define \S+ @([-\w$.]+)\(", re.ASCII)
+GLOBAL = re.compile(r"@([-\w$.]+) = (global|constant) ", re.ASCII)
 GLOBAL_END = re.compile(r'(, section "\.pm")?(?:, align (\d+))?$')
-CALLED = re.compile(r'(?:%\S+ = )?call \S+ @([-\w$.]+)\(', re.ASCII)
+CALLED = re.compile(r"(?:%\S+ = )?call \S+ @([-\w$.]+)\(", re.ASCII)
 REGION_BASE = 1 << 32
 Site = tuple[str, str, int]
 
 
 class Instruction(NamedTuple):
     """An instruction without its comment; `added` is true if tools/lower added it, so that it has no place."""
+
     text: str
     frames: tuple[Frame, ...] = ()
     added: bool = False
@@ -27,7 +31,7 @@ class Instruction(NamedTuple):
     def callee(self) -> str:
         """The function that is called, or nothing."""
         found = CALLED.match(self.text)
-        return found[1] if found else ''
+        return found[1] if found else ""
 
 
 class Block:
@@ -53,12 +57,18 @@ class Function:
     def name_in_c(self) -> str:
         """The function's name in C; for a function that tools/lower added, its name without its number."""
         if self.place and self.place.function:
-            return self.place.function
-        return self.name.split('.')[0] if self.added else self.name
+            return shown(self.place.function)
+        return self.name.split(".")[0] if self.added else self.name
+
+    @property
+    def is_dispatch(self) -> bool:
+        """Whether tools/lower added the function for calls by pointer: it calls what its first argument names."""
+        return self.added and self.name_in_c == DISPATCH
 
 
 class Global(NamedTuple):
     """A global: its name, whether it is persistent, its address, its size and its alignment in bytes."""
+
     name: str
     persistent: bool
     address: int
@@ -72,26 +82,27 @@ class Program:
     def __init__(self, text: str) -> None:
         self.head: list[str] = []
         self.functions: dict[str, Function] = {}
-        self.comments: dict[str, tuple[tuple[Frame, ...], bool]] = {'': ((), False)}
+        self.comments: dict[str, tuple[tuple[Frame, ...], bool]] = {"": ((), False)}
         self.read(text)
-        self.globals = laid_out([line for line in self.head if line.startswith('@')])
+        self.globals = laid_out([line for line in self.head if line.startswith("@")])
         self.persistent = [item for item in self.globals if item.persistent]
         self.starts = [item.address for item in self.persistent]
-        self.blocks = {(function.name, block.label): block for function in self.functions.values()
-                       for block in function.blocks}
+        self.blocks = {
+            (function.name, block.label): block for function in self.functions.values() for block in function.blocks
+        }
 
     def read(self, text: str) -> None:
         """Reads the lines of a text."""
         function = None
-        for line in text.split('\n'):
-            written, _, comment = line.partition(' ; ')
+        for line in text.split("\n"):
+            written, _, comment = line.partition(" ; ")
             if function is None:
                 function = self.read_head(written, comment)
-            elif written == '}':
+            elif written == "}":
                 function = None
-            elif not written.startswith(' '):
+            elif not written.startswith(" "):
                 function.blocks.append(Block(written[:-1]))
-            elif ' = phi ' in written:
+            elif " = phi " in written:
                 function.blocks[-1].phis.append(written.strip())
             else:
                 function.blocks[-1].instructions.append(Instruction(written.strip(), *self.places(comment)))
@@ -111,6 +122,11 @@ class Program:
         if comment not in self.comments:
             self.comments[comment] = (tuple(lines.read(comment)), comment == lines.ADDED)
         return self.comments[comment]
+
+    def called(self, path: tuple[Site, ...], level: int) -> Function:
+        """The function that the call at a level of a path runs; for a call by pointer the one that the pointer names."""
+        callee = self.functions[path[level - 1][0]]
+        return self.functions[path[level - 2][0]] if callee.is_dispatch and level > 1 else callee
 
     def instruction(self, site: Site) -> Instruction | None:
         """The instruction of a site, if there is one."""
@@ -156,20 +172,20 @@ def laid_out(texts: list[str]) -> list[Global]:
 def type_text(text: str, start: int) -> str:
     """The type that begins at a place, up to the end of its brackets or of its word."""
     depth = 0
-    for found in re.compile(r'[\[{<]|[\]}>]| ').finditer(text, start):
-        depth += found[0] in '[{<'
-        depth -= found[0] in ']}>'
+    for found in re.compile(r"[\[{<]|[\]}>]| ").finditer(text, start):
+        depth += found[0] in "[{<"
+        depth -= found[0] in "]}>"
         if depth == 0:
-            return text[start:found.end()]
+            return text[start : found.end()]
     return text[start:]
 
 
 def parse_site(text: str) -> Site:
     """`@function:label:index` as a site."""
-    function, label, index = text.rsplit(':', 2)
+    function, label, index = text.rsplit(":", 2)
     return function[1:], label, int(index)
 
 
 def show_site(site: Site) -> str:
     """A site as `@function:label:index`."""
-    return f'@{site[0]}:{site[1]}:{site[2]}'
+    return f"@{site[0]}:{site[1]}:{site[2]}"

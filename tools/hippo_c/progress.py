@@ -16,7 +16,7 @@ class Progress:
     def __init__(self, stream: TextIO = sys.stderr, shown: bool | None = None) -> None:
         self.stream = stream
         self.shown = stream.isatty() if shown is None else shown
-        self.last, self.width, self.step, self.began = 0.0, 0, '', time.monotonic()
+        self.last, self.width, self.step, self.began = 0.0, 0, "", time.monotonic()
 
     def say(self, text: str) -> None:
         """Shows the step that begins."""
@@ -27,15 +27,17 @@ class Progress:
         """Shows a text in place of the current one."""
         if not self.shown:
             return
-        self.stream.write('\r' + f'hippo-c: {text}'.ljust(self.width)[:100])
-        self.stream.flush()
+        with contextlib.suppress(OSError):
+            self.stream.write("\r" + f"hippo-c: {text}".ljust(self.width)[:100])
+            self.stream.flush()
         self.width, self.last = len(text) + 9, time.monotonic()
 
     def wipe(self) -> None:
         """Removes the current text."""
         if self.shown and self.width:
-            self.stream.write('\r' + ' ' * self.width + '\r')
-            self.stream.flush()
+            with contextlib.suppress(OSError):  # the terminal may be gone
+                self.stream.write("\r" + " " * self.width + "\r")
+                self.stream.flush()
             self.width = 0
 
     def often(self) -> bool:
@@ -57,11 +59,11 @@ class Progress:
                 return
             with contextlib.suppress(OSError):
                 size = os.path.getsize(path)
-                self.show(f'{self.step}: {size / 1e6:.1f} MB, {time.monotonic() - self.began:.0f} s')
+                self.show(f"{self.step}: {size / 1e6:.1f} MB, {time.monotonic() - self.began:.0f} s")
 
     def counted(self, items: Iterable, step: str, what: str) -> Iterator:
         """The items, with their count shown now and then."""
         for number, item in enumerate(items, 1):
             if number % 4096 == 0 and self.often():
-                self.show(f'{step}: {number:,} {what}')
+                self.show(f"{step}: {number:,} {what}")
             yield item

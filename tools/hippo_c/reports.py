@@ -2,24 +2,28 @@
 from collections.abc import Callable, Iterable
 from dataclasses import dataclass, field
 
+from .paths import Path, Paths
 from .program import Site, parse_site
 
-MISSING = {'flush': 'missing-flush', 'fence': 'missing-fence', 'both': 'missing-flush-and-fence'}
+MISSING = {"flush": "missing-flush", "fence": "missing-fence", "both": "missing-flush-and-fence"}
 
 
 @dataclass
 class Group:
     """Reports of one kind, of one store by one path, with the numbers of the first report.
 
-    `more` has the other paths, which differ from `path` only in functions that are not the user's."""
+    `more` has the other paths, which differ from `path` only in functions that are not the user's. `fingerprint` identifies the group in
+    other runs; only what needs it computes it."""
+
     kind: str
     flush: Site | None
-    path: tuple[Site, ...]
+    path: Path
     count: int
     entry: int
     check: int
     closed: int
-    more: list[tuple[Site, ...]] = field(default_factory=list)
+    more: list[Path] = field(default_factory=list)
+    fingerprint: str = ""
 
     @property
     def missing(self) -> str:
@@ -27,28 +31,26 @@ class Group:
         return MISSING[self.kind]
 
 
-def grouped(lines: Iterable[str]) -> list[Group]:
+def grouped(lines: Iterable[str], paths: Paths | None = None) -> list[Group]:
     """The groups of the lines of reports, by their first store."""
-    groups: dict[tuple[str, str], Group] = {}
+    groups: dict[tuple[str, str, Path], Group] = {}
+    paths = paths or Paths()
     for line in lines:
         # report KIND entry E check C closed N [flush S] path S S S
-        _, kind, _, entry, _, check, _, closed, rest = line.split(' ', 8)
-        key = (kind, rest)
+        _, kind, _, entry, _, check, _, closed, rest = line.split(" ", 8)
+        flush, _, path_text = rest.rpartition("path ")
+        path = paths.read(path_text)
+        key = (kind, flush, path)
         group = groups.get(key)
         if group is None:
-            groups[key] = new_group(kind, int(entry), int(check), int(closed), rest)
+            groups[key] = Group(
+                kind, parse_site(flush.split(" ")[1]) if flush else None, path, 1, int(entry), int(check), int(closed)
+            )
         else:
             group.count += 1
             if int(entry) < group.entry:
                 group.entry, group.check = int(entry), int(check)
     return sorted(groups.values(), key=lambda group: (group.entry, group.check))
-
-
-def new_group(kind: str, entry: int, check: int, closed: int, rest: str) -> Group:
-    """The group of a first report, whose line ends with `rest`."""
-    flush, _, path = rest.rpartition('path ')
-    flush_site = parse_site(flush.split(' ')[1]) if flush else None
-    return Group(kind, flush_site, tuple(map(parse_site, path.split(' '))), 1, entry, check, closed)
 
 
 def joined(groups: list[Group], is_users: Callable[[Site], bool]) -> list[Group]:

@@ -1,15 +1,18 @@
 """Runs hippo and tools/lower. Their output goes to files that appear only when they are complete; a refusal becomes a Trouble."""
 from __future__ import annotations
 
-import contextlib
 import os
 import re
+import signal
 import subprocess
 import sys
+import time
 from collections.abc import Callable, Iterator
-from typing import TYPE_CHECKING, Any, BinaryIO
+from typing import TYPE_CHECKING, Any
 
+from . import ends
 from .trouble import Trouble
+from .writing import whole_file
 
 if TYPE_CHECKING:
     from .session import Request
@@ -17,47 +20,37 @@ if TYPE_CHECKING:
 TOOLS = os.path.dirname(os.path.dirname(os.path.abspath(__file__)))
 # Exit codes of hippo: a run trapped, a run was cut, no crash leaves the image of a pick.
 TRAPPED, CUT, NO_PICK = 9, 10, 13
+WITH_TRACE = ("check", "repair", "rerun", "crash", "thin")
+MESSAGE = re.compile(
+    r"^hippo: (?:usage|no file|read fault|write fault|program|trace|out of memory|no entry|pick)\b.*$", re.M
+)
 HINTS = (
-    (r'program line 1: (syntax|unsupported)', 'hippo reads LLVM text of its subset; give a .c file to hippo-c'),
-    (r'trace .*(differs|early|extra|malformed)', 'the trace is of another program or was cut short; record it again'),
-    (r'program too large', 'hippo reads at most 16 MiB of program text'),
-    (r'usage', 'the installed hippo does not know this command; install hippo and hippo-c of one version'),
-    (r'not built', 'set HIPPO_PROGRAM to a hippo that is built'),
-    (r'function (@\S+) is not in the program', 'give the file that defines it, too'),
-    (r'fatal error: .* file not found', 'give the folder of the header to clang: -- -Ifolder'),
+    (r"program line 1: (syntax|unsupported)", "hippo reads LLVM text of its subset; give a .c file to hippo-c"),
+    (r"trace .*(differs|early|extra|malformed)", "the trace is of another program or was cut short; record it again"),
+    (r"program too large", "hippo reads at most 16 MiB of program text"),
+    (r"no main at program", "give the file that defines main, too"),
+    (r"usage", "the installed hippo does not know this command; install hippo and hippo-c of one version"),
+    (r"not built", "set HIPPO_PROGRAM to a hippo that is built"),
+    (r"function (@\S+) is not in the program", "give the file that defines it, too"),
+    (r"fatal error: .* file not found", "give the folder of the header to clang: -- -Ifolder"),
 )
 
 
 def hippo_program() -> str:
     """The program to run: HIPPO_PROGRAM, or the one of this repository or of this installation."""
-    named = os.environ.get('HIPPO_PROGRAM')
+    named = os.environ.get("HIPPO_PROGRAM")
     if named:
         return named
-    for folder in (os.path.dirname(TOOLS), os.path.join(TOOLS, '..', '..', 'bin')):
-        program = os.path.join(folder, 'hippo')
+    for folder in (TOOLS, os.path.dirname(TOOLS)):
+        program = os.path.join(folder, "hippo")
         if os.access(program, os.X_OK) and not os.path.isdir(program):
             return program
-    raise Trouble('hippo is not found', 'set HIPPO_PROGRAM to the program')
+    raise Trouble("hippo is not found", "set HIPPO_PROGRAM to the program")
 
 
 def hint_for(message: str) -> str:
     """What to do about a message of a step, or nothing."""
-    return next((hint for pattern, hint in HINTS if re.search(pattern, message)), '')
-
-
-@contextlib.contextmanager
-def whole_file(path: str) -> Iterator[BinaryIO]:
-    """A binary file to write to; it gets its name when it is complete, and there is no file after a failure."""
-    half = f'{path}.{os.getpid()}.part'
-    try:
-        with open(half, 'wb') as file:
-            yield file
-        os.replace(half, path)
-    except OSError as error:
-        raise Trouble(f'{path}: {error.strerror}') from None
-    finally:
-        with contextlib.suppress(OSError):
-            os.unlink(half)
+    return next((hint for pattern, hint in HINTS if re.search(pattern, message)), "")
 
 
 class Ended:
@@ -69,21 +62,21 @@ class Ended:
     @property
     def how(self) -> str:
         """`stop C`, `trap K` or `cut`, of a command that runs a program."""
-        found = re.findall(r'^(stop -?\d+|trap \w+|cut)$', self.notes, re.M)
-        return found[-1] if found else ''
+        found = re.findall(r"^(stop -?\d+|trap \w+|cut)$", self.notes, re.M)
+        return found[-1] if found else ""
 
     def word(self, name: str) -> str:
         """The rest of the line of the notes that begins with a word."""
-        found = re.search(rf'^{name}\b ?(.*)$', self.notes, re.M)
-        return found[1] if found else ''
+        found = re.search(rf"^{name}\b ?(.*)$", self.notes, re.M)
+        return found[1] if found else ""
 
 
 def start(command: list[str], **more: Any) -> subprocess.Popen[bytes]:
     """Starts a command, with its standard error in a pipe."""
     try:
-        return subprocess.Popen(command, stdin=subprocess.DEVNULL, stderr=subprocess.PIPE, **more)
+        return ends.started(command, stdin=subprocess.DEVNULL, stderr=subprocess.PIPE, **more)
     except OSError as error:
-        raise Trouble(f'{command[0]}: {error.strerror}', 'set HIPPO_PROGRAM to a hippo that is built') from None
+        raise Trouble(f"{command[0]}: {error.strerror}", "set HIPPO_PROGRAM to a hippo that is built") from None
 
 
 def finish(process: subprocess.Popen) -> Ended:
@@ -93,21 +86,46 @@ def finish(process: subprocess.Popen) -> Ended:
     except BaseException:
         stop(process)
         raise
-    return Ended(process.returncode, notes.decode('utf-8', 'replace'))
+    ends.state.processes.discard(process)
+    return Ended(process.returncode, notes.decode("utf-8", "replace"))
 
 
 def stop(process: subprocess.Popen) -> None:
     """Ends a command that is no longer needed."""
-    with contextlib.suppress(OSError):
-        process.kill()
-    process.wait()
+    ends.end(process)
     for pipe in (process.stdout, process.stderr):
         if pipe:
             pipe.close()
 
 
-def hippo(words: list[str], path: str, accepted: tuple[int, ...] = (0,),
-          watch: Callable[[subprocess.Popen[bytes], str], None] | None = None) -> Ended:
+def tool(words: list[str], given: bytes = b"") -> subprocess.CompletedProcess[bytes]:
+    """Runs a tool of clang or LLVM on an input."""
+    try:
+        process = ends.started(words, stdin=subprocess.PIPE, stdout=subprocess.PIPE, stderr=subprocess.PIPE)
+    except FileNotFoundError:
+        raise Trouble(f"{words[0]} is not installed", "Debian: apt-get install clang-19 llvm-19") from None
+    try:
+        out, notes = process.communicate(given)
+    finally:
+        stop(process)
+    interrupted_with(process.returncode)
+    return subprocess.CompletedProcess(words, process.returncode, out, notes)
+
+
+def interrupted_with(code: int) -> None:
+    """Ends hippo-c like a command that an interrupt ended; where another signal did, one for hippo-c has a moment to come."""
+    if code in (-signal.SIGINT, 128 + signal.SIGINT):
+        raise ends.Signalled(signal.SIGINT)
+    if code in [mark for number in ends.SIGNALS for mark in (-number, 128 + number)]:
+        time.sleep(ends.MOMENT)
+
+
+def hippo(
+    words: list[str],
+    path: str,
+    accepted: tuple[int, ...] = (0,),
+    watch: Callable[[subprocess.Popen[bytes], str], None] | None = None,
+) -> Ended:
     """Runs hippo with its standard output in a file; any exit code that is not accepted is a Trouble.
 
     `watch(process, file)` is called while hippo writes the file."""
@@ -116,20 +134,45 @@ def hippo(words: list[str], path: str, accepted: tuple[int, ...] = (0,),
         if watch:
             watch(process, file.name)
         ended = finish(process)
-        accept(words, ended, accepted)
+        accept(words, ended, accepted, path)
     return ended
 
 
-def accept(words: list[str], ended: Ended, accepted: tuple[int, ...] = (0,)) -> Ended:
-    """Refuses an exit code that is not accepted, with hippo's own message."""
+def accept(words: list[str], ended: Ended, accepted: tuple[int, ...] = (0,), output: str = "") -> Ended:
+    """Refuses an exit code that is not accepted, with hippo's own message and the names of the files that it is about."""
     if ended.code in accepted:
         return ended
+    interrupted_with(ended.code)
     if ended.code < 0:
-        raise Trouble(f'hippo was ended by signal {-ended.code}', '', words[0])
-    # The first line may be the launcher's, which says which build answers.
-    said = re.findall(r'^hippo: .*$', ended.notes, re.M) or [f'hippo {words[0]} answered {ended.code}']
-    message = said[-1]
-    raise Trouble(message, hint_for(message), words[0])
+        raise Trouble(f"hippo was ended by signal {-ended.code}", "", words[0])
+    # Other lines are the launcher's: which build answers, and which file is meant.
+    said = (
+        MESSAGE.findall(ended.notes)
+        or re.findall(r"^hippo: .*$", ended.notes, re.M)
+        or [f"hippo {words[0]} answered {ended.code}"]
+    )
+    message = said[0]
+    raise Trouble(message, hint_for(message), words[0], files_of(message, words, output))
+
+
+def files_of(message: str, words: list[str], output: str) -> list[str]:
+    """Which files a message of hippo is about: its own text says `program` or `trace`, or nothing."""
+    if len(words) == 1:
+        return []
+    program, traces = words[1], words[2:] if words[0] == "many" else words[2 : 2 + (words[0] in WITH_TRACE)]
+    names = [
+        f'{"trace" if words[0] != "many" else f"trace {number}"} is {path}' for number, path in enumerate(traces, 1)
+    ]
+    of_program = f"program is {program}, the lowered text"
+    if message.startswith("hippo: write fault"):
+        return [f"the output is {output}"] if output else []
+    if found := re.match(r"hippo: (?:no file: )?(trace(?: \d+)?|program)\b", message):
+        return (
+            [of_program]
+            if found[1] == "program"
+            else [name for name in names if name.startswith(f"{found[1]} ")] or names
+        )
+    return [of_program, *names]
 
 
 def lines_of(words: list[str], accepted: tuple[int, ...] = (0,)) -> Iterator[str]:
@@ -137,18 +180,31 @@ def lines_of(words: list[str], accepted: tuple[int, ...] = (0,)) -> Iterator[str
     process = start([hippo_program(), *words], stdout=subprocess.PIPE)
     try:
         for line in process.stdout:
-            yield line.decode('ascii', 'replace').rstrip('\n')
+            yield line.decode("ascii", "replace").rstrip("\n")
         accept(words, finish(process), accepted)
     finally:
         stop(process)
 
 
-def lower(request: Request, path: str) -> str:
-    """Lowers the files of a request into one text with places, and returns the notes of tools/lower."""
-    clang = ['--', *request.clang] if request.clang else []
-    command = [sys.executable, os.path.join(TOOLS, 'lower'), '--lines', *request.lower, *request.files, *request.arguments, *clang]
+def lower(request: Request, path: str, requests: str = "") -> str:
+    """Lowers the files of a request into one text with places, and returns the notes of tools/lower.
+
+    If the program has requests to Valgrind, the file `requests` gets the text in which they are noted."""
+    clang = ["--", *request.clang] if request.clang else []
+    second = ["--requests", requests] if requests else []
+    command = [
+        sys.executable,
+        os.path.join(TOOLS, "lower"),
+        "--lines",
+        *second,
+        *request.lower,
+        *request.files,
+        *request.arguments,
+        *clang,
+    ]
     with whole_file(path) as file:
         ended = finish(start(command, stdout=file))
         if ended.code:
-            raise Trouble(f'not lowered:\n{ended.notes.rstrip()}', hint_for(ended.notes), 'lowering')
+            interrupted_with(ended.code)
+            raise Trouble(f"not lowered:\n{ended.notes.rstrip()}", hint_for(ended.notes), "lowering")
     return ended.notes

@@ -4,10 +4,19 @@ from __future__ import annotations
 import contextlib
 import os
 import tempfile
+from collections.abc import Iterable
 from dataclasses import dataclass, field
+from typing import TYPE_CHECKING
+
+from lowering.commands import Failure
+from lowering.compile_commands import own_arguments
+from lowering.languages import arguments_for, is_source
 
 from . import marking, running, sources
+from .boundaries import Boundary, Check, Placing
+from .declared import Declarations, Declared
 from .names import Names
+from .paths import Path, Paths
 from .places import Place, Places
 from .program import Program, Site
 from .progress import Progress
@@ -16,33 +25,53 @@ from .traces import Trace, read_trace
 from .traps import Trap, find_trap
 from .trouble import Trouble
 
+if TYPE_CHECKING:
+    from .crashed_inputs import CrashedInput
+
 MOST_MARKS = 50_000_000
 
 
 @dataclass
 class Request:
     """What a command runs: files, arguments for clang, words for lower, the numbers of each input, the limit of turns."""
+
     files: list[str]
     clang: list[str] = field(default_factory=list)
     lower: list[str] = field(default_factory=list)
     inputs: list[list[int]] = field(default_factory=lambda: [[]])
     limit: int | None = None
-    folder: str = ''
+    folder: str = ""
     expand: bool = False
     arguments: list[str] = field(default_factory=list)
+    boundaries: list[Boundary] = field(default_factory=list)
+    crashed: list[CrashedInput] = field(default_factory=list)
+    wants_declared: bool = False
+    compile_commands: str = ""
+
+    def clang_of(self, file: str) -> list[str]:
+        """The arguments of clang for one file."""
+        try:
+            return arguments_for(file, [*own_arguments(file, self.compile_commands), *self.clang])
+        except Failure as failure:
+            raise Trouble(str(failure)) from None
 
 
 @dataclass
 class Checked:
-    """What a check of one input found."""
+    """What a check of one input found; `left_out` counts the groups and reports that a baseline knows."""
+
     numbers: list[int]
     path: str
     groups: list[Group]
     trace: Trace
     ended: str
-    check_places: dict[int, Place | None]
+    check_sites: dict[int, Site] = field(default_factory=dict)
     trap: Trap | None = None
     lines_ran: tuple[int, int, bool] | None = None
+    idle: list[str] = field(default_factory=list)
+    is_crashed: bool = False
+    left_out: tuple[int, int] = (0, 0)
+    declared: list[Declared] = field(default_factory=list)
 
     @property
     def reports(self) -> int:
@@ -56,8 +85,12 @@ class Session:
     def __init__(self, request: Request, progress: Progress) -> None:
         self.request, self.progress = request, progress
         self.room = contextlib.ExitStack()
-        self.folder = request.folder or self.room.enter_context(tempfile.TemporaryDirectory(prefix='hippo-c-'))
-        self.text_path = self.file('program.ll')
+        self.folder = request.folder or self.new_folder()
+        self.text_path = self.file("program.ll")
+        self.paths = Paths()
+        self.digests: dict[Path, str] = {}
+        self.boundary_checks: dict[Site, Check] = {}
+        self.declarations: Declarations | None = None
 
     def __enter__(self) -> Session:
         return self
@@ -69,80 +102,129 @@ class Session:
         """The path of a file in the folder."""
         return os.path.join(self.folder, name)
 
+    def new_folder(self) -> str:
+        """A folder for files that are not kept, and that nobody else can write to."""
+        return self.room.enter_context(tempfile.TemporaryDirectory(prefix="hippo-c-"))
+
+    def fresh_file(self, name: str) -> str:
+        """The path of a file in the folder that is not there yet."""
+        path = self.file(name)
+        with contextlib.suppress(FileNotFoundError):
+            os.unlink(path)
+        return path
+
     def lower(self) -> None:
         """Makes the lowered text and reads it."""
         for file in self.request.files:
             if not os.path.isfile(file):
-                raise Trouble(f'{file}: no such file')
-            if not file.endswith(('.c', '.ll')):
-                raise Trouble(f'{file}: not a .c or .ll file', 'arguments for clang stand after --')
+                raise Trouble(f"{file}: no such file")
+            if not is_source(file) and not file.endswith(".ll"):
+                raise Trouble(f"{file}: not a .c, .cpp or .ll file", "arguments for clang stand after --")
         if self.request.expand:
-            given = [file for file in self.request.files if file.endswith('.c')]
-            self.request.clang += sources.expand_macros(given, self.request.clang, running.TOOLS, self.folder)
-        self.progress.say('lowering')
-        self.lower_notes = running.lower(self.request, self.text_path)
-        with open(self.text_path, encoding='latin-1') as file:
+            given = [file for file in self.request.files if is_source(file)]
+            self.request.clang += sources.expand_macros(given, self.request.clang_of, running.TOOLS, self.folder)
+        self.progress.say("lowering")
+        requests = self.fresh_file("requests.ll") if self.request.wants_declared else ""
+        self.lower_notes = running.lower(self.request, self.text_path, requests)
+        has_requests = requests and os.path.exists(requests)
+        if self.request.boundaries:
+            self.boundary_checks = self.place_boundaries(self.text_path)
+            if has_requests:
+                self.place_boundaries(requests)
+        with open(self.text_path, encoding="latin-1") as file:
             self.program = Program(file.read())
         self.places = Places(self.program)
-        self.names = Names(self.program, self.request.files, self.request.clang, running.TOOLS)
+        self.names = Names(self.program, self.request.files, self.request.clang_of, running.TOOLS)
+        sources.take_from(self.names.compiled_files)
+        if has_requests:
+            self.declarations = Declarations(self, requests)
+
+    def place_boundaries(self, path: str) -> dict[Site, Check]:
+        """Puts the checks at boundaries into a lowered text; their sites."""
+        with open(path, encoding="latin-1") as file:
+            placing = Placing(file.read(), self.request.boundaries)
+        text = placing.placed()
+        with running.whole_file(path) as out:
+            out.write(text.encode("latin-1"))
+        return placing.checks
+
+    def limit_words(self) -> list[str]:
+        """The words that give hippo the limit of turns."""
+        return ["--limit", str(self.request.limit)] if self.request.limit is not None else []
 
     def record(self, numbers: list[int], name: str) -> tuple[str, running.Ended]:
         """Writes the trace of the run on these numbers; its path, and how the run ended."""
         path = self.file(name)
-        limit = ['--limit', str(self.request.limit)] if self.request.limit is not None else []
-        words = ['record', self.text_path, *limit, '--', *map(str, numbers)]
-        with self.progress.growing('recording'):
+        words = ["record", self.text_path, *self.limit_words(), "--", *map(str, numbers)]
+        with self.progress.growing("recording"):
             ended = running.hippo(words, path, (0, running.TRAPPED, running.CUT), self.progress.watch)
         return path, ended
 
-    def check(self, numbers: list[int], name: str = 'program.trace', coverage: bool = True) -> Checked:
+    def check(self, numbers: list[int], name: str = "program.trace", coverage: bool = True) -> Checked:
         """Records a run and brings what hippo reports of it into groups."""
         path, ended = self.record(numbers, name)
-        self.progress.say('checking')
-        lines = running.lines_of(['check', self.text_path, path])
-        groups = grouped(self.progress.counted(lines, 'checking', 'reports'))
-        groups = joined(groups, lambda site: bool(self.places.of(site)))
-        trace = read_trace(path, self.program, {group.entry for group in groups})
-        checked = Checked(numbers, path, groups, trace, ended.how, {})
-        if kind := ended.word('trap'):
-            self.progress.say('looking for the trap')
+        self.progress.say("checking")
+        lines: Iterable[str] = self.progress.counted(
+            running.lines_of(["check", self.text_path, path]), "checking", "reports"
+        )
+        declared: list[Declared] = []
+        if self.declarations and (reported := list(lines)):
+            lines, declared = self.declarations.split(reported, numbers, path)
+        groups = joined(grouped(lines, self.paths), lambda site: bool(self.places.of(site)))
+        shown = [*groups, *(group for item in declared for group in item.groups)]
+        trace = read_trace(path, self.program, {group.entry for group in shown})
+        checked = Checked(numbers, path, groups, trace, ended.how, declared=declared)
+        if kind := ended.word("trap"):
+            self.progress.say("looking for the trap")
             checked.trap = find_trap(self.program, numbers, kind)
-        checked.check_places = self.check_places(checked)
+        checked.check_sites = self.check_sites(checked)
         if coverage and ended.code != running.CUT:
-            checked.lines_ran = self.lines_that_ran(numbers)
+            self.note_what_ran(checked)
         return checked
 
-    def check_places(self, checked: Checked) -> dict[int, Place | None]:
-        """The place of each check that a group names, by the number of its entry; the return of main is one of the checks.
+    def check_place(self, checked: Checked, entry: int) -> Place | None:
+        """The place of a check that a group names, by the number of its entry."""
+        site = checked.check_sites.get(entry)
+        return self.places.first((site,)) if site else None
 
-        The check of `exit` is not in a function of the user's. The run traps after it, by the same calls."""
-        wanted = {group.check for group in checked.groups}
+    def check_sites(self, checked: Checked) -> dict[int, Site]:
+        """The site of each check that a group names, by the number of its entry; the return of main is one of the checks."""
+        wanted = {
+            group.check for group in [*checked.groups, *(group for item in checked.declared for group in item.groups)]
+        }
         trace = checked.trace
         if not wanted:
             return {}
         sites = self.only_sites(trace)
         if sites is None:
-            self.progress.say('looking for the checks')
-            sites = marking.sites_of_checks(self.program, checked.numbers, trace.asserts, checked.ended != 'cut')
+            self.progress.say("looking for the checks")
+            sites = marking.sites_of_checks(self.program, checked.numbers, trace.asserts, checked.ended != "cut")
         numbered = dict(zip([*trace.assert_numbers, trace.entries], sites))
-        calls = checked.trap.path if checked.trap else ()
-        return {number: self.places.first((numbered[number], *calls)) for number in wanted if number in numbered}
+        return {number: numbered[number] for number in wanted if number in numbered}
 
     def only_sites(self, trace: Trace) -> list[Site] | None:
         """The sites of all checks of a run, if the program has at most one assert and one return of main; otherwise nothing."""
         sites = marking.checks_of(self.program)
-        asserts = [site for site in sites if self.program.instruction(site).callee == 'pm_assert']
+        asserts = [site for site in sites if self.program.instruction(site).callee == "pm_assert"]
         returns = [site for site in sites if site not in asserts]
         if len(asserts) > 1 or len(returns) != 1:
             return None
         return asserts * trace.asserts + returns
 
-    def lines_that_ran(self, numbers: list[int]) -> tuple[int, int, bool]:
-        """The number of lines of the user's functions that ran, the number of all, and whether the whole run was counted."""
-        self.progress.say('counting lines')
-        ran, whole = marking.blocks_that_ran(self.program, numbers, MOST_MARKS)
+    def note_what_ran(self, checked: Checked) -> None:
+        """Notes the number of lines of the user's functions that ran, the number of all, whether the whole run was counted, and which
+        boundaries the run never met."""
+        self.progress.say("counting lines")
+        ran, whole = marking.blocks_that_ran(self.program, checked.numbers, MOST_MARKS)
+        checked.lines_ran = *self.lines_in(ran), whole
+        met = {check.where for site, check in self.boundary_checks.items() if site[:2] in ran}
+        if whole:
+            checked.idle = sorted({check.where for check in self.boundary_checks.values()} - met)
+
+    def lines_in(self, ran: set[tuple[str, str]]) -> tuple[int, int]:
+        """The number of lines of the user's functions in these blocks, and in all."""
         lines: dict[bool, set] = {True: set(), False: set()}
         for site, instruction in self.program.sites():
             if instruction.frames:
                 lines[site[:2] in ran].update(place[:2] for place in self.places.of(site) if place.exact)
-        return len(lines[True]), len(lines[True] | lines[False]), whole
+        return len(lines[True]), len(lines[True] | lines[False])

@@ -7,57 +7,67 @@ from lowering.externs import TAKE_ADDRESSES
 from .marking import marked_run, marked_text
 from .program import Instruction, Program, Site
 
-ACCESSES = ('load ', 'store ')
+ACCESSES = ("load ", "store ")
 WORDS = {
-    'divzero': {'udiv', 'sdiv', 'urem', 'srem'}, 'divoverflow': {'sdiv', 'srem'}, 'shift': {'shl', 'lshr', 'ashr'},
-    'stack': {'alloca'}, 'unreachable': {'unreachable'},
+    "divzero": {"udiv", "sdiv", "urem", "srem"},
+    "divoverflow": {"sdiv", "srem"},
+    "shift": {"shl", "lshr", "ashr"},
+    "stack": {"alloca"},
+    "unreachable": {"unreachable"},
 }
 MEANING = {
-    'divzero': 'a division by zero', 'divoverflow': 'a quotient that does not fit',
-    'shift': 'a shift by the width of the number or more', 'address': 'an access outside the memory of the program',
-    'misaligned': 'an access at less than its alignment', 'stack': 'the stack has more than 16 MiB',
-    'depth': 'calls are nested more than 16,384 deep', 'input': 'no number of the input is left',
-    'unreachable': '__builtin_trap, abort or a failed assert was reached',
+    "divzero": "a division by zero",
+    "divoverflow": "a quotient that does not fit",
+    "shift": "a shift by the width of the number or more",
+    "address": "an access outside the memory of the program",
+    "misaligned": "an access at less than its alignment",
+    "stack": "the stack has more than 16 MiB",
+    "depth": "calls are nested more than 16,384 deep",
+    "input": "no number of the input is left",
+    "unreachable": "__builtin_trap, abort or a failed assert was reached",
 }
-# What `unreachable` means in blocks that tools/lower adds, and in the function that ends the program.
-ADDED = re.compile(r'.*\.no\.(?P<what>function|label)(?:\.\d+)?')
+# What `address` means in calls.
+ADDRESS_OF_CALLS = {"pm_assert": "a pm_assert of memory that is not persistent"}
+# What `unreachable` means in functions that tools/lower adds.
+ADDED = re.compile(r"no\.(?P<what>function|label|case|frame)(?:\.\d+)?")
 MEANING_OF_ADDED = {
-    'function': "a call by pointer to no function of the call's type",
-    'label': 'a goto to an address that is no label of the function',
+    "function": "a call by pointer to no function of the call's type",
+    "label": "a goto to an address that is no label of the function",
+    "case": "a switch over a value that the program says it never has",
+    "frame": "a longjmp to a function that has returned",
 }
-EXIT = 'hippo._exit'
-MEANING_OF_EXIT = 'exit was called outside main, and the region was checked'
 
 
 @dataclass
 class Trap:
-    """The kind of a trap and the path of sites to it: the instruction, then the calls outwards."""
+    """The kind of a trap, the path of sites to it (the instruction, then the calls outwards), and the external function that trapped."""
+
     kind: str
     path: tuple[Site, ...]
+    callee: str = ""
 
 
 def meaning_of(kind: str, trap: Trap | None) -> str:
     """What a trap of a kind means at its instruction, if this is known."""
-    if kind == 'unreachable' and trap:
-        function, block, _ = trap.path[0]
-        if function == EXIT:
-            return MEANING_OF_EXIT
-        if added := ADDED.fullmatch(block):
-            return MEANING_OF_ADDED[added['what']]
+    if kind == "unreachable" and trap:
+        if added := ADDED.fullmatch(trap.path[0][0]):
+            return MEANING_OF_ADDED[added["what"]]
+    if kind == "address" and trap and trap.callee in ADDRESS_OF_CALLS:
+        return ADDRESS_OF_CALLS[trap.callee]
     return MEANING.get(kind, kind)
 
 
 def may_trap(instruction: Instruction, kind: str, program: Program) -> bool:
     """Whether an instruction can trap in this way."""
     text = instruction.text
-    if kind in ('address', 'misaligned'):
-        word = text.partition(' = ')[2] or text
+    if kind in ("address", "misaligned"):
+        word = text.partition(" = ")[2] or text
         return word.startswith(ACCESSES) or instruction.callee in TAKE_ADDRESSES
-    if kind == 'depth':
+    if kind == "depth":
         return instruction.callee in program.functions
-    if kind == 'input':
-        return instruction.callee == 'read_i64'
-    word = (text.partition(' = ')[2] or text).split(' ', 1)[0]
+    if kind == "input":
+        return instruction.callee == "read_i64"
+    word = (text.partition(" = ")[2] or text).split(" ", 1)[0]
     return word in WORDS.get(kind, ())
 
 
@@ -66,17 +76,17 @@ def find_trap(program: Program, numbers: list[int], kind: str) -> Trap | None:
     calls = standing_calls(program, numbers, kind)
     if calls is None:
         return None
-    if kind == 'depth':
+    if kind == "depth":
         return Trap(kind, tuple(reversed(calls)))
-    top = program.instruction(calls[-1]).callee if calls else 'main'
+    top = program.instruction(calls[-1]).callee if calls else "main"
     site = last_candidate(program, numbers, kind, top)
-    return site and Trap(kind, (site, *reversed(calls)))
+    return site and Trap(kind, (site, *reversed(calls)), program.instruction(site).callee)
 
 
 def standing_calls(program: Program, numbers: list[int], kind: str) -> list[Site] | None:
     """The calls that have not returned when the run ends."""
     sites = [site for site, instruction in program.sites() if instruction.callee in program.functions]
-    by_site = {site: ([str(number)], ['-1']) for number, site in enumerate(sites)}
+    by_site = {site: ([str(number)], ["-1"]) for number, site in enumerate(sites)}
     text = marked_text(program, lambda site, _: by_site.get(site, ([], [])))
     standing: list[int] = []
     with marked_run(text, numbers) as run:
@@ -87,17 +97,19 @@ def standing_calls(program: Program, numbers: list[int], kind: str) -> list[Site
             else:
                 pop()
         ended = run.ended()
-    return [sites[number] for number in standing] if ended.word('trap') == kind else None
+    return [sites[number] for number in standing] if ended.word("trap") == kind else None
 
 
 def last_candidate(program: Program, numbers: list[int], kind: str, function: str) -> Site | None:
     """The last instruction of a function that the run executes, among those that can trap in this way."""
-    sites = [site for site, instruction in program.sites() if site[0] == function and may_trap(instruction, kind, program)]
+    sites = [
+        site for site, instruction in program.sites() if site[0] == function and may_trap(instruction, kind, program)
+    ]
     by_site = {site: ([str(number)], []) for number, site in enumerate(sites)}
     text = marked_text(program, lambda site, _: by_site.get(site, ([], [])))
-    last = b''
+    last = b""
     with marked_run(text, numbers) as run:
         for chunk in run.chunks():
             last = next((mark for mark in reversed(chunk) if mark), last)
         ended = run.ended()
-    return sites[int(last)] if last and ended.word('trap') == kind else None
+    return sites[int(last)] if last and ended.word("trap") == kind else None

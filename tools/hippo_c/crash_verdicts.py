@@ -1,0 +1,63 @@
+"""The images of power cuts by the engine of explore: all of them where that ends in time, and hippo confirms each failure."""
+from __future__ import annotations
+
+import argparse
+
+from .confirming import Confirmed, Confirming
+from .diagnostics import Printer, amount, images_in_words
+from .explore_answers import Again, print_failure
+from .exploring import check_engine, run_engine, words_of
+from .findings import Found
+from .native import Engine
+from .session import Session
+
+NONE_TRIED = (
+    "the next run fails from what this run leaves, although nothing is lost: no power cut is needed, so none was tried"
+)
+
+
+def try_images(options: argparse.Namespace, session: Session, printer: Printer) -> int:
+    """Tries the images that crashes may leave: 0 if no run fails, 1 if one does, 2 if none was tried."""
+    numbers = session.request.inputs[0]
+    session.progress.say("building the engine")
+    engine = Engine(session.program, session.new_folder(), tuple(options.recover))
+    check_engine(session, engine, numbers)
+    words = words_of(options, None)
+    if session.request.limit is not None:
+        words += ["--limit", str(session.request.limit)]
+    found, interrupted = run_engine(session, engine, [numbers], words, options)
+    session.progress.say("confirming")
+    found.reports = {}
+    confirming = Confirming(session)
+    interrupted |= confirming.is_interrupted(found, [])
+    confirmed = confirming.answer
+    session.progress.wipe()
+    again = Again(options, session)
+    for failure in confirmed.failures:
+        print_failure(printer, session, failure, again)
+    print_verdict(printer, found, confirmed)
+    if interrupted:
+        return 130
+    if confirmed.failures:
+        return 1
+    return 0 if found.summary.get("behaviours") else 2
+
+
+def print_verdict(printer: Printer, found: Found, confirmed: Confirmed) -> None:
+    """How many images were tried, and how many behaviours they are."""
+    counts = found.summary
+    if found.refused:
+        printer.line(NONE_TRIED)
+    elif not counts.get("behaviours"):
+        printer.line("no image was tried: the time ended before; raise --time")
+    else:
+        whole = "all " if not counts["left"] else ""
+        left = "" if whole else f', {counts["left"]:,} of the points or recoveries not tried whole; raise --time'
+        of_all = "" if counts["points"] == counts["all_points"] else f'{counts["points"]:,} of '
+        points = f'{of_all}{amount(counts["all_points"], "crash point")}'
+        printer.line(
+            f'{whole}{images_in_words(counts["images"])} of {points}: {amount(counts["behaviours"], "behaviour")}{left}; '
+            f'{counts["failing"]:,} fail, by {amount(len(confirmed.failures), "cause")}'
+        )
+    if confirmed.refused:
+        printer.line(f'{amount(confirmed.refused, "failure")} of the engine not confirmed by hippo, and not shown')

@@ -206,12 +206,19 @@ def processors_in(text: str) -> list[int]:
 def main(words: list[str]) -> int:
     """Reads the words, prints the report, and returns the exit code."""
     parser = argparse.ArgumentParser(description=__doc__.splitlines()[0])
-    parser.add_argument("--crates", type=Path, default=TOP / "crates.txt", help="the list of crates and what they depend on")
-    parser.add_argument("--weights", type=Path, default=TOP / "tools" / "crate_weights.txt",
-                        help="the seconds of each crate")
+    parser.add_argument(
+        "--crates", type=Path, default=TOP / "crates.txt", help="the list of crates and what they depend on"
+    )
+    parser.add_argument(
+        "--weights", type=Path, default=TOP / "tools" / "crate_weights.txt", help="the seconds of each crate"
+    )
     parser.add_argument("--top", help="this crate and all that it depends on; otherwise all crates that have a weight")
     parser.add_argument("--processors", default="2,4", help="the numbers of processors, joined by commas (2,4)")
-    parser.add_argument("--whole", action="store_true", help="also print the longest chain through each crate, and when each crate is proved")
+    parser.add_argument(
+        "--whole",
+        action="store_true",
+        help="also print the longest chain through each crate, and when each crate is proved",
+    )
     order = parser.parse_args(words)
     try:
         crates = read_crates(order.crates.read_text(encoding="utf-8"))

@@ -10,6 +10,7 @@ import argparse
 import os
 import signal
 import sys
+import traceback
 from pathlib import Path
 
 sys.dont_write_bytecode = True
@@ -72,8 +73,8 @@ def answer(top: Path, words: list[str]) -> int:
     digest = sources.digest()
     if proved.is_made_from(digest):
         mark = Mark(proved.program)
-        own = [path.relative_to(top) for path in (proved.program, proved.stamp, mark.watched, mark.mark)]
-        mark.make([*sources.watched(), *own], lambda: sources.digest() == digest)
+        own = [path.relative_to(top) for path in (proved.program.parent, proved.program, proved.stamp, mark.watched)]
+        mark.make(top, [*sources.watched(), *own], lambda: sources.digest() == digest and proved.is_made_from(digest))
         os.execv(proved.program, [str(proved.program), *words])
     why, how = why_not(proved, digest), how_to_build(sources)
     waits = f"{why}; waiting for an unproved build, with checks as it runs, that another process makes; {how}"
@@ -89,14 +90,13 @@ def answer(top: Path, words: list[str]) -> int:
 
 def install(top: Path, words: list[str]) -> int:
     """Installs the program that HIPPO_PROGRAM names, or else the proved one, with hippo-c and what belongs to it."""
-    program = os.environ.get("HIPPO_PROGRAM")
-    if not program:
+    command = [sys.executable, "-B", str(top / "tools" / "hippo-c"), "install", *words]
+    if not os.environ.get("HIPPO_PROGRAM"):
         sources, proved = Sources(top), Kept(top / PROVED)
         digest = sources.digest()
         if not proved.is_made_from(digest):
             raise Failed(f"{why_not(proved, digest)}; {how_to_build(sources)}")
-        program = str(proved.program)
-    command = [sys.executable, "-B", str(top / "tools" / "hippo-c"), "install", *words, "--program", program]
+        command += ["--program", str(proved.program)]
     os.execv(sys.executable, command)
 
 
@@ -124,8 +124,12 @@ def version(top: Path) -> str:
 def build_words(words: list[str]) -> argparse.Namespace:
     """The words after `--build`."""
     parser = argparse.ArgumentParser(prog="./hippo --build", allow_abbrev=False)
-    parser.add_argument("--jobs", type=int, default=processors(), metavar="N", help="the number of crates that are proved side by side")
-    parser.add_argument("--write-weights", action="store_true", help="write the seconds of each crate to tools/crate_weights.txt")
+    parser.add_argument(
+        "--jobs", type=int, default=processors(), metavar="N", help="the number of crates that are proved side by side"
+    )
+    parser.add_argument(
+        "--write-weights", action="store_true", help="write the seconds of each crate to tools/crate_weights.txt"
+    )
     given = parser.parse_args(words)
     if given.jobs < 1:
         parser.error("--jobs takes a number from 1")
@@ -161,7 +165,21 @@ def main(words: list[str]) -> int:
         return 128 + signal.SIGINT
     except OSError as fault:
         say(f"{fault.filename2 or fault.filename or 'the launcher'}: {fault.strerror}")
+    except Exception as fault:  # the exit code of an exception is that of wrong words
+        say_defect(fault)
     return UNAVAILABLE
+
+
+def say_defect(fault: Exception) -> None:
+    """Says where a defect of the launcher is; with the whole traceback if HIPPO_TRACEBACK asks for it."""
+    if os.environ.get("HIPPO_TRACEBACK"):
+        for line in "".join(traceback.format_exception(type(fault), fault, fault.__traceback__)).splitlines():
+            say(line)
+    place = traceback.extract_tb(fault.__traceback__)[-1]
+    say(
+        f"a defect of the launcher: {type(fault).__name__}: {fault} at {os.path.relpath(place.filename)}:{place.lineno}, in {place.name}; "
+        "HIPPO_TRACEBACK=1 shows more"
+    )
 
 
 if __name__ == "__main__":

@@ -34,8 +34,10 @@ UNPROVED = re.compile(r"^rt: (\w+) NOT PROVED", re.M)
 
 
 def say(text: str) -> None:
-    """Writes a line for the user."""
-    print(f"hippo: {text}", file=sys.stderr, flush=True)
+    """Writes a line for the user, unless standard error is closed or full."""
+    with contextlib.suppress(OSError):
+        if sys.stderr is not None:
+            print(f"hippo: {text}", file=sys.stderr, flush=True)
 
 
 def processors() -> int:
@@ -93,6 +95,7 @@ class Build:
         self.log = sources.top / "out" / "build.log"
         self.start = time.monotonic()
         self.ended: dict[str, float] = {}
+        self.began: dict[str, float] = {}
         self.measured: dict[str, float] = {}
         self.waits: set[str] = set()
 
@@ -116,14 +119,21 @@ class Build:
         """Runs the toolchain's gate in the copy, reports progress until it ends, and returns its exit code."""
         environment = {**os.environ, "RT_JOBS": str(self.jobs)}
         with self.log.open("wb") as log:
-            ran = subprocess.Popen([self.rt, "ci"], cwd=room, env=environment, stdin=subprocess.DEVNULL, stdout=log, stderr=log,
-                                   start_new_session=True)
+            ran = subprocess.Popen(
+                [self.rt, "ci"],
+                cwd=room,
+                env=environment,
+                stdin=subprocess.DEVNULL,
+                stdout=log,
+                stderr=log,
+                start_new_session=True,
+            )
         meter = Meter(ran.pid)
         try:
             while ran.poll() is None:
                 time.sleep(STEP)
                 meter.look()
-                self.measured = meter.seconds()
+                self.measured, self.began = meter.seconds(), meter.began
                 self.report()
         finally:
             if ran.poll() is None:
@@ -132,19 +142,32 @@ class Build:
             self.report(is_end=True)
         return ran.returncode
 
+    def progress(self) -> str:
+        """What is proved, the time so far, and an estimate of the time that is left."""
+        now = time.monotonic()
+        took = {name: end - self.began[name] for name, end in self.ended.items() if name in self.began}
+        running = {name: now - start for name, start in self.began.items() if name not in self.ended}
+        left = self.plan.remaining(took, frozenset(self.ended) - frozenset(took), running)
+        done = len(self.ended) == len(self.sources.crates)
+        what = (
+            "all crates proved, the program is compiled and tried"
+            if done
+            else f"{len(self.ended)} of {len(self.sources.crates)} crates proved"
+        )
+        return (
+            f"{what}, {duration(now - self.start)} so far, about {minutes(left) if left >= 60 else duration(left)} left"
+        )
+
     def report(self, is_end: bool = False) -> None:
         """Reports progress: on a terminal in one line that it rewrites, otherwise in a line for each change."""
-        now = time.monotonic() - self.start
         text, before = self.text(), len(self.ended)
         for name in set(WAITS.findall(text)) - self.waits:
             say(f"another run on this machine is proving {name}; waiting for it")
             self.waits.add(name)
         for name in ENDED.findall(text):
-            if name in self.plan.expected:
-                self.ended.setdefault(name, now)
-        left = self.plan.remaining(now, self.ended, frozenset(self.ended) - frozenset(self.measured))
-        line = (f"hippo: {len(self.ended)} of {len(self.sources.crates)} crates proved, {duration(now)} so far, "
-                f"about {duration(left)} left")
+            if name in self.plan.weights:
+                self.ended.setdefault(name, time.monotonic())
+        line = f"hippo: {self.progress()}"
         if sys.stderr.isatty():
             print(f"\r{line}\033[K", end="\n" if is_end else "", file=sys.stderr, flush=True)
         elif len(self.ended) > before:
@@ -165,15 +188,21 @@ def build(rt: str, sources: Sources, kept: Kept, toolchain: str, jobs: int, weig
             say(f"{kept.program} is proved and built from these sources")
             return 0
         work = Build(rt, sources, jobs)
-        say(f"proving {len(sources.crates)} crates, {jobs} side by side, and building; about {minutes(work.plan.whole)} if no proof is kept")
+        say(
+            f"proving {len(sources.crates)} crates, {jobs} side by side, and building; about {minutes(work.plan.whole)} if no proof is kept"
+        )
         with tempfile.TemporaryDirectory(prefix="hippo-build-") as room:
             try:
                 made = work.prove(Path(room))
             except SystemExit:
-                say(f"interrupted; {len(work.ended)} of {len(sources.crates)} crates are proved and kept, and ./hippo --build goes on there")
+                say(
+                    f"interrupted; {len(work.ended)} of {len(sources.crates)} crates are proved and kept, and ./hippo --build goes on there"
+                )
                 raise
             if sources.digest() != digest:
-                raise Failed("not built: a source changed meanwhile; what is proved is kept, and ./hippo --build goes on there")
+                raise Failed(
+                    "not built: a source changed meanwhile; what is proved is kept, and ./hippo --build goes on there"
+                )
             kept.keep(made, digest, sources.commit(), toolchain)
         if weighs:
             write_weights(sources, work.measured)

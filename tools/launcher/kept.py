@@ -14,8 +14,8 @@ from typing import Callable, Iterable
 # Where the proved program is, below the top.
 PROVED = "out/hippo"
 FIELDS = ("sources", "program", "commit", "toolchain", "time")
-# Seconds; more than the step of the clock from which a file system takes the time of a change.
-CLOCK_STEP = 0.02
+# Seconds; more than the step of the clock from which a file system takes the time of a change, also where it keeps whole seconds.
+CLOCK_STEP, COARSE_STEP = 0.02, 2.1
 
 
 def digest_of(file: Path) -> str:
@@ -47,8 +47,11 @@ class Kept:
         """Whether the program is whole, and its stamp names these sources."""
         fields = self.read_stamp()
         try:
-            return (fields.get("sources") == sources and os.access(self.program, os.X_OK)
-                    and digest_of(self.program) == fields["program"])
+            return (
+                fields.get("sources") == sources
+                and os.access(self.program, os.X_OK)
+                and digest_of(self.program) == fields["program"]
+            )
         except OSError:
             return False
 
@@ -73,27 +76,45 @@ class Kept:
 class Mark:
     """Tells the launcher's shell script, without reading the sources, that they are those of the proved program.
 
-    The script trusts the mark until the state of a path that `watched` lists has changed since the mark was made. The mark is listed too,
-    since its own state changes where it is unpacked or copied to another place. Without a mark each call reads the sources."""
+    The file `watched` lists paths, and the mark has a digest of their states: the device, the number of the file, its size, and the time
+    of its last change, which no program can set. The script trusts the mark only while all of these are the same. So a list that was cut, a
+    folder that was exchanged, a copy in another place and a clock that was set back do not escape it. Without a mark each call reads the
+    sources."""
 
     def __init__(self, program: Path) -> None:
         self.mark = program.with_name(program.name + ".unchanged")
         self.watched = program.with_name(program.name + ".watched")
 
-    def make(self, paths: Iterable[Path], is_unchanged: Callable[[], bool]) -> None:
+    def make(self, top: Path, paths: Iterable[Path], is_unchanged: Callable[[], bool]) -> None:
         """Makes the mark, and keeps it only if the sources are still unchanged after that, so that no change escapes it."""
         # Where the folder cannot be written to, there is no mark, and each call reads the sources.
         with contextlib.suppress(OSError):
-            self.remove()
+            listed = [os.fsencode(path) for path in paths]
             new = self.watched.with_name(self.watched.name + ".new")
-            new.write_bytes(b"".join(os.fsencode(path) + b"\0" for path in paths))
+            write(new, b"".join(path + b"\0" for path in listed))
             os.replace(new, self.watched)
-            self.mark.touch()
-            time.sleep(CLOCK_STEP)
-            if not is_unchanged():
-                self.remove()
+            # An empty mark is in the folder before the state of the folder is taken.
+            write(self.mark, b"")
+            digest, step = state_of(os.fsencode(top), listed)
+            time.sleep(step)
+            if is_unchanged():
+                write(self.mark, digest.encode() + b"\n")
 
-    def remove(self) -> None:
-        """Removes the mark."""
-        if self.mark.exists():
-            self.mark.unlink()
+
+def write(file: Path, contents: bytes) -> None:
+    """Writes a file that stays after a power cut."""
+    with file.open("wb") as opened:
+        opened.write(contents)
+        opened.flush()
+        os.fsync(opened.fileno())
+
+
+def state_of(top: bytes, paths: list[bytes]) -> tuple[str, float]:
+    """A digest of the states of paths below a folder, as `find` prints them, and the step of the clock that their times come from."""
+    total, is_coarse = hashlib.sha256(), True
+    for path in paths:
+        found = os.lstat(os.path.join(top, path))
+        seconds, part = divmod(found.st_ctime_ns, 10**9)
+        is_coarse = is_coarse and part == 0
+        total.update(b"%d %d %d %d.%09d0 %s\0" % (found.st_dev, found.st_ino, found.st_size, seconds, part, path))
+    return total.hexdigest(), COARSE_STEP if is_coarse else CLOCK_STEP

@@ -5,6 +5,7 @@ from __future__ import annotations
 import contextlib
 import os
 import statistics
+import time
 from pathlib import Path
 
 import crate_schedule
@@ -13,6 +14,12 @@ from sources import Failed, Sources
 WEIGHTS = "tools/crate_weights.txt"
 # Seconds for a crate if no crate has a known time.
 USUAL = 60.0
+# Seconds after the last proof: the program is compiled twice, linked and run.
+AFTER_PROOFS = 60.0
+# Seconds of weights that the first estimate of the pace counts for.
+FIRST = 60.0
+# The part of its time that a proof which is overdue is expected to take still.
+OVERDUE = 0.2
 
 
 def weights_of(sources: Sources) -> dict[str, float]:
@@ -37,33 +44,50 @@ def minutes(seconds: float) -> str:
     return f"{count} minute{'s' * (count > 1)}"
 
 
+def free_processors() -> float:
+    """How many processors other programs leave, by the load of the last minute; at least one."""
+    count = len(os.sched_getaffinity(0))
+    try:
+        return max(1.0, count - os.getloadavg()[0])
+    except OSError:
+        return float(count)
+
+
 class Plan:
-    """When each crate is expected to be proved. The estimate is corrected by the times at which earlier crates were proved."""
+    """How long a build takes. The first estimate takes the weights of the crates and what other programs leave of the machine; later ones
+    take the time that the proofs of this build took."""
 
-    def __init__(self, sources: Sources, processors: int) -> None:
-        self.sources, self.processors = sources, processors
+    def __init__(self, sources: Sources, jobs: int) -> None:
+        self.sources, self.jobs = sources, jobs
         self.weights = weights_of(sources)
-        self.schedule(frozenset())
+        self.first_pace = max(1.0, jobs / free_processors())
 
-    def schedule(self, kept: frozenset[str]) -> None:
-        """Schedules the proofs. The kept ones, of an earlier run, take no time."""
-        self.kept = kept
-        weights = {name: 0.0 if name in kept else self.weights[name] for name in self.sources.crates}
-        graph = crate_schedule.graph_of(self.sources.libraries, weights, self.sources.crates[-1])
-        pieces = crate_schedule.schedule(graph, self.processors)
-        self.expected = {piece.name: piece.end for piece in pieces}
-        self.whole = crate_schedule.makespan(pieces)
+    def makespan(self, left: dict[str, float]) -> float:
+        """The seconds until all crates are proved, from those that each still takes."""
+        graph = crate_schedule.graph_of(self.sources.libraries, left, self.sources.crates[-1])
+        return crate_schedule.makespan(crate_schedule.schedule(graph, self.jobs))
 
-    def remaining(self, now: float, ended: dict[str, float], kept: frozenset[str]) -> float:
-        """The seconds that are left, from the times at which crates ended, and the crates that an earlier run kept."""
-        if kept != self.kept:
-            self.schedule(kept)
-        left = [self.expected[name] for name in self.expected if name not in ended]
-        if not left:
-            return 0.0
-        known = [name for name in ended if name not in kept and self.expected[name]]
-        pace = sum(ended[name] for name in known) / sum(self.expected[name] for name in known) if known else 1.0
-        return max(pace * max(left) - now, 1.0)
+    @property
+    def whole(self) -> float:
+        """The seconds of a build for which no proof is kept."""
+        return self.first_pace * (self.makespan(self.weights) + AFTER_PROOFS)
+
+    def pace(self, took: dict[str, float]) -> float:
+        """The seconds that pass for a second of the weights, from the crates that were proved in this build. The first estimate counts as
+        much as a minute of proofs."""
+        known = sum(self.weights[name] for name in took)
+        return (sum(took.values()) + self.first_pace * FIRST) / (known + FIRST)
+
+    def remaining(self, took: dict[str, float], kept: frozenset[str], running: dict[str, float]) -> float:
+        """The seconds that are left, from those that proved crates took, the crates that an earlier build proved, and the seconds since
+        each running proof began. A proof that takes longer than expected is expected to end soon, but never at once."""
+        pace = self.pace(took)
+        left = {}
+        for name in self.sources.crates:
+            whole = pace * self.weights[name]
+            is_ended = name in took or name in kept
+            left[name] = 0.0 if is_ended else max(whole - running.get(name, 0.0), OVERDUE * whole)
+        return self.makespan(left) + pace * AFTER_PROOFS
 
 
 class Meter:
@@ -72,6 +96,7 @@ class Meter:
     def __init__(self, ancestor: int) -> None:
         self.ancestor = ancestor
         self.seen: dict[tuple[int, str], float] = {}
+        self.began: dict[str, float] = {}
 
     def look(self) -> None:
         """Reads what each process below the ancestor has used so far."""
@@ -85,6 +110,7 @@ class Meter:
             if self.is_below(number, parents):
                 name = crate_of(number)
                 if name:
+                    self.began.setdefault(name, time.monotonic())
                     self.seen[number, name] = used[number] / os.sysconf("SC_CLK_TCK")
 
     def is_below(self, number: int, parents: dict[int, int]) -> bool:

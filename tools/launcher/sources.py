@@ -33,12 +33,21 @@ def toolchain() -> tuple[str, str]:
 
 
 def files_below(folder: Path) -> list[Path]:
-    """Each file at or below the folder, in an order that depends on names alone; none if there is no folder."""
+    """Each file at or below the folder, in an order that depends on names alone; none if there is no folder. There are no links."""
     found: list[Path] = []
+    refuse_link(folder)
     for path, folders, names in os.walk(folder):
         folders.sort()
+        for name in (*folders, *names):
+            refuse_link(Path(path, name))
         found += [Path(path, name) for name in sorted(names)]
     return found
+
+
+def refuse_link(path: Path) -> None:
+    """Refuses a link, since what it leads to can change while the link does not."""
+    if path.is_symlink():
+        raise Failed(f"{path} is a link; each source must be a file in its own folder")
 
 
 class Sources:
@@ -65,7 +74,10 @@ class Sources:
     def digest(self, parts: tuple[str, ...] = WHOLE) -> str:
         """A digest of the contents of these parts of the crates, and of the files that list dependencies."""
         found = [self.top / name for name in LISTS]
+        for path in (*found, self.top / "crates"):
+            refuse_link(path)
         for crate in sorted(self.crates):
+            refuse_link(self.top / "crates" / crate)
             for part in parts:
                 found += files_below(self.top / "crates" / crate / part)
         total = hashlib.sha256()
@@ -82,7 +94,7 @@ class Sources:
     def watched(self) -> list[Path]:
         """Each file and folder whose state changes when a source changes, is new or is gone, as paths below the top."""
         folders = [self.top / "crates" / crate / part for crate in self.crates for part in WHOLE]
-        found = [self.top / name for name in (*LISTS, *(f"crates/{crate}" for crate in self.crates))]
+        found = [self.top / name for name in (*LISTS, "crates", *(f"crates/{crate}" for crate in self.crates))]
         for folder in folders:
             for path, _, names in os.walk(folder):
                 found += [Path(path), *(Path(path, name) for name in names)]
@@ -90,6 +102,7 @@ class Sources:
 
     def commit(self) -> str:
         """The commit of the clone, with `with changes` after it if files differ from it; `unknown` outside a clone."""
+
         def git(*words: str) -> str:
             ran = subprocess.run(["git", "-C", str(self.top), *words], capture_output=True, text=True, check=True)
             return ran.stdout.strip()

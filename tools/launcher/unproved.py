@@ -49,7 +49,7 @@ def running(words: list[str], folder: Path) -> Path | None:
     for process in Path("/proc").iterdir():
         with contextlib.suppress(OSError):
             given = [os.fsdecode(word) for word in (process / "cmdline").read_bytes().split(b"\0")[:-1]]
-            before, after = given[:-len(words)], given[-len(words):]
+            before, after = given[: -len(words)], given[-len(words) :]
             if before and after == words and folder in Path(before[-1]).parents and os.access(before[-1], os.X_OK):
                 return Path(before[-1])
     return None
@@ -65,8 +65,14 @@ def make(rt: str, sources: Sources, kept: Kept, toolchain: str) -> None:
         log = Path(room, "log")
         with log.open("wb") as said:
             tried = subprocess.Popen(
-                [rt, "try", "--data", f"{words[1]}={endless}", "--", *words], cwd=sources.program_folder, stdin=subprocess.DEVNULL,
-                stdout=said, stderr=said, env={**os.environ, "TMPDIR": room}, start_new_session=True)
+                [rt, "try", "--data", f"{words[1]}={endless}", "--", *words],
+                cwd=sources.program_folder,
+                stdin=subprocess.DEVNULL,
+                stdout=said,
+                stderr=said,
+                env={**os.environ, "TMPDIR": room},
+                start_new_session=True,
+            )
             try:
                 copy = copy_of(tried, words, Path(room, "program"))
             finally:

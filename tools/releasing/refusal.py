@@ -1,0 +1,5 @@
+"""Why no release is made."""
+
+
+class Refused(Exception):
+    """A reason, as one line for the user."""

@@ -24,7 +24,9 @@ import texts  # noqa: E402
 
 def assembles(text: str) -> str:
     """What LLVM's assembler says of a text; nothing where it takes it."""
-    done = subprocess.run(["llvm-as-19", "-o", "/dev/null", "-"], input=text, capture_output=True, text=True, check=False)
+    done = subprocess.run(
+        ["llvm-as-19", "-o", "/dev/null", "-"], input=text, capture_output=True, text=True, check=False
+    )
     return done.stderr
 
 
@@ -43,7 +45,12 @@ class Programs(unittest.TestCase):
                     self.assertEqual(assembles(shape.text(size)), "")
 
     def test_the_other_programs(self) -> None:
-        for text in (shapes.calls_with_block(3, 100), shapes.asserts_over_region(128), shapes.untouched_region(64), shapes.turns(3)):
+        for text in (
+            shapes.calls_with_block(3, 100),
+            shapes.asserts_over_region(128),
+            shapes.untouched_region(64),
+            shapes.turns(3),
+        ):
             self.assertEqual(assembles(text), "")
 
     def test_texts_of_a_form(self) -> None:
@@ -95,7 +102,9 @@ class Command(unittest.TestCase):
 
     def refused(self, *words: str) -> str:
         """What the command writes to standard error, with nothing on standard output."""
-        ran = subprocess.run([sys.executable, "-B", str(TOP / "bench" / "figures"), *words], capture_output=True, text=True, check=False)
+        ran = subprocess.run(
+            [sys.executable, "-B", str(TOP / "bench" / "figures"), *words], capture_output=True, text=True, check=False
+        )
         self.assertNotEqual(ran.returncode, 0)
         self.assertEqual(ran.stdout, "")
         self.assertNotIn("Traceback", ran.stderr)
@@ -109,7 +118,9 @@ class Command(unittest.TestCase):
 
     def test_what_is_not_a_program(self) -> None:
         for program in ("/nowhere/hippo", str(TOP)):
-            self.assertEqual(self.refused("--program", program), f"bench: {program} is not a program (./hippo --build builds it)\n")
+            self.assertEqual(
+                self.refused("--program", program), f"bench: {program} is not a program (./hippo --build builds it)\n"
+            )
 
 
 class Figures(unittest.TestCase):
@@ -142,7 +153,9 @@ class Figures(unittest.TestCase):
         self.assertRegex(out.getvalue(), "^a figure .* missed .*false of this ended with code 1")
 
     def test_a_command_has_its_input_and_its_code(self) -> None:
-        self.assertGreaterEqual(measuring.spent(measuring.Command(("sh", "-c", "read a; exit $a"), code=3, input=self.three())), 0)
+        self.assertGreaterEqual(
+            measuring.spent(measuring.Command(("sh", "-c", "read a; exit $a"), code=3, input=self.three())), 0
+        )
 
     def three(self) -> str:
         """A file with the number 3."""

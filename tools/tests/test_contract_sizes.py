@@ -126,8 +126,11 @@ class Command(unittest.TestCase):
         self.assertEqual((code, out, notes), (2, "", "contract_sizes: no such folder: /nowhere/crates\n"))
 
     def test_a_source_that_cannot_be_read_is_refused_with_its_file(self) -> None:
-        for source, reason in ((b"fn cut() {\n    0\n", "line 1: a function without an end"), (b"\n\nfn cut(", "line 3: a function without an end"),
-                               (b"// \xff\n", "can't decode byte 0xff")):
+        for source, reason in (
+            (b"fn cut() {\n    0\n", "line 1: a function without an end"),
+            (b"\n\nfn cut(", "line 3: a function without an end"),
+            (b"// \xff\n", "can't decode byte 0xff"),
+        ):
             with self.subTest(source), tempfile.TemporaryDirectory() as room:
                 file = Path(room, "low", "src", "lib.rt")
                 file.parent.mkdir(parents=True)

@@ -12,7 +12,7 @@ import time
 import unittest
 from typing import Any, Callable
 
-from launcher_repository import RT, TOP, Repository, small_files
+from launcher_repository import LONG, RT, TOP, Repository, small_files
 
 
 class Proved(Repository):
@@ -33,11 +33,16 @@ class Proved(Repository):
         return True
 
     def test_build_tells_how_far_it_is(self) -> None:
-        (self.kit / "waits").touch()
-        lines = self.lines(self.build("--jobs", "1"))
-        self.assertRegex(lines[0], "proving 2 crates, 1 side by side.* about 3 minutes")
-        self.assertRegex(lines[1], r"1 of 2 crates proved, \d s so far, about .* left")
-        self.assertRegex(lines[-2], "2 of 2 crates proved")
+        self.hold("hippo")
+        ran = self.start("--build", "--jobs", "1")
+        lines = [ran.stderr.readline()]
+        while "1 of 2 crates proved" not in lines[-1] and lines[-1]:
+            lines.append(ran.stderr.readline())
+        self.release("hippo")
+        lines += ran.communicate(timeout=LONG)[1].splitlines()
+        self.assertRegex(lines[0], "proving 2 crates, 1 side by side.* about [0-9]+ minutes")
+        self.assertRegex(lines[1], r"1 of 2 crates proved, .* so far, about .* left")
+        self.assertRegex(lines[-2], "all crates proved, the program is compiled and tried, .* so far, about .* left")
         self.assertRegex(lines[-1], "proved and built in .*out/hippo")
 
     def test_answers_alone_once_built(self) -> None:
@@ -78,6 +83,15 @@ class Proved(Repository):
         self.assertTrue(self.is_proved())
         (self.top / "crates" / "hip_low" / "specs" / "lib").unlink()
         self.assertFalse(self.is_proved())
+
+    def test_sees_a_file_with_another_name(self) -> None:
+        self.build()
+        self.assertTrue(self.is_proved())
+        specs = self.top / "crates" / "hip_low" / "specs"
+        (specs / "lib").rename(specs / "lid")
+        self.assertFalse(self.is_proved())
+        (specs / "lid").rename(specs / "lib")
+        self.assertTrue(self.is_proved())
 
     def test_goes_by_contents_and_not_by_times(self) -> None:
         self.build()
@@ -121,29 +135,27 @@ class Proved(Repository):
         self.assertFalse((self.top / "out" / "hippo").exists())
 
     def test_an_interrupt_ends_the_proofs(self) -> None:
-        (self.kit / "slow").touch()
-        command = [str(self.top / "hippo"), "--build"]
-        ran = subprocess.Popen(command, cwd=self.work, env=self.environment(), stderr=subprocess.PIPE, text=True)
+        self.hold("hip_low")
+        ran = self.start("--build")
         self.assertIn("proving 2 crates", ran.stderr.readline())
         self.wait_for(lambda: self.calls("ci") == 1)
         ran.send_signal(signal.SIGINT)
-        said = ran.communicate(timeout=30)[1]
+        said = ran.communicate(timeout=LONG)[1]
         self.assertEqual(ran.returncode, 130)
         self.assertIn("interrupted; 0 of 2 crates are proved and kept", said)
 
     def test_an_interrupt_leaves_no_program_and_the_next_build_goes_on(self) -> None:
-        (self.kit / "rt").write_text(RT.replace("mkdir -p crates", '[ -e "$here/holds" ] && sleep 20; mkdir -p crates'))
         for number, code in ((signal.SIGTERM, 128 + signal.SIGTERM), (signal.SIGKILL, -signal.SIGKILL)):
-            (self.kit / "holds").touch()
+            self.hold("hippo")
             before = self.calls("ci")
-            command = [str(self.top / "hippo"), "--build"]
-            ran = subprocess.Popen(command, cwd=self.work, env=self.environment(), stderr=subprocess.DEVNULL)
+            ran = self.start("--build")
             self.wait_for(lambda: self.calls("ci") == before + 1)
             ran.send_signal(number)
-            self.assertEqual(ran.wait(timeout=30), code)
+            ran.communicate(timeout=LONG)
+            self.assertEqual(ran.returncode, code)
             self.assertFalse((self.top / "out" / "hippo").exists())
             self.assertEqual(self.hippo("repair", "/dev/null").returncode, 3)
-            (self.kit / "holds").unlink()
+            self.release("hippo")
         self.build()
         self.assertTrue(self.is_proved())
 
@@ -173,14 +185,15 @@ class Proved(Repository):
             self.fails(self.hippo("--build"), "hippo: tools/crate_weights.txt: ")
 
     def test_a_second_build_waits_for_the_first(self) -> None:
-        (self.kit / "waits").touch()
-        command = [str(self.top / "hippo"), "--build"]
-        first = subprocess.Popen(command, cwd=self.work, env=self.environment(), stderr=subprocess.DEVNULL)
+        self.hold("hip_low")
+        first = self.start("--build")
         self.wait_for(lambda: self.calls("ci") == 1)
-        second = self.lines(self.build())
-        self.assertEqual(first.wait(timeout=60), 0)
-        self.assertRegex(second[0], rf"another --build \(process {first.pid}\).*waiting")
-        self.assertRegex(second[1], "is proved and built")
+        second = self.start("--build")
+        self.assertRegex(second.stderr.readline(), rf"another --build \(process {first.pid}\).*waiting")
+        self.release("hip_low")
+        first.communicate(timeout=LONG)
+        self.assertEqual(first.returncode, 0)
+        self.assertRegex(second.communicate(timeout=LONG)[1], "is proved and built")
         self.assertEqual(self.calls("ci"), 1)
 
     def test_build_says_that_it_waits_for_another_proof(self) -> None:
@@ -191,14 +204,21 @@ class Proved(Repository):
         (self.top / "crates" / "hippo" / "must-fail").mkdir()
         (self.top / "crates" / "hippo" / "out").mkdir()
         (self.top / "crates" / "hippo" / "stdout").write_text("proved\n")
-        (self.kit / "rt").write_text(RT.replace("mkdir -p crates", 'ls . crates crates/hippo >"$here/copied"; cat crates.txt >>"$here/copied"; mkdir -p crates'))
+        (self.kit / "rt").write_text(
+            RT.replace(
+                "mkdir -p crates",
+                'ls . crates crates/hippo >"$here/copied"; cat crates.txt >>"$here/copied"; mkdir -p crates',
+            )
+        )
         self.build()
         found = (self.kit / "copied").read_text().split("\n\n")
         self.assertEqual(found[1], "crates:\nhip_low\nhippo")
         self.assertEqual(found[2], "crates/hippo:\nspecs\nsrc\nstdout\nhip_low:\nhippo: hip_low\n")
 
     def test_a_change_during_the_build_is_seen(self) -> None:
-        (self.kit / "rt").write_text(RT.replace("mkdir -p crates", f"echo more >>{self.top}/crates/hippo/src/lib; mkdir -p crates"))
+        (self.kit / "rt").write_text(
+            RT.replace("mkdir -p crates", f"echo more >>{self.top}/crates/hippo/src/lib; mkdir -p crates")
+        )
         self.fails(self.hippo("--build"), "a source changed meanwhile")
         self.assertFalse((self.top / "out" / "hippo").exists())
 
@@ -206,9 +226,23 @@ class Proved(Repository):
         self.build("--write-weights")
         self.assertEqual((self.top / "tools" / "crate_weights.txt").read_text(), "# Seconds.\nhip_low 60\nhippo 120\n")
 
+    def start(self, *words: str) -> subprocess.Popen:
+        """Starts the launcher; its lines come by a pipe."""
+        return subprocess.Popen(
+            [str(self.top / "hippo"), *words], cwd=self.work, env=self.environment(), stderr=subprocess.PIPE, text=True
+        )
+
+    def hold(self, crate: str) -> None:
+        """Lets the proof of a crate wait until it is released."""
+        (self.kit / f"holds-{crate}").touch()
+
+    def release(self, crate: str) -> None:
+        """Lets the proof of a crate go on."""
+        (self.kit / f"holds-{crate}").unlink()
+
     def wait_for(self, holds: Callable[[], bool]) -> None:
         """Waits until a condition holds."""
-        until = time.monotonic() + 60
+        until = time.monotonic() + LONG
         while not holds():
             self.assertLess(time.monotonic(), until)
             time.sleep(0.05)
@@ -220,7 +254,7 @@ class Gate(Repository):
     def keep(self) -> subprocess.CompletedProcess:
         """Does what the gate does at its end."""
         command = [sys.executable, "-B", str(self.top / "tools" / "launcher" / "gate.py")]
-        return subprocess.run(command, env=self.environment(), capture_output=True, text=True, timeout=120)
+        return subprocess.run(command, env=self.environment(), capture_output=True, text=True, timeout=LONG)
 
     def prove(self) -> None:
         """Makes the program as `rt ci` does."""
@@ -241,50 +275,6 @@ class Gate(Repository):
 
     def test_is_not_kept_where_there_is_none(self) -> None:
         self.assertEqual(self.keep().returncode, 2)
-
-
-class Words(Repository):
-    """The words that the launcher answers itself, and the program that the caller names."""
-
-    def test_help_is_on_standard_output(self) -> None:
-        ran = self.hippo("--help")
-        self.assertEqual((ran.returncode, ran.stderr), (0, ""))
-        for command in ("run", "record", "check", "repair", "rerun", "many", "crash", "thin", "demo"):
-            self.assertRegex(ran.stdout, rf"(?m)^  {command} .* hippo {command} ")
-
-    def test_version_says_whether_the_program_is_proved(self) -> None:
-        version = (TOP / "VERSION").read_text().strip()
-        before = self.hippo("--version").stdout
-        self.assertEqual(before, f"hippo {version}\ncommit: unknown\ntoolchain: kit of tests\nproved: no, ./hippo --build proves it\n")
-        self.hippo("--build")
-        self.assertRegex(self.hippo("--version").stdout, r"(?m)^proved: yes, \d{4}-.* UTC, by kit of tests$")
-        self.change("crates/hippo/src/lib")
-        self.assertRegex(self.hippo("--version").stdout, "(?m)^proved: no, a source changed")
-
-    def test_other_words_of_build_are_refused(self) -> None:
-        for words in (["more"], ["--jobs", "0"], ["--jobs", "x"]):
-            ran = self.hippo("--build", *words)
-            self.assertEqual((ran.returncode, ran.stdout), (2, ""))
-        self.assertEqual(self.calls("ci"), 0)
-
-    def test_runs_the_program_that_is_named(self) -> None:
-        ran = self.hippo("a b", more={"HIPPO_PROGRAM": "/bin/echo"})
-        self.assertEqual((ran.returncode, ran.stdout, ran.stderr), (0, "a b\n", ""))
-        (self.work / "echo").symlink_to("/bin/echo")
-        self.assertEqual(self.hippo("a", more={"HIPPO_PROGRAM": "echo"}).stdout, "a\n")
-        self.fails(self.hippo("x", more={"HIPPO_PROGRAM": str(self.work)}), re.escape(f"names no program: {self.work}"))
-
-    def test_runs_a_launcher_that_is_named(self) -> None:
-        self.hippo("--build")
-        plain, ran = self.hippo("a b"), self.hippo("a b", more={"HIPPO_PROGRAM": str(self.top / "hippo")})
-        self.assertEqual((ran.returncode, ran.stdout, ran.stderr), (plain.returncode, plain.stdout, plain.stderr))
-        self.assertEqual(ran.stdout, "proved a b\n")
-
-    def test_runs_through_a_link_and_by_a_relative_path(self) -> None:
-        self.hippo("--build")
-        (self.room / "link").symlink_to(self.top / "hippo")
-        for script in (self.room / "link", "../clone/hippo"):
-            self.assertEqual(self.hippo("run", script=script).stdout, "proved run\n")
 
 
 if __name__ == "__main__":

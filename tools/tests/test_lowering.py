@@ -1,129 +1,77 @@
 #!/usr/bin/env python3
-"""Each C program in `lowering/` prints, lowered at each level, what clang's own build of it prints.
-
-Clang builds the lowered text, with the linkage that C gave its names, and hippo runs it, if it is built: out/hippo, or the
-program that HIPPO_PROGRAM names. Comments of a program give what differs from the defaults: `// input: NUMBERS`,
-`// options: WORDS` of tools/lower, `// arguments: WORDS` of main, `// files: FILES` beside it, `// native: LEVEL` of clang's
-own build, and `// levels: LEVELS`."""
+"""Each C program in `lowering/` prints, lowered at each level, what clang's own build of it prints (`comparing.py`)."""
 import glob
 import os
-import re
-import subprocess
 import sys
 import unittest
-from concurrent.futures import ThreadPoolExecutor
 
-from clang_case import HIPPO, TESTS, TOOLS, ClangCase
+from clang_case import HIPPO, TESTS, TOOLS
+from comparing import Comparing, output_of
 
-LEVELS = '-O0 -O1 -O2 -O3'
-NATIVE = ['clang-19', '-w', '-fwrapv', '-fno-strict-aliasing', '-mclwb', '-mclflushopt', f'-I{TOOLS}']
-EXTERNALS = os.path.join(TOOLS, 'external_functions.c')
-
-ENDS = '''#include <hippo.h>
+ENDS = """#include <hippo.h>
 #include <stdlib.h>
 PERSISTENT static long long number;
 PERSISTENT static _Alignas(64) long long flushed;
 static void last(void) { pmem_persist(&flushed, sizeof flushed); }
 static void stop(int code) { number = code; exit(code); }
 int main(void) { flushed = 3; atexit(last); stop(2); return 0; }
-'''
+"""
+
+WIDE = """#include <hippo.h>
+#include <emmintrin.h>
+PERSISTENT static __m128i wide;
+int main(void) {
+  __m128i bytes = _mm_set1_epi8((char)read_i64());
+  _mm_store_si128(&wide, _mm_add_epi8(bytes, _mm_set1_epi8((char)read_i64())));
+  return 0;
+}
+"""
 
 
-def output_of(command: list[str], text: str = '') -> tuple[int, str, str]:
-    """The exit code of a command, and what it writes."""
-    done = subprocess.run(command, input=text, capture_output=True, encoding='latin-1', timeout=120, check=False)
-    return done.returncode, done.stdout, done.stderr
-
-
-def given(source: str, word: str, default: str = '') -> list[str]:
-    """The words of a comment of a program."""
-    found = re.search(rf'^// {word}: (.*)$', source, re.M)
-    return (found[1] if found else default).split()
-
-
-class Lowered(ClangCase):
+class Lowered(Comparing):
     """One test for each program and level."""
 
-    def built(self, files: list[str], name: str, level: str = '-O1') -> str:
-        """A program that clang builds, with hippo's external functions."""
-        program = os.path.join(self.folder, name)
-        code, _, errors = output_of([*NATIVE, level, '-o', program, *files, EXTERNALS, '-lpthread'])
-        self.assertEqual(code, 0, errors)
-        return program
-
     def test_exit_below_main(self) -> None:
-        """`exit` below main runs what atexit was given, checks the region, and traps."""
+        """`exit` below main runs what atexit was given, and ends the run by a return of main, which checks the region."""
         if not os.access(HIPPO, os.X_OK):
-            self.skipTest('hippo is not built')
-        source, lowered = (os.path.join(self.folder, f'ends.{end}') for end in ('c', 'll'))
-        with open(source, 'w', encoding='utf-8') as file:
+            self.skipTest("hippo is not built")
+        source, lowered = (os.path.join(self.folder, f"ends.{end}") for end in ("c", "ll"))
+        with open(source, "w", encoding="utf-8") as file:
             file.write(ENDS)
-        code, text, errors = output_of([os.path.join(TOOLS, 'lower'), source])
+        code, text, errors = output_of([os.path.join(TOOLS, "lower"), source])
         self.assertEqual(code, 0, errors)
-        with open(lowered, 'w', encoding='latin-1') as file:
+        with open(lowered, "w", encoding="latin-1") as file:
             file.write(text)
-        code, trace, errors = output_of([HIPPO, 'record', lowered])
-        self.assertEqual((code, errors), (9, 'trap unreachable\n'))
-        self.assertEqual([entry.split(';')[0] for entry in trace.split()[2:]],
-                         ['STORE', 'STORE', 'PERSIST', 'ASSERT', 'ASSERT', 'TRAP'])
+        code, trace, errors = output_of([HIPPO, "record", lowered])
+        self.assertEqual((code, errors), (0, "stop 2\n"))
+        self.assertEqual([entry.split(";")[0] for entry in trace.split()[2:]], ["STORE", "STORE", "PERSIST", "STOP"])
 
-    def compare(self, file: str) -> None:
-        """A program's output natively, and lowered at each level."""
-        with open(file, encoding='utf-8') as text:
-            source = text.read()
-        name = os.path.splitext(os.path.basename(file))[0]
-        numbers, arguments = given(source, 'input', '0 1 2 3'), given(source, 'arguments')
-        more = [os.path.join(os.path.dirname(file), word) for word in given(source, 'files')]
-        native = self.built([file, *more], name, *given(source, 'native'))
-        code, wanted, _ = output_of([native, *arguments], '\n'.join(numbers))
-        self.assertNotEqual(wanted, '', f'{name} prints nothing')
-        options = [*given(source, 'options'), *(['--args', *arguments] if arguments else [])]
-
-        def at_level(level: str) -> list[str]:
-            """What is wrong at a level."""
-            return self.differences(name, [level, file, *more, *options], numbers, (code, wanted))
-        with ThreadPoolExecutor(4) as workers:
-            found = list(workers.map(at_level, given(source, 'levels', LEVELS)))
-        self.assertEqual([line for lines in found for line in lines], [])
-
-    def differences(self, name: str, words: list[str], numbers: list[str], wanted: tuple[int, str]) -> list[str]:
-        """What is wrong with a program that is lowered with these words."""
-        lowered = os.path.join(self.folder, f'{name}{words[0]}.ll')
-        public = f'{lowered}.public'
-        code, text, errors = output_of([os.path.join(TOOLS, 'lower'), '--public', public, *words])
-        if code:
-            return [f'{words[0]}: {errors}']
-        with open(lowered, 'w', encoding='latin-1') as file:
-            file.write(text)
-        output_of(['opt-19', '-mtriple=x86_64-pc-linux-gnu', '-passes=internalize',
-                   f'-internalize-public-api-file={public}', '-o', f'{lowered}.bc', lowered])
-        program = self.built([f'{lowered}.bc'], f'{name}{words[0]}')
-        code, printed, errors = output_of([program], '\n'.join(numbers))
-        found = []
-        if (code, printed) != wanted:
-            found.append(f'{words[0]}: built: {code} {first_difference(printed, wanted[1])}')
-        if os.access(HIPPO, os.X_OK):
-            code, printed, errors = output_of([HIPPO, 'run', lowered, *numbers])
-            if printed != wanted[1] or errors.split()[-2:] != ['stop', str(wanted[0])]:
-                found.append(f'{words[0]}: hippo: {errors.strip()} {first_difference(printed, wanted[1])}')
-        return found
-
-
-def first_difference(got: str, wanted: str) -> str:
-    """The first lines that differ."""
-    for number, (one, other) in enumerate(zip([*got.split('\n'), 'END'], [*wanted.split('\n'), 'END']), 1):
-        if one != other:
-            return f'line {number}: {one} where {other} is expected'
-    return ''
+    def test_a_vector_is_stored_in_words(self) -> None:
+        """A store of 16 bytes is two of 8 in the trace, at each level, so a crash image has each of its words whole or not at all."""
+        if not os.access(HIPPO, os.X_OK):
+            self.skipTest("hippo is not built")
+        source, lowered = (os.path.join(self.folder, f"wide.{end}") for end in ("c", "ll"))
+        with open(source, "w", encoding="utf-8") as file:
+            file.write(WIDE)
+        for level in ("-O0", "-O2"):
+            code, text, errors = output_of([os.path.join(TOOLS, "lower"), level, source])
+            self.assertEqual(code, 0, errors)
+            with open(lowered, "w", encoding="latin-1") as file:
+                file.write(text)
+            code, trace, errors = output_of([HIPPO, "record", lowered, "1", "2"])
+            self.assertEqual(code, 0, errors)
+            self.assertEqual(
+                [entry.split(";")[3] for entry in trace.split() if entry.startswith("STORE")], ["0x8", "0x8"]
+            )
 
 
 def add_tests() -> None:
     """A test for each program."""
-    for file in sorted(glob.glob(os.path.join(TESTS, 'lowering', '*.c'))):
+    for file in sorted(glob.glob(os.path.join(TESTS, "lowering", "*.c"))):
         name = os.path.splitext(os.path.basename(file))[0]
-        setattr(Lowered, f'test_{name}', lambda self, file=file: self.compare(file))
+        setattr(Lowered, f"test_{name}", lambda self, file=file: self.compare(file))
 
 
 add_tests()
-if __name__ == '__main__':
+if __name__ == "__main__":
     sys.exit(unittest.main())

@@ -9,115 +9,258 @@ from clang_case import TOOLS, ClangCase
 
 # The reason with its place, the advice, and the C after `#include <hippo.h>`.
 REFUSED = {
-    'float': ('bad.c:3: the type double', 'integers',
-              'double half(double x);\nint main(void) { return (int)half(3.0); }'),
-    'float_parameter': ('bad.c:2: the type float', 'integers', 'float half(float x) { return x / 2; }\n'
-                        'int main(void) { return (int)half((float)read_i64()); }'),
-    'float_data': ('bad.c:2: the type double', 'integers',
-                   'double d = 2;\nint main(void) { return (int)*(volatile long *)&d; }'),
-    'vector': ("bad.c:3: the instruction 'insertelement'", 'scalars', 'PERSISTENT long long v[2];\n'
-               'int main(void) { _mm_store_si128((__m128i *)v, _mm_set1_epi64x(read_i64())); return 0; }'),
-    'width': ('bad.c:3: mul of i256', 'integers up to 128 bits',
-              '_BitInt(256) n;\nint main(void) { n = n * 3; return (int)n; }'),
-    'atomic': ('bad.c:3: an atomic access', '--single-thread',
-               'long long n;\nint main(void) { return (int)__atomic_load_n(&n, __ATOMIC_ACQUIRE); }'),
-    'exchange': ('bad.c:3: an atomic access', '--single-thread',
-                 'long long n;\nint main(void) { return (int)__atomic_exchange_n(&n, 3, __ATOMIC_ACQUIRE); }'),
-    'thread': ('bad.c:2: thread_local', '--single-thread',
-               '_Thread_local long long n;\nint main(void) { return (int)n++; }'),
-    'fence': ('bad.c:2: a fence between threads', '--single-thread',
-              'int main(void) { __atomic_thread_fence(__ATOMIC_SEQ_CST); return 0; }'),
-    'missing_function': ('bad.c:3: the function @open_pool is not in the program', 'add the C file',
-                         'int open_pool(void);\nint main(void) { return open_pool(); }'),
-    'missing_variable': ('the variable @state is not in the program', 'add the C file',
-                         'extern int state;\nint main(void) { return state; }'),
-    'output': ('bad.c:3: the function @puts: give --ignore-output or --print-numbers', 'if its assumption holds for the program',
-               'int puts(const char *);\nint main(void) { return puts("a"); }'),
-    'threads': ('bad.c:3: the function @pthread_mutex_lock: give --single-thread', 'if its assumption holds for the program',
-                'int pthread_mutex_lock(void *);\nint main(void) { return pthread_mutex_lock(0); }'),
-    'longjmp': ('bad.c:3: the function @longjmp: a jump out of a call', 'error code',
-                'void longjmp(void *, int);\nint main(void) { longjmp(0, 1); return 0; }'),
-    'mismatch': ('a call of @f with another type than its own', 'its own type',
-                 'static int f(int *a, int b) { return *a + b; }\nint main(void) { return ((int (*)(int))f)(1); }'),
-    'known': ('@print_i64 is an external function of hippo', 'declare the function',
-              'long long last;\nvoid print_i64(long long n) { last = n; }\nint main(void) { print_i64(3); return 0; }'),
-    'assembly': ("bad.c:2: inline assembly 'cpuid'", '<immintrin.h>',
-                 'int main(void) { __asm__ volatile("cpuid" ::: "eax", "ebx", "ecx", "edx"); return 0; }'),
-    'assembly_outside': ('inline assembly outside of functions', '<immintrin.h>',
-                         '__asm__(".globl other\\nother: ret");\nint main(void) { return 0; }'),
-    'nontemporal': ('bad.c:3: a non-temporal access', '--non-temporal',
-                    'PERSISTENT long long n;\nint main(void) { _mm_stream_si64(&n, 3); return 0; }'),
-    'array': ('an array whose length is not constant', '--array-bound',
-              'int main(void) { long long n = read_i64(); char a[n]; pm_assert(a, 1); return 0; }'),
-    'main': ('bad.c:2: main uses its parameters', '--args',
-             'int main(int argc, char **argv) { (void)argv; return argc; }'),
-    'address': ('bad.c:3: an address in a field', 'at the start of main',
-                'char a[4];\nstruct __attribute__((packed)) { char c; char *where; } b = {1, a};\n'
-                'int main(void) { return *b.where; }'),
-    'alignment': ('align 8192: at most 4096', 'this limit',
-                  '_Alignas(8192) char a[8];\nint main(void) { return a[1]++; }'),
+    "long_double": (
+        "bad.c:2: fmul of long double",
+        "float or double",
+        "long double twice(long double x) { return x * 2; }\nint main(void) { return twice(3.0L) == 6.0L; }",
+    ),
+    "long_double_integer": (
+        "bad.c:2: sitofp to long double",
+        "float or double",
+        "int main(void) { volatile long double x = read_i64(); return sizeof x; }",
+    ),
+    "half": (
+        "bad.c:2: fmul of _Float16",
+        "float or double",
+        "static _Float16 twice(_Float16 x) { return x * 2; }\n"
+        "int main(void) { volatile _Float16 x = 3.0; x = twice(x); return 0; }",
+    ),
+    "quadruple": (
+        "bad.c:3: fadd of __float128",
+        "float or double",
+        "__float128 q = 1;\nint main(void) { q += 2; return 0; }",
+    ),
+    "wide_float": (
+        "bad.c:3: sitofp of i128",
+        "float or double",
+        "__int128 q = 1;\nint main(void) { return (int)((double)q / 3); }",
+    ),
+    "logarithm": (
+        "bad.c:2: the intrinsic @llvm.log.f64",
+        "float or double",
+        "int main(void) { return __builtin_elementwise_log((double)read_i64()) > 3; }",
+    ),
+    "power": (
+        "bad.c:3: the function @pow is not in the program",
+        "add the C file",
+        "double pow(double, double);\nint main(void) { return pow((double)read_i64(), 0.3) > 3; }",
+    ),
+    "vector": (
+        "bad.c:4: the intrinsic @llvm.x86.sse2.psll.w",
+        "SSE2",
+        "PERSISTENT __m128i v;\nint main(void) {\n"
+        "  v = _mm_sll_epi16(v, _mm_set1_epi64x(read_i64()));\n  return 0;\n}",
+    ),
+    "width": (
+        "bad.c:3: mul of i256",
+        "integers up to 128 bits",
+        "_BitInt(256) n;\nint main(void) { n = n * 3; return (int)n; }",
+    ),
+    "atomic": (
+        "bad.c:3: an atomic access",
+        "--single-thread",
+        "long long n;\nint main(void) { return (int)__atomic_load_n(&n, __ATOMIC_ACQUIRE); }",
+    ),
+    "exchange": (
+        "bad.c:3: an atomic access",
+        "--single-thread",
+        "long long n;\nint main(void) { return (int)__atomic_exchange_n(&n, 3, __ATOMIC_ACQUIRE); }",
+    ),
+    "thread": (
+        "bad.c:2: thread_local",
+        "--single-thread",
+        "_Thread_local long long n;\nint main(void) { return (int)n++; }",
+    ),
+    "fence": (
+        "bad.c:2: a fence between threads",
+        "--single-thread",
+        "int main(void) { __atomic_thread_fence(__ATOMIC_SEQ_CST); return 0; }",
+    ),
+    "missing_function": (
+        "bad.c:3: the function @open_pool is not in the program",
+        "add the C file",
+        "int open_pool(void);\nint main(void) { return open_pool(); }",
+    ),
+    "missing_variable": (
+        "the variable @state is not in the program",
+        "add the C file",
+        "extern int state;\nint main(void) { return state; }",
+    ),
+    "output": (
+        "bad.c:3: the function @puts: give --ignore-output or --print-numbers",
+        "if its assumption holds for the program",
+        'int puts(const char *);\nint main(void) { return puts("a"); }',
+    ),
+    "threads": (
+        "bad.c:3: the function @pthread_mutex_lock: give --single-thread",
+        "if its assumption holds for the program",
+        "int pthread_mutex_lock(void *);\nint main(void) { return pthread_mutex_lock(0); }",
+    ),
+    "mismatch": (
+        "a call of @f with another type than its own",
+        "its own type",
+        "static int f(int *a, int b) { return *a + b; }\nint main(void) { return ((int (*)(int))f)(1); }",
+    ),
+    "known": (
+        "@print_i64 is an external function of hippo",
+        "declare the function",
+        "long long last;\nvoid print_i64(long long n) { last = n; }\nint main(void) { print_i64(3); return 0; }",
+    ),
+    "assembly": (
+        "bad.c:2: inline assembly 'cpuid'",
+        "<immintrin.h>",
+        'int main(void) { __asm__ volatile("cpuid" ::: "eax", "ebx", "ecx", "edx"); return 0; }',
+    ),
+    "assembly_outside": (
+        "inline assembly outside of functions",
+        "<immintrin.h>",
+        '__asm__(".globl other\\nother: ret");\nint main(void) { return 0; }',
+    ),
+    "nontemporal": (
+        "bad.c:3: a non-temporal access",
+        "--non-temporal",
+        "PERSISTENT long long n;\nint main(void) { _mm_stream_si64(&n, 3); return 0; }",
+    ),
+    "array": (
+        "an array whose length is not constant",
+        "--array-bound",
+        "int main(void) { long long n = read_i64(); char a[n]; pm_assert(a, 1); return 0; }",
+    ),
+    "main": (
+        "bad.c:2: main uses its parameters",
+        "--args",
+        "int main(int argc, char **argv) { (void)argv; return argc; }",
+    ),
+    "main_type": (
+        "bad.c:3: main has another result than int",
+        "int main",
+        '#pragma clang diagnostic ignored "-Wmain-return-type"\nvoid main(void) { print_i64(3); }',
+    ),
+    "main_called": (
+        "bad.c:2: a call of main",
+        "another name",
+        "int main(void) { if (read_i64()) print_i64(main()); return 3; }",
+    ),
+    "main_address": (
+        "bad.c:2: the address of main",
+        "another name",
+        "int main(void) { int (*volatile f)(void) = main; return read_i64() ? f() : 3; }",
+    ),
+    "main_in_data": (
+        "the address of main",
+        "another name",
+        "int main(void);\nint (*table[2])(void) = {main, main};\nint main(void) { return table[read_i64()](); }",
+    ),
+    "section": (
+        'bad.c:2: section ".pmem": by its name it is persistent, and only section ".pm" is',
+        "PERSISTENT",
+        '__attribute__((section(".pmem"))) long x;\nint main(void) { x = 1; _mm_clwb(&x); _mm_sfence(); return 0; }',
+    ),
+    "section_with_a_part": (
+        'bad.c:2: section ".pm.log"',
+        "PERSISTENT",
+        '__attribute__((section(".pm.log"), used)) static long x;\nint main(void) { return 0; }',
+    ),
+    "section_that_nothing_reads": (
+        'bad.c:3: section "my_persistent_data"',
+        "PERSISTENT",
+        'PERSISTENT long y;\n__attribute__((section("my_persistent_data"))) long x;\nint main(void) { y = 1; return 0; }',
+    ),
+    "section_by_a_pragma": (
+        'bad.c:4: section ".pm" by a pragma',
+        "PERSISTENT",
+        '#pragma clang section bss=".pm"\n\nlong x;\n#pragma clang section bss=""\nint main(void) { x = 1; return 0; }',
+    ),
+    "section_in_capitals": (
+        'bad.c:2: section "PM"',
+        "PERSISTENT",
+        '__attribute__((section("PM"))) long x;\nint main(void) { x = 1; return 0; }',
+    ),
+    "section_of_another_memory": (
+        'bad.c:2: section ".nvram"',
+        "PERSISTENT",
+        '__attribute__((section(".nvram"))) long x;\nint main(void) { x = 1; return 0; }',
+    ),
+    "address": (
+        "bad.c:3: an address in a field",
+        "at the start of main",
+        "char a[4];\nstruct __attribute__((packed)) { char c; char *where; } b = {1, a};\n"
+        "int main(void) { return *b.where; }",
+    ),
+    "alignment": (
+        "align 8192: at most 4096",
+        "this limit",
+        "_Alignas(8192) char a[8];\nint main(void) { return a[1]++; }",
+    ),
 }
 
 
 def lower(*words: str) -> tuple[int, str, str]:
     """The exit code of tools/lower, and what it writes."""
-    done = subprocess.run([os.path.join(TOOLS, 'lower'), *words], capture_output=True, encoding='latin-1', timeout=120,
-                          check=False)
+    done = subprocess.run([os.path.join(TOOLS, "lower"), *words], capture_output=True, encoding="latin-1", check=False)
     return done.returncode, done.stdout, done.stderr
 
 
 class Refusals(ClangCase):
     """One test for each refusal."""
 
-    def file(self, text: str, name: str = 'bad.c') -> str:
+    def file(self, text: str, name: str = "bad.c") -> str:
         """A file with a text."""
         path = os.path.join(self.folder, name)
-        with open(path, 'w', encoding='utf-8') as out:
+        with open(path, "w", encoding="utf-8") as out:
             out.write(text)
         return path
 
     def refuse(self, reason: str, advice: str, text: str) -> None:
         """A program is refused for a reason, with what to do."""
-        code, out, errors = lower(self.file(f'#include <hippo.h>\n{text}\n'))
-        self.assertEqual((code, out), (5, ''), errors)
-        self.assertIn(reason, errors.split('\n', maxsplit=1)[0])
-        self.assertIn('what to do: ', errors)
+        code, out, errors = lower(self.file(f"#include <hippo.h>\n{text}\n"))
+        self.assertEqual((code, out), (5, ""), errors)
+        self.assertIn(reason, errors.split("\n", maxsplit=1)[0])
+        self.assertIn("what to do: ", errors)
         self.assertIn(advice, errors)
 
     def test_all_at_once(self) -> None:
         """All places are named, grouped by reason, with one line for what to do."""
-        code, out, errors = lower(self.file('''#include <hippo.h>
+        code, out, errors = lower(
+            self.file(
+                """#include <hippo.h>
 long long n, m;
-float f(float x) { return x + 1; }
+long double f(long double x) { return x + 1; }
 long long g(void) { return __atomic_load_n(&n, __ATOMIC_ACQUIRE); }
 int main(void) {
   print_i64(__atomic_load_n(&m, __ATOMIC_ACQUIRE));
-  print_i64((long long)f((float)g()));
+  print_i64((long long)f((long double)g()));
   return 0;
 }
-'''))
-        self.assertEqual((code, out), (5, ''))
+"""
+            )
+        )
+        self.assertEqual((code, out), (5, ""))
         lines = errors.splitlines()
-        atomic = [line for line in lines if 'an atomic access' in line]
-        self.assertEqual([line.split('bad.c:')[1].split(':')[0] for line in atomic], ['4', '6'])
+        atomic = [line for line in lines if "an atomic access" in line]
+        self.assertEqual([line.split("bad.c:")[1].split(":")[0] for line in atomic], ["4", "6"])
         self.assertEqual(lines.index(atomic[1]), lines.index(atomic[0]) + 1)
-        self.assertEqual(sum('--single-thread' in line for line in lines), 1)
-        self.assertTrue(any('bad.c:3: the type float' in line for line in lines))
+        self.assertEqual(sum("--single-thread" in line for line in lines), 1)
+        self.assertTrue(any("bad.c:3: fadd of long double" in line for line in lines))
 
     def test_many_places(self) -> None:
         """A reason with many places is shown with some of them and the number of the others; no reason is left out."""
-        calls = '\n'.join(f'  n += open_pool({number}) + close_{number}();' for number in range(14))
-        declared = '\n'.join(f'int close_{number}(void);' for number in range(14))
-        code, out, errors = lower(self.file(
-            f'int open_pool(int);\n{declared}\nint main(void) {{\n  int n = 0;\n{calls}\n  return n;\n}}\n'))
-        self.assertEqual((code, out), (5, ''))
-        self.assertIn('the function @open_pool is not in the program: and 4 more places\n', errors)
+        calls = "\n".join(f"  n += open_pool({number}) + close_{number}();" for number in range(14))
+        declared = "\n".join(f"int close_{number}(void);" for number in range(14))
+        code, out, errors = lower(
+            self.file(f"int open_pool(int);\n{declared}\nint main(void) {{\n  int n = 0;\n{calls}\n  return n;\n}}\n")
+        )
+        self.assertEqual((code, out), (5, ""))
+        self.assertIn("the function @open_pool is not in the program: and 4 more places\n", errors)
         for number in range(14):
-            self.assertIn(f'@close_{number} is not', errors)
+            self.assertIn(f"@close_{number} is not", errors)
 
     def test_notes(self) -> None:
         """Notes name what an assumption allowed, and a call by pointer that can only trap, with its place."""
-        code, _, errors = lower('--single-thread', self.file('''#include <hippo.h>
+        code, _, errors = lower(
+            "--single-thread",
+            self.file(
+                """#include <hippo.h>
 void (*volatile f)(long long);
 _Thread_local long long own;
 int main(void) {
@@ -126,99 +269,199 @@ int main(void) {
   }
   return 0;
 }
-'''))
+"""
+            ),
+        )
         self.assertEqual(code, 0, errors)
-        self.assertIn('note: atomic accesses: plain ones, as --single-thread allows', errors)
-        self.assertIn('note: thread-local data: a plain global, as --single-thread allows', errors)
-        self.assertIn('bad.c:6: no function whose address is taken has the type of this call', errors)
+        self.assertIn("note: atomic accesses: plain ones, as --single-thread allows", errors)
+        self.assertIn("note: thread-local data: a plain global, as --single-thread allows", errors)
+        self.assertIn("bad.c:6: no function whose address is taken has the type of this call", errors)
 
     def test_an_instruction_without_a_line_has_the_place_of_its_function(self) -> None:
         """clang gives the room of a local variable no line."""
-        code, out, errors = lower('-O0', self.file('int main(void) {\n  float part;\n  (void)&part;\n  return 0;\n}\n'))
-        self.assertEqual((code, out), (5, ''))
-        self.assertRegex(errors, r'^lower: \S*bad\.c:1: the type float is not in the subset: %part = alloca float')
+        code, out, errors = lower(
+            "-O0", self.file("int main(void) {\n  _Alignas(8192) char part;\n  (void)&part;\n  return 0;\n}\n")
+        )
+        self.assertEqual((code, out), (5, ""))
+        self.assertRegex(errors, r"^lower: \S*bad\.c:1: align 8192: at most 4096: %part = alloca i8")
 
     def test_notes_are_of_the_own_files(self) -> None:
         """The runtime's calls by pointer get no note."""
-        code, _, errors = lower(self.file('''#include <stdlib.h>
+        code, _, errors = lower(
+            self.file(
+                """#include <stdlib.h>
 static void leave(int code) { exit(code); }
 int main(void) { leave(3); return 0; }
-''', 'leaves.c'))
+""",
+                "leaves.c",
+            )
+        )
         self.assertEqual(code, 0, errors)
-        self.assertNotIn('no function whose address is taken', errors)
+        self.assertNotIn("no function whose address is taken", errors)
 
     def test_unreached(self) -> None:
         """What main does not reach is not refused."""
-        code, out, errors = lower(self.file('''#include <hippo.h>
-double half(double x) { return x / 2; }
-static double table[2] = {1, 2};
-double *first(void) { return table; }
+        code, out, errors = lower(
+            self.file(
+                """#include <hippo.h>
+long double half(long double x) { return x / 2; }
+static _Float16 table[2] = {1, 2};
+int first(void) { return table[0] > table[1]; }
 int main(void) { return 3; }
-'''))
+"""
+            )
+        )
         self.assertEqual(code, 0, errors)
-        self.assertNotIn('half', out)
+        self.assertNotIn("half", out)
+
+    def test_a_definition_that_is_not_persistent(self) -> None:
+        """A declaration makes nothing persistent, so a definition in another file without the section is refused."""
+        self.file("#include <hippo.h>\nextern PERSISTENT long x;\nint main(void) { x = 1; return 0; }\n", "uses.c")
+        files = [os.path.join(self.folder, name) for name in ("uses.c", "defines.c")]
+        self.file("long x;\n", "defines.c")
+        code, out, errors = lower(*files, "--", "-w")
+        self.assertEqual((code, out), (5, ""))
+        self.assertEqual(
+            errors,
+            f"lower: {files[0]}: x is declared persistent, and its definition is not: write PERSISTENT before the definition\n",
+        )
+        self.file("#include <hippo.h>\nPERSISTENT long x;\n", "defines.c")
+        code, out, errors = lower(*files, "--", "-w")
+        self.assertEqual(code, 0, errors)
+        self.assertIn('@x = global i64 0, section ".pm", align 8\n', out)
+
+    def test_an_assembly_item_behind_a_version_is_refused(self) -> None:
+        """The name of a version has no meaning in hippo, but an instruction after it has."""
+        for text, code in ((".symver f, f@V", 0), (".symver f, f@V; .globl g", 5)):
+            found, _, errors = lower(
+                self.file(
+                    f'__asm__("{text}");\nint f(void) {{ return 0; }}\nint main(void) {{ return f(); }}\n', "version.c"
+                )
+            )
+            self.assertEqual(found, code, errors)
+
+    def test_a_type_that_is_nested_too_deep(self) -> None:
+        """The refusal names the file."""
+        depth = 3000
+        file = self.file(
+            f'@n = global {"[1 x " * depth}i8{"]" * depth} zeroinitializer, section ".pm"\n'
+            "define i32 @main() {\n  ret i32 0\n}\n",
+            "nested.ll",
+        )
+        self.assertEqual(lower(file), (5, "", f"lower: {file}: a type or a constant is nested too deep\n"))
+
+    def test_a_place_is_found_from_any_folder(self) -> None:
+        """clang names a file that is beside the current folder by a part of its path; the place has the whole path."""
+        file = self.file(
+            "_Alignas(8192) static char a[8];\nlong double f(long double x) { return x * 2; }\n"
+            "int main(void) { return a[1]++ + (f(3.0L) > 1); }\n"
+        )
+        inner = os.path.join(self.folder, "inner")
+        os.makedirs(inner, exist_ok=True)
+        done = subprocess.run(
+            [os.path.join(TOOLS, "lower"), file], cwd=inner, capture_output=True, encoding="latin-1", check=False
+        )
+        self.assertEqual((done.returncode, done.stdout), (5, ""))
+        places = {
+            line.split(": ")[1].rpartition(":")[0] for line in done.stderr.splitlines() if "what to do" not in line
+        }
+        self.assertEqual(places, {file})
+
+    def test_names_of_pools(self) -> None:
+        """The name of a pool has the bytes of the word, whatever they are."""
+        name = 'pö\u0142"\\\n'
+        code, out, errors = lower(
+            "--pool",
+            f"{name}=4K",
+            self.file(
+                "#include <hippo.h>\nvoid *pmem_map_file(const char *, size_t, int, unsigned, size_t *, int *);\n"
+                'int main(void) { return pmem_map_file("a", 0, 0, 0, 0, 0) != 0; }\n',
+                "pools.c",
+            ),
+        )
+        self.assertEqual(code, 0, errors)
+        signed = ", ".join(f"i8 {byte - 256 if byte > 127 else byte}" for byte in [*name.encode(), 0])
+        self.assertIn(f"[{signed}]", out)
 
     def test_names_of_files(self) -> None:
         """The place names the file as the command line does, also with letters that LLVM's text form escapes."""
-        for text, place in (('float half(float x) { return x / 2; }\nint main(void) { return (int)half((float)read_i64()); }', 2),
-                            ('_Alignas(8192) char a[8];\nint main(void) { return a[1]++; }', 2)):
-            code, out, errors = lower(self.file(f'#include <hippo.h>\n{text}\n', 'schön "1".c'))
-            self.assertEqual((code, out), (5, ''), errors)
-            self.assertIn(f'schön "1".c:{place}: ', errors.encode('latin-1').decode('utf-8'))
+        for text, place in (
+            ("long double half(long double x) { return x / 2; }\nint main(void) { return half(3.0L) > 1; }", 2),
+            ("_Alignas(8192) char a[8];\nint main(void) { return a[1]++; }", 2),
+        ):
+            code, out, errors = lower(self.file(f"#include <hippo.h>\n{text}\n", 'schön "1".c'))
+            self.assertEqual((code, out), (5, ""), errors)
+            self.assertIn(f'schön "1".c:{place}: ', errors.encode("latin-1").decode("utf-8"))
 
     def test_an_old_python_is_refused(self) -> None:
         """Python before 3.10 cannot read the modules of the tools."""
-        for tool, code in (('lower', 69), ('hippo-c', 2)):
+        for tool, code in (("lower", 69), ("hippo-c", 2)):
             script = f'import runpy, sys; sys.version_info = (3, 9, 2); runpy.run_path({os.path.join(TOOLS, tool)!r}, run_name="__main__")'
-            done = subprocess.run([sys.executable, '-B', '-c', script], capture_output=True, encoding='utf-8', check=False)
-            self.assertEqual((done.returncode, done.stdout, done.stderr), (code, '', f'{tool}: it needs Python 3.10 or later\n'))
+            done = subprocess.run(
+                [sys.executable, "-B", "-c", script], capture_output=True, encoding="utf-8", check=False
+            )
+            self.assertEqual(
+                (done.returncode, done.stdout, done.stderr), (code, "", f"{tool}: it needs Python 3.10 or later\n")
+            )
 
     def test_codes(self) -> None:
         """Exit codes of words, files and tools."""
-        good = self.file('int main(void) { return 0; }\n', 'good.c')
-        self.assertEqual(lower('--no-such-option', good)[0], 1)
+        good = self.file("int main(void) { return 0; }\n", "good.c")
+        self.assertEqual(lower("--no-such-option", good)[0], 1)
         self.assertEqual(lower()[0], 1)
-        self.assertEqual(lower('--pool', 'x', good)[0], 1)
-        self.assertEqual(lower('--heap', '12G', good)[0], 1)
-        self.assertEqual(lower(os.path.join(self.folder, 'no.c'))[0], 2)
+        self.assertEqual(lower("--pool", "x", good)[0], 1)
+        self.assertEqual(lower("--heap", "12G", good)[0], 1)
+        self.assertEqual(lower(os.path.join(self.folder, "no.c"))[0], 2)
         self.assertEqual(lower(self.folder)[0], 3)
-        self.assertEqual(lower(self.file('int main(void) { return', 'broken.c'))[0], 5)
-        self.assertEqual(lower(self.file('define nothing', 'broken.ll'))[0], 5)
+        self.assertEqual(lower(self.file("int main(void) { return", "broken.c"))[0], 5)
+        self.assertEqual(lower(self.file("define nothing", "broken.ll"))[0], 5)
         self.assertEqual(lower(good)[0], 0)
-        for words in ((), ('--no-such-option', good)):
-            self.assertEqual(lower(*words)[2].count('\n'), 1)
+        for words in ((), ("--no-such-option", good)):
+            self.assertEqual(lower(*words)[2].count("\n"), 1)
 
-    @unittest.skipUnless(os.path.exists('/dev/full'), 'there is no /dev/full')
+    @unittest.skipUnless(os.path.exists("/dev/full"), "there is no /dev/full")
     def test_write_fault(self) -> None:
         """A text that cannot be written ends with one line, and no traceback."""
-        good = self.file('int main(void) { return 0; }\n', 'good.c')
-        with open('/dev/full', 'w', encoding='latin-1') as full:
-            done = subprocess.run([os.path.join(TOOLS, 'lower'), good], stdout=full, stderr=subprocess.PIPE,
-                                  encoding='latin-1', check=False)
-        self.assertEqual((done.returncode, done.stderr.count('\n')), (4, 1), done.stderr)
+        good = self.file("#include <hippo.h>\nPERSISTENT long n;\nint main(void) { return 0; }\n", "good.c")
+        with open("/dev/full", "w", encoding="latin-1") as full:
+            done = subprocess.run(
+                [os.path.join(TOOLS, "lower"), good],
+                stdout=full,
+                stderr=subprocess.PIPE,
+                encoding="latin-1",
+                check=False,
+            )
+        self.assertEqual((done.returncode, done.stderr.count("\n")), (4, 1), done.stderr)
 
     def test_public(self) -> None:
         """The names that other object files may use, and not static, hidden or added ones."""
-        names = os.path.join(self.folder, 'names')
-        code, _, errors = lower('--public', names, self.file('''#include <hippo.h>
+        names = os.path.join(self.folder, "names")
+        code, _, errors = lower(
+            "--public",
+            names,
+            self.file(
+                """#include <hippo.h>
 #include <string.h>
 __attribute__((visibility("hidden"))) void *malloc(unsigned long n) { static char room[64]; return room + n; }
 static int helper(int x) { return x + 1; }
 long long shared = 5;
 int twice(int x) { return helper(x) * 2; }
 int main(void) { print_i64(twice((int)shared) + *(char *)malloc(3) + (long long)strlen(malloc(4))); return 0; }
-''', 'names.c'))
+""",
+                "names.c",
+            ),
+        )
         self.assertEqual(code, 0, errors)
-        with open(names, encoding='latin-1') as text:
-            self.assertEqual(sorted(text.read().split()), ['main', 'shared', 'twice'])
+        with open(names, encoding="latin-1") as text:
+            self.assertEqual(sorted(text.read().split()), ["main", "shared", "twice"])
 
 
 def add_tests() -> None:
     """A test for each refusal."""
     for name, row in REFUSED.items():
-        setattr(Refusals, f'test_{name}', lambda self, row=row: self.refuse(*row))
+        setattr(Refusals, f"test_{name}", lambda self, row=row: self.refuse(*row))
 
 
 add_tests()
-if __name__ == '__main__':
+if __name__ == "__main__":
     sys.exit(unittest.main())

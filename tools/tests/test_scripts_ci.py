@@ -20,7 +20,9 @@ COUNTS = "reports 1\nflushes 1\nfences 1\nhoists 0\nclones 0\n"
 
 def run(*words: str, **environment: str) -> subprocess.CompletedProcess[str]:
     """Runs a script of .ci."""
-    return subprocess.run(words, cwd=TOP, env={**os.environ, **environment}, capture_output=True, text=True, timeout=60, check=False)
+    return subprocess.run(
+        words, cwd=TOP, env={**os.environ, **environment}, capture_output=True, text=True, check=False
+    )
 
 
 class Words(unittest.TestCase):
@@ -49,14 +51,24 @@ class Answers(unittest.TestCase):
     """The answers of `repair` that .ci/hostile_input.py accepts."""
 
     def test_answers_of_the_readme_are_accepted(self) -> None:
-        for answer in (Answer(0, b"text", COUNTS), Answer(5, b"", "hippo: program line 3: syntax\n"),
-                       Answer(5, b"", "hippo: program: no main at program\n"), Answer(6, b"", "hippo: trace entry 2: extra\n")):
+        for answer in (
+            Answer(0, b"text", COUNTS),
+            Answer(5, b"", "hippo: program line 3: syntax\n"),
+            Answer(5, b"", "hippo: program: no main at program\n"),
+            Answer(6, b"", "hippo: trace entry 2: extra\n"),
+        ):
             self.assertTrue(hostile_input.is_answer(answer), answer)
 
     def test_other_answers_are_not(self) -> None:
-        for answer in (Answer(0, b"", COUNTS), Answer(0, b"text", ""), Answer(5, b"text", "hippo: program line 3: syntax\n"),
-                       Answer(5, b"", "hippo: trace entry 2: extra\n"), Answer(6, b"", "hippo: program line 3: syntax\n"),
-                       Answer(5, b"", "hippo: program: shape at program\n"), Answer(-11, b"", "")):
+        for answer in (
+            Answer(0, b"", COUNTS),
+            Answer(0, b"text", ""),
+            Answer(5, b"text", "hippo: program line 3: syntax\n"),
+            Answer(5, b"", "hippo: trace entry 2: extra\n"),
+            Answer(6, b"", "hippo: program line 3: syntax\n"),
+            Answer(5, b"", "hippo: program: shape at program\n"),
+            Answer(-11, b"", ""),
+        ):
             self.assertFalse(hostile_input.is_answer(answer), answer)
 
 
@@ -71,7 +83,9 @@ class Texts(unittest.TestCase):
             self.assertEqual([index for index, byte in enumerate(b"a\n") if text[index] != byte], [place])
 
     def test_lines_count_from_one(self) -> None:
-        self.assertEqual([hostile_input.last_line(text) for text in (b"", b"a", b"a\n", b"a\nb", b"a\nb\n")], [1, 1, 1, 2, 2])
+        self.assertEqual(
+            [hostile_input.last_line(text) for text in (b"", b"a", b"a\n", b"a\nb", b"a\nb\n")], [1, 1, 1, 2, 2]
+        )
 
     def test_a_large_text_has_its_size_and_not_more(self) -> None:
         self.assertEqual(hostile_texts.filled(b"<", b"ab", b">", 9), b"<ababab>")

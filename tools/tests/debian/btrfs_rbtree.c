@@ -22,7 +22,7 @@ static void insert(struct item *item) {
 
 int main(void) {
   static int is_in[300];
-  for (int i = 0; i < 900; i++) {
+  for (int i = 0, rounds = ROUNDS(900); i < rounds; i++) {
     unsigned number = draw(300);
     if (is_in[number]) {
       rb_erase(&items[number].node, &root);

@@ -28,7 +28,7 @@ int main(void) {
   static unsigned char *blocks[40];
   static size_t sizes[40];
   long long sum = 0;
-  for (int i = 0; i < 1200; i++) {
+  for (int i = 0, rounds = ROUNDS(1200); i < rounds; i++) {
     unsigned k = draw(40);
     if (blocks[k]) {
       sum = (sum * 31 + blocks[k][0] + blocks[k][sizes[k] - 1]) % 1000000007;

@@ -10,7 +10,7 @@ static int compare(const void *left, const void *right) {
 
 int main(void) {
   avl_tree_t *tree = avl_alloc_tree(compare, free);
-  for (int i = 0; i < 600; i++) {
+  for (int i = 0, rounds = ROUNDS(600); i < rounds; i++) {
     int *number = malloc(sizeof *number);
     *number = (int)draw(400);
     if (draw(3) == 0) {
@@ -25,7 +25,7 @@ int main(void) {
     sum = (sum * 31 + *(int *)node->item * (long long)avl_index(node)) % 1000000007;
   print_i64((long long)avl_count(tree));
   print_i64(sum);
-  print_i64(*(int *)avl_at(tree, 20)->item);
+  if (avl_count(tree) > 20) print_i64(*(int *)avl_at(tree, 20)->item);
   avl_free_tree(tree);
   return 0;
 }

@@ -18,7 +18,7 @@ static void forget(void *key) { sum += (intptr_t)key; }
 
 int main(void) {
   void *root = NULL;
-  for (int i = 0; i < 600; i++) {
+  for (int i = 0, rounds = ROUNDS(600); i < rounds; i++) {
     void *key = (void *)(uintptr_t)(draw(300) + 1);
     if (draw(3) == 0)
       sum += tdelete(key, &root, compare) != NULL;

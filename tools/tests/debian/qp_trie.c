@@ -10,7 +10,7 @@ static unsigned make_key(char *key, unsigned number) {
 int main(void) {
   char key[24];
   trie_t *trie = trie_create(NULL);
-  for (unsigned i = 0; i < 400; i++) {
+  for (unsigned i = 0, rounds = ROUNDS(400); i < rounds; i++) {
     unsigned number = draw(300), length = make_key(key, number);
     if (draw(4) == 0) {
       trie_val_t old = NULL;

@@ -6,7 +6,7 @@
 int main(void) {
   intset *set = intsetNew();
   long long sum = 0;
-  for (int i = 0; i < 400; i++) {
+  for (int i = 0, rounds = ROUNDS(400); i < rounds; i++) {
     int64_t number = (int64_t)draw(300) - 150;
     if (i > 200) number <<= i > 300 ? 40 : 14;
     if (draw(4) == 0) {

@@ -17,7 +17,7 @@ static long long sum_of(unsigned char *list) {
 int main(void) {
   unsigned char *list = lpNew(0);
   char text[40];
-  for (int i = 0; i < 150; i++) {
+  for (int i = 0, rounds = ROUNDS(150); i < rounds; i++) {
     int length = draw(2) ? snprintf(text, sizeof text, "%d", (int)draw(100000) - 300)
                          : snprintf(text, sizeof text, "text of number %u and %d", draw(20), i);
     if (draw(3) == 0)

@@ -7,7 +7,7 @@ int main(void) {
   rax *tree = raxNew();
   char key[32];
   long long sum = 0;
-  for (int i = 0; i < 500; i++) {
+  for (int i = 0, rounds = ROUNDS(500); i < rounds; i++) {
     unsigned number = draw(400);
     int length = snprintf(key, sizeof key, "%s:%u:%x", number % 3 ? "user" : "using", number / 10, number);
     void *old = NULL;

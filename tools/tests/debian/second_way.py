@@ -28,14 +28,17 @@ from packages import Packages  # noqa: E402
 from pieces import PIECES, Piece  # noqa: E402
 from steps import clang_flags, configure, make_files, source_files  # noqa: E402
 
-NATIVE = ('''-g -fwrapv -fno-strict-aliasing -fno-inline -fno-vectorize -fno-slp-vectorize -fno-unroll-loops -fno-pic -no-pie
+NATIVE = (
+    """-g -fwrapv -fno-strict-aliasing -fno-inline -fno-vectorize -fno-slp-vectorize -fno-unroll-loops -fno-pic -no-pie
     -fno-stack-protector -fno-optimize-sibling-calls -fno-omit-frame-pointer -ffunction-sections -mclwb -mclflushopt
-    -Wl,--gc-sections -mcmodel=large -Wl,--section-start=.pm=0x100000000 -Wl,-z,now''').split()
+    -Wl,--gc-sections -mcmodel=large -Wl,--section-start=.pm=0x100000000 -Wl,-z,now"""
+).split()
 
 
 @dataclass
 class Byte:
     """A byte that a reported store changes, and how often it changed before."""
+
     address: int
     before: int
 
@@ -46,14 +49,14 @@ def changed_bytes(path: str, wanted: set[int]) -> dict[int, Byte]:
     changes: dict[int, int] = {}
     found: dict[int, Byte] = {}
     for number, entry in enumerate(entries_of(path), 1):
-        word, *rest = entry.split(';')
-        if word == 'IMAGE':
+        word, *rest = entry.split(";")
+        if word == "IMAGE":
             start = int(rest[0], 16)
-            values.update((start + place, byte) for place, byte in enumerate(bytes.fromhex(rest[1].removeprefix('0x'))))
-        if word != 'STORE':
+            values.update((start + place, byte) for place, byte in enumerate(bytes.fromhex(rest[1].removeprefix("0x"))))
+        if word != "STORE":
             continue
         start, value, size = (int(text, 16) for text in rest)
-        for place, byte in enumerate(value.to_bytes(8, 'little')[:size]):
+        for place, byte in enumerate(value.to_bytes(8, "little")[:size]):
             address = start + place
             if values.get(address, 0) == byte:
                 continue
@@ -69,9 +72,9 @@ def reported_bytes(session: Session, path: str, groups: list[Group]) -> list[tup
     group_of = {(group.kind, one): group for group in groups for one in (group.path, *group.more)}
     stores: dict[int, Group] = {}
     counts: dict[int, int] = {}
-    for line in lines_of(['check', session.text_path, path]):
-        words = line.split(' ')
-        sites = tuple(map(parse_site, line.partition('path ')[2].split(' ')))
+    for line in lines_of(["check", session.text_path, path]):
+        words = line.split(" ")
+        sites = tuple(map(parse_site, line.partition("path ")[2].split(" ")))
         group = group_of.get((words[1], sites))
         if group and counts.setdefault(id(group), 0) < 200:
             counts[id(group)] += 1
@@ -89,30 +92,45 @@ class Native:
 
     def __init__(self, program: str, folder: str, arguments: list[str]) -> None:
         self.program = program
-        sections = output(['llvm-readelf-19', '-S', '--wide', program])
-        found = re.search(r'\s\.pm\s+PROGBITS\s+(\w+)\s+\w+\s+(\w+)', sections)
-        environment = {**os.environ, 'STORE_RANGE': f'{found[1]} {found[2]}', 'STORE_TRACE': f'{folder}/changes'}
-        subprocess.run([program, *arguments], cwd=folder, env=environment, stdin=subprocess.DEVNULL, stdout=subprocess.DEVNULL,
-                       timeout=900)
+        sections = output(["llvm-readelf-19", "-S", "--wide", program])
+        found = re.search(r"\s\.pm\s+PROGBITS\s+(\w+)\s+\w+\s+(\w+)", sections)
+        environment = {**os.environ, "STORE_RANGE": f"{found[1]} {found[2]}", "STORE_TRACE": f"{folder}/changes"}
+        subprocess.run(
+            [program, *arguments],
+            cwd=folder,
+            env=environment,
+            stdin=subprocess.DEVNULL,
+            stdout=subprocess.DEVNULL,
+            timeout=900,
+        )
         self.changes: dict[int, list[list[str]]] = {}
-        with open(f'{folder}/changes', encoding='ascii') as file:
+        with open(f"{folder}/changes", encoding="ascii") as file:
             for line in file:
                 address, _, *instructions = line.split()
                 self.changes.setdefault(int(address, 16), []).append(instructions)
-        self.symbols = {name: int(address, 16) for address, name in re.findall(
-            r'^(\w+) \w (\S+)$', output(['llvm-nm-19', program]), re.M)}
+        self.symbols = {
+            name: int(address, 16)
+            for address, name in re.findall(r"^(\w+) \w (\S+)$", output(["llvm-nm-19", program]), re.M)
+        }
 
     def line(self, symbol: str, offset: int, before: int, folders: tuple[str, ...]) -> str:
         """The line of the innermost frame in these folders at a change of a byte."""
         changes = self.changes.get(self.symbols.get(symbol, 0) + offset, [])
         if before >= len(changes):
-            return f'{len(changes)} changes'
-        words = ['llvm-symbolizer-19', '-e', self.program, '--output-style=GNU', '-i', *(f'0x{one}' for one in changes[before])]
-        for line in output(words).split('\n'):
-            file, _, number = line.split(' ')[0].rpartition(':')
+            return f"{len(changes)} changes"
+        words = [
+            "llvm-symbolizer-19",
+            "-e",
+            self.program,
+            "--output-style=GNU",
+            "-i",
+            *(f"0x{one}" for one in changes[before]),
+        ]
+        for line in output(words).split("\n"):
+            file, _, number = line.split(" ")[0].rpartition(":")
             if os.path.realpath(file).startswith(folders):
-                return f'{os.path.realpath(file)}:{number}'
-        return 'no line'
+                return f"{os.path.realpath(file)}:{number}"
+        return "no line"
 
 
 def output(words: list[str]) -> str:
@@ -127,13 +145,26 @@ def compare(piece: Piece, source: str, level: str, most: int, folder: str) -> tu
     make_files(piece, folder)
     files = source_files(piece, source)
     flags = clang_flags(piece, source, folder)
-    native = ['clang-19', f'-{level}', *NATIVE, f'-I{TOOLS}', *flags, '-o', f'{folder}/native', *files,
-              f'{TOOLS}/external_functions.c', f'{HERE}/store_tracer.c', '-lpthread']
+    native = [
+        "clang-19",
+        f"-{level}",
+        *NATIVE,
+        f"-I{TOOLS}",
+        *flags,
+        "-o",
+        f"{folder}/native",
+        *files,
+        f"{TOOLS}/external_functions.c",
+        f"{HERE}/store_tracer.c",
+        "-lpthread",
+    ]
     subprocess.run(native, check=True, stderr=subprocess.DEVNULL)
-    ran = Native(f'{folder}/native', folder, piece.arguments)
-    arguments = ['--args', *piece.arguments] if piece.arguments else []
+    ran = Native(f"{folder}/native", folder, piece.arguments)
+    arguments = ["--args", *piece.arguments] if piece.arguments else []
     same, merged, different = 0, 0, []
-    with Session(Request(files, flags, [f'-{level}', *piece.options], [[]], None, folder, False, arguments), Progress()) as session:
+    with Session(
+        Request(files, flags, [f"-{level}", *piece.options], [[]], None, folder, False, arguments), Progress()
+    ) as session:
         session.lower()
         checked = session.check([], coverage=False)
         own = (os.path.realpath(source) + os.sep, os.path.realpath(HERE) + os.sep)
@@ -142,42 +173,44 @@ def compare(piece: Piece, source: str, level: str, most: int, folder: str) -> tu
             place = session.places.first(group.path)
             item, offset = session.program.object_at(byte.address)
             native_line = ran.line(item.name, offset, byte.before, own)
-            ours = f'{os.path.realpath(place.file)}:{place.line}' if place else 'nothing'
+            ours = f"{os.path.realpath(place.file)}:{place.line}" if place else "nothing"
             if native_line == ours:
                 same += 1
-            elif native_line.endswith(':0'):
+            elif native_line.endswith(":0"):
                 merged += 1
             else:
-                different.append(f'{ours}, native: {native_line} ({item.name}+{offset}, change {byte.before + 1})')
+                different.append(f"{ours}, native: {native_line} ({item.name}+{offset}, change {byte.before + 1})")
     return len(checked.groups), same, merged, different
 
 
 def main() -> int:
     """Compares the lines of each piece; returns 0 if none differs."""
     parser = argparse.ArgumentParser(description=__doc__, formatter_class=argparse.RawDescriptionHelpFormatter)
-    parser.add_argument('--folder', default=os.path.expanduser('~/.cache/hippo-debian'), help='where packages are kept')
-    parser.add_argument('--level', default='O1')
-    parser.add_argument('--most', type=int, default=10, help='groups of each piece')
-    parser.add_argument('names', nargs='*')
+    parser.add_argument("--folder", default=os.path.expanduser("~/.cache/hippo-debian"), help="where packages are kept")
+    parser.add_argument("--level", default="O1")
+    parser.add_argument("--most", type=int, default=10, help="groups of each piece")
+    parser.add_argument("names", nargs="*")
     options = parser.parse_args()
     packages, failed = Packages(options.folder), 0
     for piece in PIECES:
-        if (options.names and piece.name not in options.names) or piece.needs_libpmem or '--pool' in piece.options:
+        if (options.names and piece.name not in options.names) or piece.needs_libpmem or "--pool" in piece.options:
             continue
         source = packages.source(piece.package)
         if not source:
-            print(f'skipped: the package {piece.package} could not be fetched')
+            print(f"skipped: the package {piece.package} could not be fetched")
             continue
         with tempfile.TemporaryDirectory() as folder:
             groups, same, merged, different = compare(piece, source, options.level, options.most, folder)
         failed += len(different)
-        without = f', {merged} more have line 0 natively' if merged else ''
-        print(f'{piece.name} ({piece.package}): {groups} groups, {same} of {same + len(different)} tried have the same line{without}',
-              flush=True)
+        without = f", {merged} more have line 0 natively" if merged else ""
+        print(
+            f"{piece.name} ({piece.package}): {groups} groups, {same} of {same + len(different)} tried have the same line{without}",
+            flush=True,
+        )
         for text in different:
-            print(f'  differs: {text}', flush=True)
+            print(f"  differs: {text}", flush=True)
     return 1 if failed else 0
 
 
-if __name__ == '__main__':
+if __name__ == "__main__":
     sys.exit(main())

@@ -13,7 +13,7 @@ static int order(const struct user *left, const struct user *right) { return lef
 
 int main(void) {
   struct user *ids = NULL, *names = NULL, *user, *next;
-  for (int i = 0; i < 500; i++) {
+  for (int i = 0, rounds = ROUNDS(500); i < rounds; i++) {
     int id = (int)draw(250);
     HASH_FIND(by_id, ids, &id, sizeof id, user);
     if (!user) {

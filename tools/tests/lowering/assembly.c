@@ -1,4 +1,4 @@
-// Flushes and fences as PMDK and Linux spell them, barriers of the compiler, non-temporal stores.
+// Flushes and fences as PMDK and Linux spell them, barriers of the compiler, non-temporal stores, requests to Valgrind.
 // options: --non-temporal
 #include <hippo.h>
 
@@ -11,7 +11,18 @@ static void old(volatile void *p) { __asm__ volatile("clflush %0" : : "m"(*(vola
 static void fence(void) { __asm__ volatile("sfence" ::: "memory"); }
 #define barrier() __asm__ volatile("" ::: "memory")
 
+// A request to Valgrind, by the instructions that Valgrind recognises. Without Valgrind the answer is the default.
+static unsigned long request(unsigned long number, const void *at, unsigned long size, unsigned long otherwise) {
+  volatile unsigned long words[6] = {number, (unsigned long)at, size};
+  volatile unsigned long answer;
+  __asm__ volatile("rolq $3,  %%rdi ; rolq $13, %%rdi\n\trolq $61, %%rdi ; rolq $51, %%rdi\n\txchgq %%rbx,%%rbx"
+                   : "=d"(answer) : "a"(&words[0]), "0"(otherwise) : "cc", "memory");
+  return answer;
+}
+
 int main(void) {
+  print_i64((long long)request(0x1001, 0, 0, 0));
+  print_i64((long long)request(0x50430008, &data[3], 8, 77));
   data[0] = 1; clwb(&data[0]); fence();
   data[8] = 2; clflushopt(&data[8]); fence();
   data[9] = 3; barrier(); named(&data[9]); __asm__ volatile("mfence" : : : "memory");

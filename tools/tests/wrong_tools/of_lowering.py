@@ -1,0 +1,252 @@
+"""Edits of tools/lowering."""
+from __future__ import annotations
+
+from .edit import Edit
+
+ASSEMBLY, INTRINSICS, MEMORY = "tools/lowering/assembly.py", "tools/lowering/intrinsics.py", "tools/lowering/memory.py"
+TEXT, RANDOM = "test_durability_text.Forms.test_each_form", "test_random_c.Programs.test_O1"
+
+EDITS = [
+    Edit(
+        "flush_in_asm_is_dropped",
+        "drops the flushes that stand in `asm`",
+        ASSEMBLY,
+        '        call(function, FLUSHES[word], f"ptr {address}")\n',
+        "        del address\n",
+        TEXT,
+    ),
+    Edit(
+        "fence_in_asm_is_dropped",
+        "drops the fences that stand in `asm`",
+        ASSEMBLY,
+        '        call(function, FENCES[text], "")\n',
+        "        pass\n",
+        TEXT,
+    ),
+    Edit(
+        "lfence_is_a_fence",
+        "counts `lfence` in `asm` as a fence of stores",
+        ASSEMBLY,
+        'FENCES = {"sfence": "llvm.x86.sse.sfence", "mfence": "llvm.x86.sse2.mfence"}\n',
+        'FENCES = {"lfence": "llvm.x86.sse.sfence", "sfence": "llvm.x86.sse.sfence", "mfence": "llvm.x86.sse2.mfence"}\n',
+        TEXT,
+    ),
+    Edit(
+        "empty_asm_is_a_fence",
+        "counts an empty `asm` as a fence",
+        ASSEMBLY,
+        'FENCES = {"sfence": "llvm.x86.sse.sfence", "mfence": "llvm.x86.sse2.mfence"}\n',
+        'FENCES = {"": "llvm.x86.sse.sfence", "sfence": "llvm.x86.sse.sfence", "mfence": "llvm.x86.sse2.mfence"}\n',
+        TEXT,
+    ),
+    Edit(
+        "pause_is_a_fence",
+        "counts `pause` as a fence",
+        ASSEMBLY,
+        'FENCES = {"sfence": "llvm.x86.sse.sfence", "mfence": "llvm.x86.sse2.mfence"}\n',
+        'FENCES = {"pause": "llvm.x86.sse2.mfence", "sfence": "llvm.x86.sse.sfence", "mfence": "llvm.x86.sse2.mfence"}\n',
+        TEXT,
+    ),
+    Edit(
+        "nop_is_a_flush",
+        "leaves out a flush by its prefix bytes, as if it were a `nop`",
+        ASSEMBLY,
+        "    if word in FLUSHES and operand and is_address(constraints, operand):\n",
+        '    if ".byte" not in word and word in FLUSHES and operand and is_address(constraints, operand):\n',
+        TEXT,
+    ),
+    Edit(
+        "lost_note_of_asm",
+        "does not note what `asm` it left out",
+        ASSEMBLY,
+        '            function.module.note("assembly", TEXT=text)\n',
+        "            pass\n",
+        TEXT,
+    ),
+    Edit(
+        "flush_intrinsic_is_dropped",
+        "drops the intrinsic of `clflushopt`",
+        INTRINSICS,
+        "|stackrestore|va_end|",
+        "|stackrestore|x86\\.clflushopt|va_end|",
+        TEXT,
+    ),
+    Edit(
+        "non_temporal_store_is_not_flushed",
+        "makes a non-temporal store a plain store",
+        MEMORY,
+        "    if passes_by:\n        flush(",
+        "    if passes_by and False:\n        flush(",
+        TEXT,
+    ),
+    Edit(
+        "non_temporal_store_flushes_its_first_byte",
+        "flushes one byte of a non-temporal store that may be in two cache lines",
+        MEMORY,
+        '        function.put(f"call void @pmem_flush(ptr {address}, i64 {count})")\n',
+        '        function.put(f"call void @pmem_flush(ptr {address}, i64 1)")\n',
+        TEXT,
+    ),
+    Edit(
+        "volatile_store_is_dropped",
+        "takes the value of a `volatile` store, and stores nothing",
+        MEMORY,
+        "    least = access_alignment(function, tokens, address)\n"
+        "    if type_ in SCALARS:\n"
+        '        function.put(f"store {type_} {values[0]}, ptr {address}{shown(least)}")\n',
+        "    least = access_alignment(function, tokens, address)\n"
+        '    if "volatile was left out" in function.module.notes:\n'
+        "        return\n"
+        "    if type_ in SCALARS:\n"
+        '        function.put(f"store {type_} {values[0]}, ptr {address}{shown(least)}")\n',
+        TEXT,
+    ),
+    Edit(
+        "lost_note_of_volatile",
+        "does not note that it left out `volatile`",
+        MEMORY,
+        '        function.module.note("volatile")\n',
+        "        pass\n",
+        TEXT,
+    ),
+    Edit(
+        "alignment_of_blocks_is_forgotten",
+        "allocates a block of alignment 16 like one of alignment 8",
+        "tools/lowering/stack.py",
+        "    if OF_TYPES < least <= PADDED:\n        function.module.has_padded_blocks = True\n",
+        "",
+        "test_lowering.Lowered.test_alignment",
+    ),
+    Edit(
+        "length_is_rounded_down",
+        "copies whole words only, and drops the bytes that are left",
+        "tools/lowering/block_helpers.py",
+        "  %tail = and i64 %after.head, 7\n",
+        "  %tail = and i64 %after.head, 0\n",
+        RANDOM,
+    ),
+    Edit(
+        "overlapping_copy_goes_forward",
+        "copies overlapping ranges in one direction",
+        "tools/lowering/block_helpers.py",
+        "icmp ule ptr %target, %source",
+        "icmp ne ptr %target, null",
+        "test_lowering.Lowered.test_copies",
+    ),
+    Edit(
+        "persistent_section_is_forgotten",
+        'leaves out `section ".pm"`, so that nothing is persistent',
+        "tools/lowering/globals.py",
+        "    if section:\n",
+        '    section = ""\n' "    if section:\n",
+        "test_durability_text.Forms.test_atomic_changes_are_no_fences",
+    ),
+    Edit(
+        "upper_bits_stay",
+        "does not cut sums of odd widths",
+        "tools/lowering/integers.py",
+        '    return f"and {container(type_)} {value}, {(1 << bits(type_)) - 1}"\n',
+        '    return f"and {container(type_)} {value}, -1"\n',
+        "test_odd_widths.OddWidths.test_each_operation",
+    ),
+    Edit(
+        "function_of_a_number_is_another",
+        "calls another function by pointer",
+        "tools/lowering/code.py",
+        "        return self.constant(self.functions[written])",
+        "        return self.constant(max(self.functions.values()))",
+        RANDOM,
+    ),
+    Edit(
+        "refused_program_ends_with_0",
+        "refuses a program with exit code 0",
+        "tools/lowering/command.py",
+        "            say(line)\n        return REFUSED\n",
+        "            say(line)\n        return DONE\n",
+        "test_refusals.Refusals.test_atomic",
+    ),
+    Edit(
+        "lost_note_of_atomics",
+        "does not note that atomic accesses became plain ones",
+        "tools/lowering/module.py",
+        '            self.note("atomics")\n',
+        "            pass\n",
+        "test_refusals.Refusals.test_notes",
+    ),
+    Edit(
+        "jump_to_another_label",
+        "gives all labels whose address is taken one number",
+        "tools/lowering/code.py",
+        "STEP * (len(self.functions) + len(self.labels) + 1)",
+        "STEP * (len(self.functions) + 1)",
+        RANDOM,
+    ),
+]
+
+TYPES, LAYOUT, UNITS = "tools/lowering/types.py", "tools/lowering/layout.py", "test_lowering_types"
+EDITS += [
+    Edit(
+        "alignment_of_wide_integers",
+        "aligns `__int128` to 8",
+        TYPES,
+        "// 8), 16)",
+        "// 8), 8)",
+        f"{UNITS}.Sizes.test_sizes_alignments_and_offsets_are_those_of_the_table",
+    ),
+    Edit(
+        "packed_struct_is_aligned",
+        "aligns a packed struct like its fields",
+        TYPES,
+        '    return 1 if type_[0] == "packed" else max([1] + [alignment(field) for field in type_[1]])\n',
+        "    return max([1] + [alignment(field) for field in type_[1]])\n",
+        f"{UNITS}.Layout.test_a_packed_struct_whose_fields_lie_elsewhere_has_no_such_type",
+    ),
+    Edit(
+        "struct_without_its_last_padding",
+        "forgets the padding at the end of a struct",
+        TYPES,
+        "    return round_up(field_offsets(type_)[-1], whole)\n",
+        "    return field_offsets(type_)[-1] + 0 * whole\n",
+        f"{UNITS}.Layout.test_a_packed_struct_whose_fields_lie_elsewhere_has_no_such_type",
+    ),
+    Edit(
+        "offset_of_a_field_inside",
+        "forgets where a struct lies in another one",
+        TYPES,
+        "return leaves(inner, offset + begin)",
+        "return leaves(inner, begin)",
+        f"{UNITS}.Pieces.test_leaves_have_their_offsets",
+    ),
+    Edit(
+        "half_of_an_odd_integer",
+        "stores an integer of an odd width without its last bytes",
+        LAYOUT,
+        "    found, offset, end = [], 0, -(-bits(type_) // 8)\n",
+        "    found, offset, end = [], 0, bits(type_) // 16 * 2\n",
+        f"{UNITS}.Layout.test_the_parts_of_an_integer_cover_its_bytes_once",
+    ),
+    Edit(
+        "alignment_at_an_offset",
+        "takes an address inside an aligned object for aligned",
+        LAYOUT,
+        "return min(least, offset & -offset) if offset else least",
+        "return least if offset else least",
+        f"{UNITS}.Layout.test_an_alignment_is_known_as_far_as_the_offset_keeps_it",
+    ),
+    Edit(
+        "packed_struct_is_natural",
+        "gives the fields of a packed struct the offsets of a plain one",
+        LAYOUT,
+        "return same if field_offsets(same) == field_offsets(type_) and size(same) == size(type_) else None",
+        "return same",
+        f"{UNITS}.Layout.test_a_packed_struct_whose_fields_lie_elsewhere_has_no_such_type",
+    ),
+    Edit(
+        "integer_in_half_its_width",
+        "holds an integer of an odd width in too few bits",
+        TYPES,
+        '    return f"i{max(8, next_power(bits(type_)))}"\n',
+        '    return f"i{max(8, next_power(bits(type_)) // 2)}"\n',
+        f"{UNITS}.Pieces.test_an_integer_is_held_in_the_next_width",
+    ),
+]

@@ -12,3 +12,9 @@ count() {
     echo "$LABEL: $line"
   fi
 }
+
+# skip REASON: says what is left out; where CI is set, that is a case that fails
+skip() {
+  echo "$LABEL: skipped: $1"
+  if [ -n "${CI-}" ]; then failed=$((failed + 1)); fi
+}

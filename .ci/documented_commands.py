@@ -3,7 +3,7 @@
 
 `.ci/pages_and_exit_codes.sh` runs the `console` blocks. This script runs the lines of the `sh` blocks, except those in NOT_RUN, and the commands
 in COMMANDS, which stand in the text. The options and commands that pages list must be those of the programs; files, edits and headings that pages
-name must exist. Without the tools of LLVM 19 it skips the commands that need them."""
+name must exist. Without the tools of LLVM 19 it skips the commands that need them; where CI is set, these then count as failed."""
 
 from __future__ import annotations
 
@@ -19,11 +19,28 @@ from pathlib import Path
 from typing import Iterator
 
 TOP = Path(__file__).resolve().parent.parent
-PAGES = [TOP / "README.md", TOP / "CONTRIBUTING.md", *sorted(TOP.glob("docs/*.md")), *sorted(TOP.glob("examples/*/README.md"))]
+PAGES = [
+    TOP / "README.md",
+    TOP / "CONTRIBUTING.md",
+    *sorted(TOP.glob("docs/*.md")),
+    TOP / "bench/README.md",
+    *sorted(TOP.glob("examples/*/README.md")),
+]
 # Where the commands of a page run, if not in the page's own folder. A command that begins with a dot runs at the top.
-FOLDERS = {"README.md": "examples", "docs/FROM_C.md": "."}
+FOLDERS = {"README.md": "examples", "docs/COMMANDS.md": "examples", "docs/FROM_C.md": "."}
+OF_USERS = "an example of files that each user has"
+FETCHES = "it fetches the source of PMDK, and takes an hour"
 NOT_RUN = {
     ".ci/run --quick": "it takes minutes",
+    "hippo-c explore store.c driver.c --inputs inputs --time 60 --corpus corpus": OF_USERS,
+    "hippo-c check --check-return 'put,del' engine.c driver.c": OF_USERS,
+    "hippo-c check --check-return 'engine.c:tree_.*=root' --check-call reply engine.c driver.c": OF_USERS,
+    "hippo-c check --commit log.c:112 log.c driver.c": OF_USERS,
+    "hippo-c check --commit ulog_store,root engine.c driver.c": OF_USERS,
+    "tools/tests/debian/pmdk/run_programs.py": FETCHES,
+    "tools/tests/debian/pmdk/run_tests.py": FETCHES,
+    "tools/tests/debian/pmdk/run_bugs.py": FETCHES,
+    "hippo-c crash engine.c --entries 168 --pick 0:23 --debug image": OF_USERS,
     "hippo-c check FILE... [OPTIONS] [--args WORD...] [-- CLANG-ARGUMENTS...]": "a synopsis",
 }
 CLANG_TOOLS = ("clang-19", "opt-19", "llc-19", "llvm-link-19", "llvm-extract-19")
@@ -48,10 +65,14 @@ LOWER_PUBLIC = "tools/lower --public FILE examples/from_c/log.c >log.ll 2>notes"
 COMMANDS = [
     InText("CONTRIBUTING.md", 'grep -rn "abbrev pub is_turn" crates/*/specs'),
     InText("CONTRIBUTING.md", "python3 tools/contract_sizes.py", codes=(0, 1)),
+    InText("CONTRIBUTING.md", "python3 tools/reading_list.py"),
     InText("docs/FROM_C.md", "hippo record undo.ll 3 0 1 30 1 2 200 2 7 100", "examples/from_c"),
     InText("docs/FROM_C.md", "sed s/llvm.x86.clwb/llvm.x86.sse2.clflush/", before="exec <examples/from_c/log.ll"),
-    InText("docs/FROM_C.md", "opt-19 -mtriple=x86_64-pc-linux-gnu -passes=internalize -internalize-public-api-file=FILE log.ll -o log.bc",
-           before=LOWER_PUBLIC),
+    InText(
+        "docs/FROM_C.md",
+        "opt-19 -mtriple=x86_64-pc-linux-gnu -passes=internalize -internalize-public-api-file=FILE log.ll -o log.bc",
+        before=LOWER_PUBLIC,
+    ),
     InText("docs/FROM_C.md", "llvm-extract-19 --delete --func=main -S -o part.ll log.ll", before=LOWER_PUBLIC),
 ]
 
@@ -64,13 +85,26 @@ class Room:
         shutil.copytree(TOP / "examples", folder / "examples")
         for name in ("tools", "crates", "docs", ".ci", "hippo"):
             (folder / name).symlink_to(TOP / name)
-        self.environment = {**os.environ, "PATH": f"{TOP}/tools:{os.environ['PATH']}", "TOP": str(TOP), "PYTHONDONTWRITEBYTECODE": "1"}
+        self.environment = {
+            **os.environ,
+            "PATH": f"{TOP}/tools:{os.environ['PATH']}",
+            "TOP": str(TOP),
+            "PYTHONDONTWRITEBYTECODE": "1",
+        }
 
     def run(self, command: str, folder: str) -> subprocess.CompletedProcess[str]:
         """Runs a command by a shell in which `hippo` is the launcher of this repository."""
         script = f'hippo() {{ "$TOP/hippo" "$@"; }}\n{command}\n'
-        return subprocess.run(["bash", "-euc", script], cwd=self.folder / folder, env=self.environment, stdin=subprocess.DEVNULL,
-                              capture_output=True, text=True, errors="replace", check=False)
+        return subprocess.run(
+            ["bash", "-euc", script],
+            cwd=self.folder / folder,
+            env=self.environment,
+            stdin=subprocess.DEVNULL,
+            capture_output=True,
+            text=True,
+            errors="replace",
+            check=False,
+        )
 
 
 class Cases:
@@ -121,7 +155,9 @@ def in_blocks() -> Iterator[InText]:
             for line in (re.sub(r"\s+#.*", "", line) for line in block.splitlines()):
                 if line and line not in NOT_RUN:
                     at_top = re.match(r"\.(?!\.)", line)
-                    yield InText(name_of(page), line, "." if at_top else FOLDERS.get(name_of(page), name_of(page.parent)))
+                    yield InText(
+                        name_of(page), line, "." if at_top else FOLDERS.get(name_of(page), name_of(page.parent))
+                    )
 
 
 def run_commands(room: Room, cases: Cases) -> None:
@@ -137,20 +173,25 @@ def run_commands(room: Room, cases: Cases) -> None:
             continue
         ran = room.run(f"{given.before}\n{given.command}", given.folder)
         said = (ran.stderr.strip().splitlines() or ["nothing on standard error"])[-1]
-        cases.count(f"{given.page}: {given.command}", "" if ran.returncode in given.codes else f"exit {ran.returncode}, {said}")
+        cases.count(
+            f"{given.page}: {given.command}", "" if ran.returncode in given.codes else f"exit {ran.returncode}, {said}"
+        )
     if skipped:
-        print(f"documented commands: {skipped} skipped, the tools of LLVM 19 are not installed")
+        print(f"documented commands: {skipped} skipped: the tools of LLVM 19 are not installed")
+        cases.failed += skipped if os.environ.get("CI") else 0
 
 
 def differ(found: set[str], wanted: set[str]) -> str:
     """What one of two sets lacks, if anything."""
     lacking, extra = sorted(wanted - found), sorted(found - wanted)
-    return "; ".join(([f"it lacks {' '.join(lacking)}"] if lacking else []) + ([f"there is no {' '.join(extra)}"] if extra else []))
+    return "; ".join(
+        ([f"it lacks {' '.join(lacking)}"] if lacking else []) + ([f"there is no {' '.join(extra)}"] if extra else [])
+    )
 
 
 def options_of(room: Room, *words: str) -> set[str]:
-    """The long options that a program's help lists."""
-    return set(OPTION.findall(room.run(f"COLUMNS=200 {' '.join(words)} --help", ".").stdout)) - {"--help"}
+    """The long options that a program's help lists, without those that each program has."""
+    return set(OPTION.findall(room.run(f"COLUMNS=200 {' '.join(words)} --help", ".").stdout)) - {"--help", "--version"}
 
 
 def compare_options(room: Room, cases: Cases) -> None:
@@ -159,23 +200,25 @@ def compare_options(room: Room, cases: Cases) -> None:
     rows = set(re.findall(r"^\| `(--[a-z][a-z0-9-]+)", page.split("## The compile line")[1].split("## ")[0], re.M))
     cases.count("docs/FROM_C.md: the options of tools/lower", differ(rows, options_of(room, "tools/lower")))
     of_hippo_c = {"--args"}
-    for command in ("check", "run", "repair", "crash", "install"):
+    for command in ("check", "run", "repair", "crash", "explore", "pool", "suggest-commits", "install"):
         of_hippo_c |= options_of(room, "tools/hippo-c", command)
     known = of_hippo_c | rows | options_of(room, "./hippo")
     named = {option for code in in_text(TOP / "docs/HIPPO_C.md") for option in OPTION.findall(code)}
     cases.count("docs/HIPPO_C.md: each option exists", differ(named & known, named))
-    for manual, wanted in (("hippo-c.1", of_hippo_c), ("hippo.1", {"--limit", "--base"})):
+    for manual, wanted in (("hippo-c.1", of_hippo_c | {"--version"}), ("hippo.1", {"--limit", "--base"})):
         written = set(OPTION.findall(re.sub(r"\\f.", "", text_of(TOP / "docs/man" / manual)).replace("\\-", "-")))
         cases.count(f"docs/man/{manual}: its options", differ(written, wanted))
 
 
 def compare_commands(room: Room, cases: Cases) -> None:
-    """The commands in README and in the manual page are those of the launcher's help and of the program's usage text."""
+    """The commands in docs/COMMANDS.md and in the manual page are those of the launcher's help and of the program's usage text."""
     of_help = set(re.findall(r"^  (\w+) .*  hippo \w", room.run("hippo --help", ".").stdout, re.M))
-    of_usage = set(re.findall(r"^\s*(?:usage: )?hippo (\w+)", room.run("hippo 2>&1 || true", ".").stdout, re.M)) - {"usage"}
-    of_table = set(re.findall(r"^\| `hippo (\w+)", text_of(TOP / "README.md"), re.M))
+    of_usage = set(re.findall(r"^\s*(?:usage: )?hippo (\w+)", room.run("hippo 2>&1 || true", ".").stdout, re.M)) - {
+        "usage"
+    }
+    of_table = set(re.findall(r"^\| `hippo (\w+)", text_of(TOP / "docs/COMMANDS.md"), re.M))
     of_manual = set(re.findall(r'^\.BI "(\w+) "', text_of(TOP / "docs/man/hippo.1"), re.M))
-    for name, found in (("the usage text", of_usage), ("README.md", of_table), ("docs/man/hippo.1", of_manual)):
+    for name, found in (("the usage text", of_usage), ("docs/COMMANDS.md", of_table), ("docs/man/hippo.1", of_manual)):
         cases.count(f"{name}: its commands", differ(found, of_help))
 
 
@@ -194,7 +237,9 @@ def compare_names(cases: Cases) -> None:
                 if not any(glob.glob(str(place / code)) for place in places):
                     missing.add(code)
             edit = EDIT.fullmatch(code)
-            if edit and not any((TOP / "crates" / edit[1] / place).exists() for place in (f"must-fail/{edit[2]}.edit", edit[2])):
+            if edit and not any(
+                (TOP / "crates" / edit[1] / place).exists() for place in (f"must-fail/{edit[2]}.edit", edit[2])
+            ):
                 missing.add(code)
         for path, heading in re.findall(r"\]\(([^)#]*)#([^)]+)\)", text_of(page)):
             target = (page.parent / path) if path else page

@@ -1,26 +1,35 @@
 #!/usr/bin/env bash
 # Tests tools/lower. It must lower each program in examples/from_c to the text that is stored in the same folder. That text, the
-# repaired one and the C program, each built for the processor, must print what is stored. The tests of tools/lower run too.
-# Without the tools of LLVM 19 it tests nothing, and one line says so.
+# repaired one and the C program, each built for the processor, must print what is stored. Without the tools of LLVM 19 it tests
+# nothing, and one line says so; where CI is set, it fails. With --quick it leaves out the random programs of csmith, whose runs
+# are too long for an unproved build.
+case $* in
+  '') is_whole=true ;;
+  --quick) is_whole=false ;;
+  *)
+    echo 'usage: .ci/from_c.sh [--quick]' >&2
+    exit 2
+    ;;
+esac
 cd "$(dirname "${BASH_SOURCE[0]}")/.." || exit 2
-for tool in python3 clang-19 opt-19 llvm-as-19 llvm-link-19 llc-19; do
-  if ! command -v "$tool" >/dev/null; then
-    echo "from C: skipped, $tool is not installed"
-    exit 0
-  fi
-done
-if [ "$(uname -m)" != x86_64 ]; then
-  echo "from C: skipped, the processor is no x86-64"
-  exit 0
-fi
-scratch=$(mktemp -d) || exit 2
-trap 'rm -rf "$scratch"' EXIT
 folder=examples/from_c
 passed=0
 failed=0
 export LABEL="from C"
 # shellcheck source=/dev/null
 source .ci/counting.sh
+for tool in python3 clang-19 opt-19 llvm-as-19 llvm-link-19 llc-19; do
+  if ! command -v "$tool" >/dev/null; then
+    skip "$tool is not installed"
+    exit "$failed"
+  fi
+done
+if [ "$(uname -m)" != x86_64 ]; then
+  skip 'the processor is no x86-64'
+  exit "$failed"
+fi
+scratch=$(mktemp -d) || exit 2
+trap 'rm -rf "$scratch"' EXIT
 
 # A processor without clwb gets clflush in its place, which has the same type.
 if grep -qw clwb /proc/cpuinfo; then flush=llvm.x86.clwb; else flush=llvm.x86.sse2.clflush; fi
@@ -109,7 +118,7 @@ if [ -x "$hippo" ]; then
     count "hippo repair $name.ll gives something else" mends "$name"
   done
 else
-  echo "from C: runs by hippo are skipped, it is not built"
+  skip 'hippo is not built, so its runs are left out'
 fi
 
 # Compares the lowered code of intrinsics at each level, and of forms that clang rarely writes, with LLVM's own builds.
@@ -128,17 +137,13 @@ done
 tools/lower tools/tests/forms.ll >"$scratch/lowered.ll" 2>"$scratch/notes"
 count "forms.ll prints something else" prints "$scratch/lowered.ll" /dev/null "$scratch/forms.out"
 
-# The tests of tools/lower: C programs feature by feature at each level, refusals, and the runtime.
-if [ -x "$hippo" ]; then export HIPPO_PROGRAM=$hippo; fi
-for tests in lowering refusals runtime; do
-  count "tools/tests/test_$tests.py fails" python3 -B "tools/tests/test_$tests.py"
-done
-
 # Random programs, if csmith is installed.
-if ! command -v csmith >/dev/null; then
-  echo "from C: random programs are skipped, csmith is not installed"
+if ! $is_whole; then
+  echo 'from C: skipped: the random programs of csmith, with --quick'
+elif ! command -v csmith >/dev/null || ! compgen -G '/usr/include/csmith*/csmith.h' >/dev/null && ! compgen -G '/usr/local/include/csmith*/csmith.h' >/dev/null; then
+  echo 'from C: skipped: csmith or its header is not installed (Debian: csmith, libcsmith-dev)'
 elif [ -x "$hippo" ]; then
-  count "a random program differs" python3 -B tools/tests/random_programs.py --hippo "$hippo" --count 6
+  count 'a random program differs' python3 -B tools/tests/random_programs.py --hippo "$hippo" --count 6
 fi
 
 echo "from C: $passed passed, $failed failed"

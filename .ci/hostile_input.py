@@ -1,6 +1,6 @@
 #!/usr/bin/env python3
 """Hostile input to the built program: files that are cut or damaged at each byte, texts of 16 MiB of one form, files that
-come byte by byte, and a deep run. Each run must end with an exit code of the README, with the text of that code on
+come byte by byte, and a deep run. Each run must end with an exit code of docs/COMMANDS.md, with the text of that code on
 standard error, and with nothing but an answer on standard output. A line shows each answer that is wrong; the last line has
 the counts. HIPPO_PROGRAM names another program than out/hippo."""
 
@@ -22,7 +22,7 @@ from hostile_texts import DEEP, LARGE, filled  # noqa: E402
 TOP = Path(__file__).resolve().parent.parent
 HIPPO = os.environ.get("HIPPO_PROGRAM", str(TOP / "out" / "hippo"))
 # Each byte of a file is replaced by each of these: ends of lines and tokens, digits, letters, and bytes of no text.
-DAMAGES = b"\0\n \";%@,({]-09z\xff"
+DAMAGES = b'\0\n ";%@,({]-09z\xff'
 SOUNDNESS = "duplicate|unknown|mismatch|no main|unassigned|bad extern|bad global|bad edge|too large"
 TEXT_LINE = re.compile(r"hippo: program line (\d+): (syntax|unsupported|range|depth)\n")
 FORM_LINE = re.compile(rf"hippo: program: ({SOUNDNESS}) at (program|global \d+|extern \d+|function \d+.*)\n")
@@ -58,8 +58,14 @@ class Cases:
         self.count(name, [] if got == wanted else [str(got)])
 
 
-def answer(*words: str | bytes, memory: int | None = None, seconds: int | None = None, stack: int | None = None,
-           stdin: int = subprocess.DEVNULL, stdout: int | IO[bytes] = subprocess.PIPE) -> Answer:
+def answer(
+    *words: str | bytes,
+    memory: int | None = None,
+    seconds: int | None = None,
+    stack: int | None = None,
+    stdin: int = subprocess.DEVNULL,
+    stdout: int | IO[bytes] = subprocess.PIPE,
+) -> Answer:
     """The answer of a run, with limits of memory in MiB and seconds of processor time, or of the stack in KiB."""
     command = [HIPPO, *words]
     if stack:
@@ -71,7 +77,7 @@ def answer(*words: str | bytes, memory: int | None = None, seconds: int | None =
 
 
 def is_answer(got: Answer) -> bool:
-    """Whether an answer of `repair` is one of the README: a text with its counts, or the line of a refusal alone."""
+    """Whether an answer of `repair` is one of docs/COMMANDS.md: a text with its counts, or the line of a refusal alone."""
     if got.code == 0:
         return bool(got.out) and bool(COUNTS.fullmatch(got.notes))
     forms = {5: (TEXT_LINE, FORM_LINE), 6: (TRACE_LINE,)}.get(got.code, ())

@@ -57,7 +57,9 @@ LARGE = [
     Large("a list of empty structs", lambda: listed(b"{} {}"), 5, NO_MAIN),
     Large("fields of a struct", lambda: filled(b"@x = global {i1", b",i1", b"} zeroinitializer"), 5, NO_MAIN),
     Large("globals", lambda: filled(b"", b"@x = global i1 0\n"), 5, "hippo: program: duplicate at global 1\n"),
-    Large("parameters", lambda: filled(b"declare i1 @f(ptr", b",ptr", b")"), 5, "hippo: program: bad extern at extern 0\n"),
+    Large(
+        "parameters", lambda: filled(b"declare i1 @f(ptr", b",ptr", b")"), 5, "hippo: program: bad extern at extern 0\n"
+    ),
     Large("flags", lambda: in_main(b"%x = add", b" nuw", b" i64 1, 1"), 0, "stop 0\n"),
     Large("stores", lambda: in_main(b"", b"store i1 0,ptr @x\n"), 0, "stop 0\n"),
     Large("edges of a phi", lambda: in_main(b"br label %b b: %x = phi i64 [0,%a]", b",[0,%a]"), 0, "stop 0\n"),

@@ -1,5 +1,5 @@
 #!/usr/bin/env bash
-# Runs the program on real files. Each console block of the README and of the pages of examples runs in a copy of the page's
+# Runs the program on real files. Each console block of README, of docs/COMMANDS.md and of the pages of examples runs in a copy of the page's
 # folder: standard output and standard error must be the block's text, and each written file must equal the stored one. Then
 # come bad input, the exit codes that no page shows, and the answers of a fresh clone. With --quick it runs only what an
 # unproved build can do, which needs more memory and time.
@@ -59,13 +59,14 @@ page() {
   awk -v name="$scratch/block." '/^```console$/ { n++; on = 1; next } /^```$/ { on = 0 } on { print > (name n) }' "$1"
   for block in "$scratch"/block.*; do
     if [ -e "$block" ] && grep -q '^\$ hippo-c ' "$block" && ! command -v clang-19 >/dev/null; then
-      echo "case: $1: block ${block##*.} skipped, clang-19 is not installed"
+      skip "block ${block##*.} of $1: clang-19 is not installed"
     elif [ -e "$block" ]; then count "$1: block ${block##*.}" runs "$block" "$scratch/room/folder"; fi
   done
   count "$2: its files" keeps "$2" "$scratch/room/folder"
 }
 
 page README.md examples
+page docs/COMMANDS.md examples
 for folder in examples/*/; do
   if [ -e "${folder}README.md" ]; then page "${folder}README.md" "${folder%/}"; fi
 done

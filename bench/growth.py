@@ -32,19 +32,50 @@ class Shape:
 
 
 SHAPES = [
-    Shape("calls with a loose store each", shapes.each_level, (1_000, 4_000, 16_000), ("record", "repair"), {"record": 64, "check": 256}),
-    Shape("loose stores 16,000 calls deep", shapes.deep_stores, (1_500, 6_000, 24_000), ("record", "repair"), {"record": 64}),
-    Shape("asserts of 1,000 loose stores", shapes.asserts_over_loose, (500, 2_000, 8_000), ("record",), {"record": 64, "check": 256}),
+    Shape(
+        "calls with a loose store each",
+        shapes.each_level,
+        (1_000, 4_000, 16_000),
+        ("record", "repair"),
+        {"record": 64, "check": 256},
+    ),
+    Shape(
+        "loose stores 16,000 calls deep",
+        shapes.deep_stores,
+        (1_500, 6_000, 24_000),
+        ("record", "repair"),
+        {"record": 64},
+    ),
+    Shape(
+        "asserts of 1,000 loose stores",
+        shapes.asserts_over_loose,
+        (500, 2_000, 8_000),
+        ("record",),
+        {"record": 64, "check": 256},
+    ),
     Shape("pointers given to a call", shapes.wide_call, (12_500, 50_000, 200_000), ("record", "check", "repair"), {}),
-    Shape("null pointers given to a call", shapes.wide_call_of_null, (12_500, 50_000, 200_000), ("record", "repair"), {}),
+    Shape(
+        "null pointers given to a call", shapes.wide_call_of_null, (12_500, 50_000, 200_000), ("record", "repair"), {}
+    ),
     Shape("cases of a switch, each taken", shapes.wide_switch, (6_250, 25_000, 100_000), ("run",), {}),
     Shape("frames of 50,000 registers", shapes.deep_registers, (1_000, 4_000, 16_000), ("run",), {"run": 64}),
     Shape("allocations of an empty type", shapes.empty_blocks, (250_000, 1_000_000, 4_000_000), ("run",), {"run": 16}),
     Shape("loose lines", shapes.loose_lines, (62_500, 250_000, 1_000_000), ("run", "record"), {"run": 400}),
-    Shape("loose lines beside 100,000 fences", shapes.fences_beside_loose_lines, (62_500, 250_000, 1_000_000), ("run",), {}),
+    Shape(
+        "loose lines beside 100,000 fences",
+        shapes.fences_beside_loose_lines,
+        (62_500, 250_000, 1_000_000),
+        ("run",),
+        {},
+    ),
     Shape("blocks with an edge back", shapes.back_edges, (6_250, 25_000, 100_000), ("run",), {}),
-    Shape("stores to one word", shapes.stores_to_one_word, (625_000, 2_500_000, 10_000_000), ("run", "record"),
-          {"run": 16, "record": 64, "check": 64}),
+    Shape(
+        "stores to one word",
+        shapes.stores_to_one_word,
+        (625_000, 2_500_000, 10_000_000),
+        ("run", "record"),
+        {"run": 16, "record": 64, "check": 64},
+    ),
     Shape("prints", shapes.prints, (62_500, 250_000, 1_000_000), ("run",), {"run": 16}),
 ]
 
@@ -82,17 +113,27 @@ def of_shape(hippo: Hippo, shape: Shape) -> None:
 
 def of_one_to_another(hippo: Hippo) -> None:
     """Programs that must cost nearly the same, and the cost of a print."""
+
     def taken(*given: tuple[str, str]) -> list[float]:
         return times(hippo.runs, *(hippo.command("run", hippo.file(name, text)) for name, text in given))
 
     count = hippo.size(20_000)
-    large, small = taken(("large.ll", shapes.calls_with_block(count, 15 * MIB)), ("small.ll", shapes.calls_with_block(count, 16)))
+    large, small = taken(
+        ("large.ll", shapes.calls_with_block(count, 15 * MIB)), ("small.ll", shapes.calls_with_block(count, 16))
+    )
     show("run: a call with a block of 15 MiB to one of 16 bytes", large / small, most=2, basis=seconds(large, small))
-    large, small = taken(("large.ll", shapes.asserts_over_region(64 * MIB)), ("small.ll", shapes.asserts_over_region(MIB // 4)))
+    large, small = taken(
+        ("large.ll", shapes.asserts_over_region(64 * MIB)), ("small.ll", shapes.asserts_over_region(MIB // 4))
+    )
     show("run: asserts over 64 MiB to asserts over 256 KiB", large / small, most=2, basis=seconds(large, small))
     count = hippo.size(1_000_000)
     printed, plain = taken(("prints.ll", shapes.prints(count)), ("turns.ll", shapes.turns(count)))
-    show("run: nanoseconds a print, 10^6 prints", (printed - plain) / count * 1e9, basis=seconds(printed, plain), form=".0f")
+    show(
+        "run: nanoseconds a print, 10^6 prints",
+        (printed - plain) / count * 1e9,
+        basis=seconds(printed, plain),
+        form=".0f",
+    )
 
 
 def over_entries(hippo: Hippo) -> None:
@@ -108,7 +149,9 @@ def over_entries(hippo: Hippo) -> None:
     run, *taken = times(hippo.runs, *commands)
     for place, name in enumerate(("record", "check", "repair")):
         each = taken[place::3]
-        show(f"{name}: exponent from 10^4 to 10^6 entries", exponent(entries, each), most=STEEPEST, basis=seconds(*each))
+        show(
+            f"{name}: exponent from 10^4 to 10^6 entries", exponent(entries, each), most=STEEPEST, basis=seconds(*each)
+        )
     show("record: times the time of run, 10^6 entries", taken[6] / run, basis=seconds(taken[6], run))
     show("check: times the time of run, 10^6 entries", taken[7] / run, basis=seconds(taken[7], run))
 
@@ -158,18 +201,28 @@ def of_large_texts(hippo: Hippo) -> None:
     for name, found in peaks.items():
         worst, form = max(found)
         mixed = next(high for high, form in found if form == "mixed functions")
-        title, basis = f"{name}: MB, a text of 16 MiB, the worst of {len(found)} forms", f"{form}; mixed functions: {mixed:.0f}"
+        title, basis = (
+            f"{name}: MB, a text of 16 MiB, the worst of {len(found)} forms",
+            f"{form}; mixed functions: {mixed:.0f}",
+        )
         show(title, worst, most=400, basis=basis, form=".0f")
 
 
 def with_small_stack(hippo: Hippo) -> None:
     """The exit code of a run of calls 16,000 deep when the stack of the process has 32 KiB."""
+
     def small() -> None:
         resource.setrlimit(resource.RLIMIT_STACK, (32 << 10, 32 << 10))
 
     words = hippo.command("run", BENCH / "deep.ll", 1).words
     done = subprocess.run(words, stdin=subprocess.DEVNULL, capture_output=True, preexec_fn=small, check=False)
-    show("run: exit code with a stack of 32 KiB", abs(done.returncode), most=0, basis=f"code {done.returncode}", form=".0f")
+    show(
+        "run: exit code with a stack of 32 KiB",
+        abs(done.returncode),
+        most=0,
+        basis=f"code {done.returncode}",
+        form=".0f",
+    )
 
 
 def measure(hippo: Hippo) -> None:

@@ -33,21 +33,38 @@ def beside_the_interpreter(hippo: Hippo, name: str) -> None:
     turns, run_goal, check_goal = LOOPS[name]
     path = BENCH / f"{name}.ll"
     numbers = [] if turns is None else [hippo.size(turns)]
-    text = hippo.file(f"{name}.lli.ll", for_interpreter(path.read_text(encoding="ascii"), numbers[0] if numbers else None))
+    text = hippo.file(
+        f"{name}.lli.ll", for_interpreter(path.read_text(encoding="ascii"), numbers[0] if numbers else None)
+    )
     stop = 112 if name == "loop" else 0
     llvm = Command((*INTERPRETER, text), code=stop)
     trace = hippo.recorded(str(path), *numbers)
-    ours = [hippo.command("run", path, *numbers), hippo.command("check", path, trace), hippo.command("record", path, *numbers)]
+    ours = [
+        hippo.command("run", path, *numbers),
+        hippo.command("check", path, trace),
+        hippo.command("record", path, *numbers),
+    ]
     lli, run, check, record = times(hippo.runs, llvm, *ours)
     show(f"run: times as fast as LLVM's interpreter, {name}.ll", lli / run, least=run_goal, basis=seconds(run, lli))
-    show(f"check: times as fast as LLVM's interpreter, {name}.ll", lli / check, least=check_goal, basis=seconds(check, lli))
+    show(
+        f"check: times as fast as LLVM's interpreter, {name}.ll",
+        lli / check,
+        least=check_goal,
+        basis=seconds(check, lli),
+    )
     if name == "loop":
         show("record: times the time of run, loop.ll", record / run, most=1.2, basis=seconds(record, run))
         show("check: times the time of run, loop.ll", check / run, most=2, basis=seconds(check, run))
     if name == "flush":
         entries = 3 * numbers[0] + 4
         written = (record - run) / entries * 1e9
-        show("record: nanoseconds for an entry written, flush.ll", written, most=40, basis=seconds(record, run), form=".0f")
+        show(
+            "record: nanoseconds for an entry written, flush.ll",
+            written,
+            most=40,
+            basis=seconds(record, run),
+            form=".0f",
+        )
 
 
 def beside_one_another(hippo: Hippo) -> None:
@@ -59,7 +76,9 @@ def beside_one_another(hippo: Hippo) -> None:
     run, check = times(hippo.runs, hippo.command("run", mixed, count // 5), hippo.command("check", mixed, trace))
     show("check: times the time of run, mixed.ll", check / run, most=2, basis=seconds(check, run))
     rows = [("turns", count), ("calls", count), ("deep", descents), ("store", count), ("flush", count)]
-    plain, calls, deep, store, flush = times(hippo.runs, *(hippo.command("run", BENCH / f"{name}.ll", number) for name, number in rows))
+    plain, calls, deep, store, flush = times(
+        hippo.runs, *(hippo.command("run", BENCH / f"{name}.ll", number) for name, number in rows)
+    )
     rate, of_calls, of_depth = 4 * count / plain, 5 * count / calls, 6 * 16_000 * descents / deep
     show("run: a loop's million steps a second, turns.ll", rate / 1e6, basis=seconds(plain))
     show("run: a loop of calls, part of that rate, calls.ll", of_calls / rate, least=0.5, basis=seconds(calls))

@@ -35,6 +35,7 @@ class Command:
 
 def started(command: Command) -> subprocess.Popen:
     """The process of a command."""
+
     def limit() -> None:
         resource.setrlimit(resource.RLIMIT_CPU, (MOST_SECONDS, MOST_SECONDS))
         resource.setrlimit(resource.RLIMIT_AS, (command.memory, command.memory))
@@ -82,7 +83,14 @@ def peak(command: Command) -> float:
     return high / 1000
 
 
-def show(name: str, measured: float, least: float | None = None, most: float | None = None, basis: str = "", form: str = ".2f") -> None:
+def show(
+    name: str,
+    measured: float,
+    least: float | None = None,
+    most: float | None = None,
+    basis: str = "",
+    form: str = ".2f",
+) -> None:
     """Prints a figure: its name, the measured value, the goal if there is one, and the values that it comes from."""
     goal = f"at least {least:g}" if least is not None else f"at most {most:g}" if most is not None else ""
     missed = least is not None and measured < least or most is not None and measured > most

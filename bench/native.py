@@ -69,7 +69,10 @@ def beside_native_code(hippo: Hippo, name: str) -> None:
         numbers = numbers_of(name, size if size < 1000 else hippo.size(size))
         trace = hippo.recorded(path, *numbers)
         given = hippo.file(f"{name}.{size}.in", " ".join(map(str, numbers)) + "\n")
-        commands += [Command((program,), input=given), Command(("valgrind", "-q", "--tool=memcheck", program), input=given)]
+        commands += [
+            Command((program,), input=given),
+            Command(("valgrind", "-q", "--tool=memcheck", program), input=given),
+        ]
         commands += [hippo.command("run", path, *numbers), hippo.command("check", path, trace)]
     taken = times(hippo.runs, *commands)
     native, memcheck, run, check = (max(long - short, 1e-6) for short, long in zip(taken[:4], taken[4:]))

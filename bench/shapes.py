@@ -54,7 +54,11 @@ deepest:
 
 def each_level(depth: int) -> str:
     """Calls this deep, with a store at each level that is never flushed."""
-    return program(f"  call void @down(i64 {depth})\n", region(depth + 1), descent("", at("%n", depth + 1) + "  store i64 1, ptr %at\n"))
+    return program(
+        f"  call void @down(i64 {depth})\n",
+        region(depth + 1),
+        descent("", at("%n", depth + 1) + "  store i64 1, ptr %at\n"),
+    )
 
 
 def deep_stores(count: int) -> str:
@@ -66,7 +70,9 @@ def deep_stores(count: int) -> str:
 def asserts_over_loose(asserts: int) -> str:
     """A thousand stores that are never flushed, and this many asserts of all of them."""
     stores = loop("i", 1000, at("%i", 1000) + "  store i64 1, ptr %at\n", "entry", "stored")
-    return program(stores + loop("k", asserts, "  call void @pm_assert(ptr @x, i64 8000)\n", "stored", "over"), region(1000))
+    return program(
+        stores + loop("k", asserts, "  call void @pm_assert(ptr @x, i64 8000)\n", "stored", "over"), region(1000)
+    )
 
 
 def wide_call(count: int, argument: str = "@x") -> str:
@@ -86,7 +92,8 @@ def wide_call_of_null(count: int) -> str:
 def wide_switch(cases: int) -> str:
     """A switch of this many cases, which takes each of them once."""
     rows = "".join(f"    i64 {number}, label %again\n" for number in range(cases))
-    return program(f"""  br label %head
+    return program(
+        f"""  br label %head
 head:
   %i = phi i64 [ 0, %entry ], [ %next, %again ]
   switch i64 %i, label %over [
@@ -95,13 +102,16 @@ again:
   %next = add i64 %i, 1
   br label %head
 over:
-""")
+"""
+    )
 
 
 def deep_registers(depth: int) -> str:
     """Calls this deep of a function of 50,000 registers, of which a call uses a few."""
     names = "".join(f"  %r{number} = add i64 %n, {number}\n" for number in range(50_000))
-    deepest = f"  %rare = icmp eq i64 %n, 7\n  br i1 %rare, label %many, label %over\nmany:\n{names}  br label %over\nover:\n"
+    deepest = (
+        f"  %rare = icmp eq i64 %n, 7\n  br i1 %rare, label %many, label %over\nmany:\n{names}  br label %over\nover:\n"
+    )
     return program(f"  call void @down(i64 {depth})\n", descent(deepest))
 
 
@@ -118,7 +128,9 @@ def calls_with_block(count: int, size: int) -> str:
 
 def asserts_over_region(size: int) -> str:
     """Ten thousand asserts over a region of this many bytes, in which nothing is loose."""
-    return program(loop("i", 10_000, f"  call void @pm_assert(ptr @x, i64 {size})\n", "entry", "over"), region(size, "i8"))
+    return program(
+        loop("i", 10_000, f"  call void @pm_assert(ptr @x, i64 {size})\n", "entry", "over"), region(size, "i8")
+    )
 
 
 def loose_lines(count: int) -> str:
@@ -137,8 +149,11 @@ def fences_beside_loose_lines(count: int) -> str:
 
 def back_edges(count: int) -> str:
     """A chain of this many blocks, in which block n has an edge back to block n / 2."""
-    blocks = "".join(f"b{number}:\n  %v{number} = add i64 %v{number - 1}, 1\n"
-                     f"  br i1 true, label %b{number + 1}, label %b{max(1, number // 2)}\n" for number in range(1, count))
+    blocks = "".join(
+        f"b{number}:\n  %v{number} = add i64 %v{number - 1}, 1\n"
+        f"  br i1 true, label %b{number + 1}, label %b{max(1, number // 2)}\n"
+        for number in range(1, count)
+    )
     return program(f"  br label %b0\nb0:\n  %v0 = add i64 1, 1\n  br label %b1\n{blocks}b{count}:\n")
 
 

@@ -47,14 +47,26 @@ Form = tuple[str, Callable[[int], str], Callable[[int], str]]
 FORMS: dict[str, Form] = {
     "mixed functions": ("@a = global [64 x i64] zeroinitializer\n", mixed, lambda count: ""),
     "empty functions": ("", lambda n: f"define void @f{n}(){{e:ret void}}\n", lambda count: ""),
-    "blocks": ("define void @f(){e:br label %b0\n", lambda n: f"b{n}:br label %b{n + 1}\n", lambda count: f"b{count}:ret void}}\n"),
+    "blocks": (
+        "define void @f(){e:br label %b0\n",
+        lambda n: f"b{n}:br label %b{n + 1}\n",
+        lambda count: f"b{count}:ret void}}\n",
+    ),
     "ends": ("define void @f(){e:unreachable\n", lambda n: f"b{n}:ret void\n", lambda count: "}\n"),
     "additions": ("define void @f(){e:\n", lambda n: f"%v{n}=add i8 0,0\n", lambda count: "ret void}\n"),
     "stores": ("define void @f(){e:\n", lambda n: "store i8 0,ptr null\n", lambda count: "ret void}\n"),
-    "calls": ("define void @g(){e:ret void}define void @f(){e:\n", lambda n: "call void @g()\n", lambda count: "ret void}\n"),
+    "calls": (
+        "define void @g(){e:ret void}define void @f(){e:\n",
+        lambda n: "call void @g()\n",
+        lambda count: "ret void}\n",
+    ),
     "loads": ("define void @f(){e:\n", lambda n: f"%v{n}=load i8,ptr null\n", lambda count: "ret void}\n"),
     "phis": ("define void @f(){e:br label %b\nb:\n", lambda n: f"%p{n}=phi i8[0,%e]\n", lambda count: "ret void}\n"),
-    "cases": ("define void @f(i64 %n){e:switch i64 %n,label %e2[", lambda n: f"i64 {n},label %e2\n", lambda count: "]\ne2:ret void}\n"),
+    "cases": (
+        "define void @f(i64 %n){e:switch i64 %n,label %e2[",
+        lambda n: f"i64 {n},label %e2\n",
+        lambda count: "]\ne2:ret void}\n",
+    ),
     "globals": ("", lambda n: f"@g{n}=global i8 0\n", lambda count: ""),
     "numbers": ("@g=global{", lambda n: f"{',' if n else ''}i8", lambda count: "}zeroinitializer\n"),
 }

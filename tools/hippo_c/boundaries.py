@@ -8,6 +8,8 @@ import difflib
 import re
 from dataclasses import dataclass
 
+from lowering.lines import ADDED
+
 from . import commits
 from .program import CALLED, HEAD, REGION_BASE, Function, Global, Program, Site
 from .trouble import Trouble
@@ -137,7 +139,8 @@ class Placing:
                 label, index, added = written[:-1], 0, 0
             elif function is not None and written.startswith(" ") and " = phi " not in written:
                 site = (function.name, label, index - added)
-                for check in [*self.points_at(site), *self.checks_at(function, written.strip())]:
+                is_jump = comment == ADDED and not function.added
+                for check in [*self.points_at(site), *self.checks_at(function, written.strip(), is_jump)]:
                     before, index = index, self.put(check, (function.name, label, index), comment)
                     added += index - before
                 index += 1
@@ -151,9 +154,11 @@ class Placing:
         """The checks of commit points before an instruction."""
         return [Check(boundary, boundary.word) for boundary in self.points.get(site, ())]
 
-    def checks_at(self, function: Function, instruction: str) -> list[Check]:
-        """The checks before an instruction."""
+    def checks_at(self, function: Function, instruction: str, is_jump: bool) -> list[Check]:
+        """The checks before an instruction. A return that tools/lower added is a jump or `exit`, which leaves the function without a return."""
         if instruction.startswith("ret "):
+            if is_jump:
+                return []
             name, option = function.name_in_c, RETURN
         elif called := CALLED.match(instruction):
             callee = self.program.functions.get(called[1])

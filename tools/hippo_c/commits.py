@@ -1,11 +1,13 @@
 """Commit points: places where all that was stored so far must be durable before the program goes on.
 
 A place is a line of C, whose first stores (or, without any, its calls) are meant, a function, whose start is meant, or a persistent global,
-whose stores are meant. Before each stands a check of all persistent memory."""
+whose stores are meant. Stores to the stack and to volatile globals do not count. Before each stands a check of all persistent memory."""
 from __future__ import annotations
 
 import re
 from collections.abc import Iterator
+
+from lowering.lines import Frame
 
 from .program import CALLED, Function, Instruction, Program, Site
 
@@ -34,26 +36,43 @@ def of_line(program: Program, file: str, line: int) -> Iterator[Site]:
     """The first store at a line in each block; if no block has one, the first call."""
     calls: list[Site] = []
     stores: list[Site] = []
+    volatile = {f"@{item.name}" for item in program.globals if not item.persistent}
     for function in program.functions.values():
         roots = roots_of(function)
+        not_persistent = {"", STACK, *volatile}
         for block in function.blocks:
-            here = [
-                (index, instruction)
-                for index, instruction in enumerate(block.instructions)
-                if stands_at(instruction, file, line)
-            ]
-            store = next((index for index, instruction in here if may_be_persistent(instruction, roots)), None)
-            call = next((index for index, instruction in here if CALLED.match(instruction.text)), None)
-            if store is not None:
-                stores.append((function.name, block.label, store))
-            elif call is not None:
-                calls.append((function.name, block.label, call))
+            stored = [root_of(instruction, roots) not in not_persistent for instruction in block.instructions]
+            called = [bool(CALLED.match(instruction.text)) for instruction in block.instructions]
+            at = [place_at(instruction, file, line) for instruction in block.instructions]
+            here = [(function.name, block.label, index) for index in firsts(at, stored, called)]
+            stores += here
+            calls += [(function.name, block.label, index) for index in firsts(at, called, stored) if not here]
     yield from stores or calls
 
 
-def stands_at(instruction: Instruction, file: str, line: int) -> bool:
-    """Whether an instruction has this place in C."""
-    return any(frame.line == line and f"/{frame.file}".endswith(f"/{file}") for frame in instruction.frames)
+def firsts(at: list[Frame | None], meant: list[bool], others: list[bool]) -> Iterator[int]:
+    """The first instruction that is meant of each time that a block goes through a line, by the places of its instructions there.
+
+    It goes through the line again, as it does in a loop that clang unrolled or in a function that it inlined twice, where a place
+    comes again after stores or calls of other lines."""
+    seen: set[Frame] = set()
+    is_elsewhere = True
+    for index, frame in enumerate(at):
+        if frame is None:
+            is_elsewhere |= meant[index] or others[index]
+        elif meant[index]:
+            if not seen or is_elsewhere and frame in seen:
+                seen = set()
+                yield index
+            seen.add(frame)
+            is_elsewhere = False
+
+
+def place_at(instruction: Instruction, file: str, line: int) -> Frame | None:
+    """The place of an instruction at a line of C, if it has one there; that of an inlined function is the same at each of its calls."""
+    return next(
+        (frame for frame in instruction.frames if frame.line == line and f"/{frame.file}".endswith(f"/{file}")), None
+    )
 
 
 def of_global(program: Program, name: str) -> Iterator[Site]:
@@ -67,26 +86,22 @@ def of_global(program: Program, name: str) -> Iterator[Site]:
                     yield function.name, block.label, index
 
 
-def may_be_persistent(instruction: Instruction, roots: dict[str, str]) -> bool:
-    """Whether an instruction is a store, and not one to the stack of its function."""
-    return root_of(instruction, roots) not in ("", STACK)
-
-
 def root_of(instruction: Instruction, roots: dict[str, str]) -> str:
     """From what the address of a store is made: a global, the stack, or another register; nothing if it is no store."""
     found = POINTER.match(instruction.text) if instruction.text.startswith("store ") else None
-    return roots.get(found["at"], found["at"]) if found else ""
+    root, passed = found["at"] if found else "", set()
+    while root in roots and root not in passed:
+        passed.add(root)
+        root = roots[root]
+    return root
 
 
 def roots_of(function: Function) -> dict[str, str]:
-    """From what the registers are made that getelementptr makes of others."""
+    """From what each register is made that getelementptr makes of another one. Blocks stand in any order."""
     roots: dict[str, str] = {}
     for block in function.blocks:
         for instruction in block.instructions:
-            if not (found := DERIVED.match(instruction.text)):
-                continue
-            base = POINTER.match(instruction.text)
-            roots[found["name"]] = (
-                STACK if found["word"] == "alloca" else roots.get(base["at"], base["at"]) if base else ""
-            )
+            if found := DERIVED.match(instruction.text):
+                base = POINTER.match(instruction.text)
+                roots[found["name"]] = STACK if found["word"] == "alloca" else base["at"] if base else ""
     return roots

@@ -116,7 +116,7 @@ class Instrumented:
         if is_first and last_name(function.name) in MARKS:
             yield f"  call void @{HOOK}{MARKS[last_name(function.name)]}()"
         for instruction in block.instructions:
-            if instruction.text.startswith("ret ") and function.name in self.recovers:
+            if instruction.text.startswith("ret ") and function.name in self.recovers and not instruction.added:
                 yield f"  call void @{HOOK}recovered()"
             self.place = instruction.frames[:1] or self.number
             for line in self.instruction(FLAG.sub("", instruction.text), function):

@@ -38,6 +38,32 @@ int main(void) {
     return 0;
 }
 """
+# `put` leaves by a jump before it has flushed, and what catches the jump flushes.
+JUMP = """#include <hippo.h>
+#include <setjmp.h>
+#include <stdlib.h>
+PERSISTENT _Alignas(64) long value;
+static jmp_buf out;
+static __attribute__((noinline)) void fill(long n) {
+    value = n;
+    if (n == 2) longjmp(out, 1);
+    if (n == 3) exit(0);
+    pmem_persist(&value, sizeof value);
+}
+static __attribute__((noinline)) void put(long n) {
+    fill(n);
+    value++;
+}
+int main(void) {
+    if (setjmp(out)) {
+        pmem_persist(&value, sizeof value);
+        return 0;
+    }
+    put(read_i64());
+    pmem_persist(&value, sizeof value);
+    return 0;
+}
+"""
 
 
 class Boundaries(Case):
@@ -83,6 +109,15 @@ class Boundaries(Case):
         self.assertEqual(len(found), 1)
         self.assertIn("is not durable at the call of 'reply'", found[0])
         self.assertEqual(self.messages("pointer.c", "--check-return", "reply"), [])
+
+    def test_a_jump_and_an_exit_are_no_return(self) -> None:
+        """Only a return of `put` is a check: not a jump through it, nor an exit in it."""
+        self.write("jump.c", JUMP)
+        for number, places in ((1, ["when 'put' returns"]), (2, []), (3, ["at the end of the run"])):
+            found = self.messages("jump.c", "--no-coverage", "--check-return", "put", "--input", str(number))
+            self.assertEqual(len(found), len(places), found)
+            for message, place in zip(found, places):
+                self.assertIn(place, message)
 
     def test_one_global(self) -> None:
         self.assertEqual(len(self.messages(self.log, "--check-return", "put=the_log")), 2)

@@ -1,7 +1,11 @@
 """Commit points: lines, functions and globals before whose stores all that was stored so far must be durable."""
 import json
+import unittest
 
 from .common import Case
+
+from hippo_c.commits import sites_of
+from hippo_c.program import Program
 
 LOG = """#include <hippo.h>
 PERSISTENT struct { long count; _Alignas(64) long items[8]; _Alignas(64) long sum; } store;
@@ -18,6 +22,40 @@ int main(void) {
   root = 1;
   pmem_persist(&root, 8);
   pmem_persist(&store.sum, 8);
+  return 0;
+}
+"""
+# `bump` commits twice in one block; before the second time a fence is missing.
+TWICE = """#include <hippo.h>
+PERSISTENT _Alignas(64) long items[16], count;
+static inline __attribute__((always_inline)) void bump(void) {
+  count++;
+  pmem_persist(&count, sizeof count);
+}
+int main(void) {
+  items[0] = 1;
+  _mm_clwb(&items[0]);
+  _mm_sfence();
+  bump();
+  items[8] = 2;
+  _mm_clwb(&items[8]);
+  bump();
+  return 0;
+}
+"""
+# The call stores what commits, and the line stores its result to volatile memory.
+BY_CALL = """#include <hippo.h>
+PERSISTENT _Alignas(64) long item, root;
+long done;
+static __attribute__((noinline)) long commit(void) {
+  root = 1;
+  pmem_persist(&root, sizeof root);
+  return 1;
+}
+int main(void) {
+  item = 1;
+  _mm_clwb(&item);
+  done = commit();
   return 0;
 }
 """
@@ -65,6 +103,21 @@ class Commit(Case):
             "to 'text[0]' is not durable before the commit point 'copy.c:7' in copy.c:7 [missing-flush-and-fence]", said
         )
 
+    def test_a_line_that_a_block_goes_through_twice(self) -> None:
+        self.write("twice.c", TWICE)
+        for level in ("-O0", "-O1"):
+            said = self.hippo_c("check", "twice.c", level, "--no-coverage", "--commit", "twice.c:4", code=1).stdout
+            self.assertIn("twice.c:12:12: warning: store of 8 bytes to 'items[8]' is not durable before", said)
+            self.assertIn("\n1 report in 1 group; 4 stores to persistent memory, 2 asserts", said)
+
+    def test_a_line_with_a_call_and_a_store_to_volatile_memory(self) -> None:
+        self.write("call.c", BY_CALL)
+        for level in ("-O0", "-O1"):
+            said = self.hippo_c("check", "call.c", level, "--no-coverage", "--commit", "call.c:12", code=1).stdout
+            self.assertIn(
+                "to 'item' is not durable before the commit point 'call.c:12' in call.c:12 [missing-fence]", said
+            )
+
     def test_repair(self) -> None:
         """The repaired program is clean at the commit point, and does not contain the check."""
         self.write("log.c", LOG)
@@ -102,3 +155,37 @@ class Commit(Case):
                 f"--commit '{place}': no store or function in the program fits", "check", "log.c", "--commit", place
             )
             self.refused(hint, "check", "log.c", "--commit", place)
+
+
+class Sites(unittest.TestCase):
+    """Which instructions are meant."""
+
+    def test_blocks_stand_in_any_order(self) -> None:
+        """An address may be made in a block that stands after its use."""
+        lines = [
+            "  %field = getelementptr i8, ptr %element, i64 8 ; a.c:3:1",
+            "  store i64 1, ptr %field ; a.c:3:2",
+        ]
+        for base, of_global, of_line in (
+            ("getelementptr [4 x i64], ptr @g, i64 0, i64 %i", [("f", "use", 1)], [("f", "use", 1)]),
+            ("alloca [4 x i64]", [], []),
+            ("getelementptr [4 x i64], ptr @v, i64 0, i64 %i", [], []),
+        ):
+            text = "\n".join(
+                [
+                    '@g = global [4 x i64] zeroinitializer, section ".pm"',
+                    "@v = global [4 x i64] zeroinitializer",
+                    "define void @f(i64 %i) {",
+                    "entry:",
+                    "  br label %make",
+                    "use:",
+                    *lines,
+                    "  ret void",
+                    "make:",
+                    f"  %element = {base}",
+                    "  br label %use",
+                    "}",
+                ]
+            )
+            self.assertEqual(sites_of(Program(text), "g"), of_global, base)
+            self.assertEqual(sites_of(Program(text), "a.c:3"), of_line, base)

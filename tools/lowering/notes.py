@@ -34,6 +34,7 @@ NOTES = {
     "heap": "{NAMES}: a volatile heap, whose size --heap states",
     "pool": "{NAMES}: the files are those of --pool",
     "time": "{NAMES}: the time is 0, unless --time-from-input reads it",
+    "zone": "{NAMES}: the local time is Universal Time",
     "system": "{NAMES}: one process and one processor, and the environment of --environment",
     "nothing_persistent": "the program has no persistent data, so hippo has nothing to report",
 }

@@ -40,6 +40,7 @@ ASSUMED = {
     "libpmem.c": "pool",
     "libpmem2.c": "pool",
     "time.c": "time",
+    "calendar.c": "zone",
     "system.c": "system",
 }
 # The start of a function, and of a variable that is a pointer to functions.

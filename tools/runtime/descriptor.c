@@ -131,6 +131,12 @@ int fcntl64(int number, int command, ...) {
   return fcntl(number, command, argument);
 }
 
+// A pool is no device.
+int ioctl(int number, unsigned long request, ...) {
+  (void)request;
+  return hippo_open_file(number) ? failed(ENOTTY) : -1;
+}
+
 // A lock of flock belongs to an open file, and ends with it. A wait for another open file of the one process would never end.
 int flock(int number, int operation) {
   struct hippo_open_file *file = hippo_open_file(number);

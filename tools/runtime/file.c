@@ -181,6 +181,8 @@ int stat64(const char *restrict path, struct stat64 *restrict to) { return stat(
 
 int lstat(const char *restrict path, struct stat *restrict to) { return stat(path, to); }
 
+int lstat64(const char *restrict path, struct stat64 *restrict to) { return stat64(path, to); }
+
 // Each pool is a file system of its size, of no known type.
 int fstatfs(int number, struct statfs *to) {
   struct hippo_pool *pool = hippo_pool_of_descriptor(number);

@@ -132,6 +132,12 @@ int munmap(void *address, size_t length) {
   return 0;
 }
 
+// A mapping keeps its length: no longer one is found.
+void *mremap(void *address, size_t length, size_t new_length, int flags, ...) {
+  (void)flags;
+  return (uintptr_t)address % PAGE || !new_length ? failed(EINVAL) : new_length == length ? address : failed(ENOMEM);
+}
+
 int msync(void *address, size_t length, int flags) {
   const struct hippo_pool *pool = hippo_pool_with(address);
   if ((uintptr_t)address % PAGE || flags & ~(MS_SYNC | MS_ASYNC | MS_INVALIDATE) || (flags & MS_SYNC && flags & MS_ASYNC)) {

@@ -8,7 +8,9 @@
 #include <stdlib.h>
 #include <string.h>
 #include <sys/stat.h>
+#include <sys/time.h>
 #include <unistd.h>
+#include <utime.h>
 
 static int failed(int number) {
   errno = number;
@@ -32,6 +34,49 @@ int chmod(const char *path, mode_t mode) {
 int fchmod(int descriptor, mode_t mode) {
   (void)mode;
   return hippo_pool_of_descriptor(descriptor) ? 0 : -1;
+}
+
+int chown(const char *path, uid_t owner, gid_t group) {
+  (void)owner, (void)group;
+  return existing(path) ? 0 : -1;
+}
+
+int fchown(int descriptor, uid_t owner, gid_t group) {
+  (void)owner, (void)group;
+  return hippo_pool_of_descriptor(descriptor) ? 0 : -1;
+}
+
+// No name is a link.
+ssize_t readlink(const char *restrict path, char *restrict to, size_t size) {
+  (void)to, (void)size;
+  return is_folder(path) || existing(path) ? failed(EINVAL) : -1;
+}
+
+// A pool keeps no times.
+int utimes(const char *path, const struct timeval times[2]) {
+  (void)times;
+  return existing(path) ? 0 : -1;
+}
+
+int utime(const char *path, const struct utimbuf *times) {
+  (void)times;
+  return existing(path) ? 0 : -1;
+}
+
+int futimens(int descriptor, const struct timespec times[2]) {
+  (void)times;
+  return hippo_pool_of_descriptor(descriptor) ? 0 : -1;
+}
+
+// There is no room for another folder.
+int mkdir(const char *path, mode_t mode) {
+  (void)mode;
+  return failed(is_folder(path) || existing(path) ? EEXIST : ENOSPC);
+}
+
+int rmdir(const char *path) {
+  if (is_folder(path)) return failed(path[0] == '/' ? EBUSY : EINVAL);
+  return existing(path) ? failed(ENOTDIR) : -1;
 }
 
 char *getcwd(char *to, size_t size) {

@@ -56,6 +56,8 @@ static void forms(void) {
   free(p);
   print_i64(pmem_map_file("a", 0, 0, 0, 0, 0) != 0);
   print_i64(time(0) + (getenv("A") != 0));
+  time_t now = 0;
+  print_i64(localtime(&now)->tm_year);
 }
 static unsigned processor(void) {
   unsigned a = 1, b, c = 0, d;
@@ -86,6 +88,7 @@ FILLED = {
     "heap": "free, malloc",
     "pool": "pmem_map_file",
     "time": "time",
+    "zone": "localtime",
     "system": "getenv",
 }
 

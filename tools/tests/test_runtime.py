@@ -9,6 +9,7 @@ import re
 import subprocess
 import tempfile
 import unittest
+from unittest import mock
 
 from clang_case import HIPPO, TESTS, TOP, ClangCase
 
@@ -131,6 +132,10 @@ class Runtime(Setting):
 
     def test_paths(self) -> None:
         self.is_same("paths", *FILES, "--pool", "new.a1b2c3=4K")
+
+    def test_calendar(self) -> None:
+        with mock.patch.dict(os.environ, TZ="UTC0"):
+            self.is_same("calendar")
 
     def test_output(self) -> None:
         self.is_same("output", *OUTPUT, "--file-calls")

@@ -89,6 +89,7 @@ static void maps(void) {
   char *all = mmap(NULL, 3 * 4096, PROT_READ | PROT_WRITE, MAP_SHARED, file, 0);
   char *last = mmap(NULL, 4096, PROT_READ | PROT_WRITE, MAP_SHARED, file, 8192);
   char *own = mmap(NULL, 8192, PROT_READ | PROT_WRITE, MAP_PRIVATE, file, 0);
+  note(mremap(all, 3 * 4096, 3 * 4096, 0) == all), note(mremap(all + 1, 4096, 4096, 0) == MAP_FAILED), note(errno);
   char *none = mmap(NULL, 5000, PROT_READ | PROT_WRITE, MAP_PRIVATE | MAP_ANONYMOUS, -1, 0);
   note_bytes(all, 300);
   note_bytes(none, 5000);

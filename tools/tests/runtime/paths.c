@@ -7,9 +7,12 @@
 #include <stdio.h>
 #include <stdlib.h>
 #include <string.h>
+#include <sys/ioctl.h>
 #include <sys/stat.h>
 #include <sys/sysmacros.h>
+#include <sys/time.h>
 #include <unistd.h>
+#include <utime.h>
 
 static const char *const NAMES[] = {"data.file", "./data.file", "none"};
 
@@ -86,8 +89,35 @@ static void walks(void) {
   print_sum();
 }
 
+static void owners_and_links(void) {
+  char target[16];
+  int file = open(NAMES[0], O_RDWR | O_CREAT, 0600);
+  for (int i = 0; i < 3; i++) note_result(chown(NAMES[i], getuid(), getgid())), note_result(readlink(NAMES[i], target, 16));
+  note_result(readlink(".", target, 16));
+  note_result(ioctl(file, TIOCGWINSZ, target));
+  struct stat64 status;
+  for (int i = 0; i < 3; i++) note_result(lstat64(NAMES[i], &status));
+  note_result(fchown(file, getuid(), getgid())), note_result(close(file)), note_result(fchown(file, getuid(), getgid()));
+  note_result(ioctl(file, TIOCGWINSZ, target));
+  print_sum();
+}
+
+static void times_and_folders(void) {
+  static const char *const there[] = {"data.file", ".", "./", "/"};
+  int file = open(NAMES[0], O_RDWR | O_CREAT, 0600);
+  for (int i = 0; i < 3; i++) note_result(utimes(NAMES[i], NULL)), note_result(utime(NAMES[i], NULL));
+  note_result(futimens(file, NULL));
+  note_result(close(file));
+  note_result(futimens(file, NULL));
+  for (int i = 0; i < 4; i++) note_result(mkdir(there[i], 0700)), note_result(rmdir(there[i]));
+  note_result(rmdir("none"));
+  print_sum();
+}
+
 int main(void) {
   modes();
+  owners_and_links();
+  times_and_folders();
   real_paths();
   new_files();
   folders();

@@ -8,7 +8,7 @@ import shutil
 import sys
 from pathlib import Path
 
-from measuring import Command, Hippo, figures, leave_out, seconds, show, spent, times
+from measuring import Command, Hippo, figures, leave_out, seconds, show, times
 
 TOP = Path(__file__).resolve().parent.parent
 sys.path.insert(0, str(TOP / "tools"))
@@ -64,7 +64,7 @@ def beside_the_program(hippo: Hippo, name: str) -> None:
     if name == "store":
         return
     images = replay(engine, hippo, name, 1, 2, hippo.size(MOST_IMAGE_RUNS))
-    taken = max(spent(images) - few, 1e-6)
+    taken = max(times(hippo.runs, images)[0] - few, 1e-6)
     runs = int(re.search(r"runs=(\d+)", Path(images.out).read_text(encoding="ascii"))[1])
     trace = hippo.recorded(text, *numbers_of(name))
     entries = len(Path(trace).read_text(encoding="ascii").split("\n")) - 1

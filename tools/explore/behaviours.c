@@ -51,7 +51,7 @@ static void write_read(const struct read *read, const char **before) {
 }
 
 void note_behaviour(const struct leaf *leaf, const u32 *choice) {
-  if (!behaviours_wanted || current.level > 1 || !leaf->reads || is_seen(mixed(at_event + 1, (u64)(leaf - leaves)) | 1)) return;
+  if (!behaviours_wanted || current.level > 1 || !leaf->reads || leaf->is_undecided || is_seen(mixed(at_event + 1, (u64)(leaf - leaves)) | 1)) return;
   behaviours_wanted--;
   printf("behaviour ending=%s status=%d site=%u path=", ending_word(leaf->ending), leaf->status, leaf->site);
   if (leaf->ending != CUT) write_calls(leaf->path);
@@ -61,7 +61,7 @@ void note_behaviour(const struct leaf *leaf, const u32 *choice) {
     if (pending_of(leaf->reads[i].line)) write_read(&leaf->reads[i], &before);
   printf(" at=");
   if (at_event) write_site(&current.events[at_event - 1]);
-  printf(" told=%llu limit=%llu input=", (unsigned long long)current.told, (unsigned long long)turn_limit);
+  printf(" told=%llu limit=%llu input=", (unsigned long long)current.told, (unsigned long long)whole_limit);
   write_crashed_input();
   write_cuts(choice);
   putchar('\n');

@@ -6,8 +6,12 @@
 
 #define ALL 0xffffffffu
 #define MOST_IMAGES 1e200 // a greater number is counted as this one
-#define TIMES 8         // what a run from an image may take
-#define TIMES_QUIET 200 // what a run may take from what a run leaves: it may find much more than the run itself found
+#define TIMES 8         // what a run from an image may take at first
+#define TIMES_QUIET 200 // what a recovery may take: it may find much more than the run itself found
+#define TURNS_FOR_ANY 4000000ull // what any recovery may take besides, and for each byte of the region
+#define TURNS_FOR_A_BYTE 16ull
+#define MOST_ENDLESS 16              // endless runs that are followed for one crashed run
+#define MOST_ENDLESS_TURNS 4000000000ull // the turns of all endless runs
 #define FIRST_ROUND 64 // about the number of points that are tried first
 
 u32 most_levels = 2, sample_count = 2;
@@ -25,6 +29,12 @@ static u8 *is_done;       // the points that were tried whole
 static u32 *quiet, quiet_count; // the events before each read of the crashed run that begins an operation
 static int tries_outputs; // the prints after a crash are compared with those of runs without one
 static int looks_for_one; // nothing is counted, and the first sight of the wanted cause ends it
+static u32 *printed, printed_count; // the events before each number that the crashed run prints
+static u32 prints_here;             // how many of these are printed before the crash
+static u8 *is_print_done;           // the prints before which the crash was tried whole
+u64 whole_limit;          // a run from an image that takes more turns does not end
+static u64 endless_turns;
+static u32 endless_runs;
 
 void make_crashes(void) {
   make_trie();
@@ -45,6 +55,24 @@ void run_image(const u32 *chosen) {
     memcpy(REGION + (u64)pending[i].line * LINE, durable_image + (u64)pending[i].line * LINE, LINE);
 }
 
+// Whether a run from an image, which the limit cut, does not end: it takes all turns that a recovery may need. If it ends, such runs are
+// given as many turns from then on. A run that stores to each byte of the region several times does not end either.
+int is_endless(const u32 *chosen) {
+  u64 limit = turn_limit;
+  turn_limit = whole_limit;
+  run_image(chosen);
+  turn_limit = limit;
+  endless_turns += last_run.turns;
+  if (last_run.ending == FULL && last_run.events / 4 > hippo_program_region) {
+    whole_limit = last_run.turns;
+    last_run.ending = CUT;
+  }
+  if (last_run.ending == CUT) return 1;
+  u64 most = TIMES * (last_run.turns + 2500);
+  turn_limit = most < whole_limit ? most : whole_limit;
+  return 0;
+}
+
 static void choose_allowed(void) {
   for (u32 i = 0; i < pending_count; i++) {
     u32 last = pending[i].count - 1, at = 0;
@@ -56,6 +84,7 @@ static void choose_allowed(void) {
 // The events of a recovery, if it stores anything: a crash in it is worth a try.
 static void keep_recovery(struct leaf *leaf) {
   u32 stores = 0;
+  if (last_run.ending == CUT) return;
   for (u32 i = 0; i < last_run.recovered; i++) stores += events[i].kind == STORE;
   if (!stores || current.level >= most_levels) return;
   leaf->events = malloc(last_run.recovered * sizeof *events);
@@ -72,11 +101,20 @@ static void note_leaf(struct leaf *leaf) {
   behaviours += !looks_for_one;
   keep_recovery(leaf);
   keep_reads(leaf);
-  leaf->is_failing = fails(&last_run);
+  leaf->is_failing = !leaf->is_undecided && fails(&last_run);
   if (!leaf->is_failing) return;
   failing_behaviours += !looks_for_one;
   note_failure(leaf, choice);
   is_stopped |= looks_for_one && is_wanted_found;
+}
+
+// Runs from the image that is chosen; whether it stays open if the run ends. To look for one cause the quick limit is enough.
+static int is_left_undecided(void) {
+  run_image(choice);
+  if (last_run.ending != CUT || turn_limit >= whole_limit || looks_for_one) return 0;
+  if (endless_runs == MOST_ENDLESS || endless_turns >= MOST_ENDLESS_TURNS) return 1;
+  endless_runs += (u32)is_endless(choice);
+  return 0;
 }
 
 // Runs from the image that is chosen. The leaf; 0 if there is no room or no time.
@@ -86,11 +124,14 @@ static u32 run_chosen(u32 start) {
     return 0;
   }
   u32 known = leaf_count, known_keys = key_count;
-  run_image(choice);
+  int is_undecided = is_left_undecided();
   if (key_count > known_keys) note_reports(known_keys, choice);
   u32 node = add_last_run(start);
   if (!node || last_run.ending == FULL) is_stopped = 1;
-  if (node && leaf_count > known) note_leaf(&leaves[trie[node].leaf]);
+  if (node && leaf_count > known) {
+    leaves[trie[node].leaf].is_undecided = (u8)is_undecided;
+    note_leaf(&leaves[trie[node].leaf]);
+  }
   return node;
 }
 
@@ -150,6 +191,7 @@ static void walk(u32 start, u32 node, u32 deviations) {
       if (trie[node].state == UNKNOWN) return;
     }
     if (trie[node].state == LEAF) {
+      was_limited |= leaves[trie[node].leaf].is_undecided;
       add_nested(&leaves[trie[node].leaf]);
       if (behaviours_wanted && !looks_for_one && !tries_outputs) {
         choose_allowed();
@@ -166,20 +208,23 @@ static void walk(u32 start, u32 node, u32 deviations) {
   }
 }
 
-// What hippo_prints tells a run after a crash here: the numbers that were printed before it.
-static u64 told_at(const u32 *printed, u32 print_count, u64 before) {
-  u32 count = 0;
-  while (count < print_count && printed[count] <= at_event) count++;
-  return before + count;
-}
+// Whether a run from an image is told how many numbers were printed before this crash.
+static int tells_prints(void) { return hippo_program_prints_address && current.level == 1; }
 
-// The crashed run's prints, by the number of events before each.
-static u32 *printed, printed_count;
+static u32 prints_at_event(void) {
+  u32 least = 0, most = printed_count;
+  while (least < most) {
+    u32 middle = least + (most - least) / 2;
+    if (printed[middle] <= at_event) least = middle + 1;
+    else most = middle;
+  }
+  return least;
+}
 
 static void try_point(u32 deviations) {
   u64 told = current.told;
-  if (hippo_program_prints_address && current.level == 1) current.told = told_at(printed, printed_count, told);
-  u32 start = trie_start(tries_outputs ? begin_outputs(current.told) : current.told);
+  if (tells_prints()) current.told = prints_here;
+  u32 start = trie_start(tries_outputs ? begin_outputs(current.told, prints_here) : current.told);
   is_stopped |= !start || is_trie_nearly_full();
   was_limited = 0;
   for (from_newest = 0; from_newest < 2 && !is_stopped; from_newest++) walk(start, start, deviations);
@@ -189,7 +234,7 @@ static void try_point(u32 deviations) {
 
 static void try_random_image(void) {
   u64 told = current.told;
-  if (hippo_program_prints_address && current.level == 1) current.told = told_at(printed, printed_count, told);
+  if (tells_prints()) current.told = prints_at_event();
   for (u32 i = 0; i < pending_count; i++) choice[i] = random_below(pending[i].count);
   u32 start = trie_start(current.told);
   if (start) run_chosen(start);
@@ -204,27 +249,34 @@ static void try_newest(void) {
   forget_pending();
 }
 
-static void try_event(u32 number, u32 deviations, int is_first_pass) {
-  int is_end = number == current.count;
-  if (number < first_point || number > last_point || is_done[number]) return;
-  is_first_pass &= !tries_outputs;
-  if (!is_end && !changes_what_is_durable(number)) {
-    if (is_first_pass && number && current.events[number - 1].kind == STORE && !hippo_program_prints_address) try_newest();
-    return;
-  }
+// Tries the images of a crash after this event and this number of prints. `is_whole` becomes whether all of them are tried.
+static void try_images(u32 prints, u32 deviations, int is_first_pass, u8 *is_whole) {
   double images = find_pending();
   if (images > MOST_IMAGES) images = MOST_IMAGES;
   int cut_short = is_cut_short;
-  if (is_first_pass && !looks_for_one) images_tried += images, points_tried++, points_large += (u32)cut_short;
+  if (is_first_pass && !tries_outputs && !looks_for_one) images_tried += images, points_tried++, points_large += (u32)cut_short;
   images_here = images;
+  prints_here = prints;
   try_point(deviations);
-  is_done[number] = !was_limited && !is_stopped && !cut_short;
+  *is_whole = !was_limited && !is_stopped && !cut_short;
   forget_pending();
+}
+
+static void try_event(u32 number, u32 deviations, int is_first_pass) {
+  if (number < first_point || number > last_point || is_done[number]) return;
+  if (number == current.count || changes_what_is_durable(number)) {
+    try_images(prints_at_event(), deviations, is_first_pass, &is_done[number]);
+  } else if (is_first_pass && !tries_outputs && number && current.events[number - 1].kind == STORE && !hippo_program_prints_address) {
+    try_newest();
+  }
 }
 
 static int is_point(u32 number) {
   return number >= first_point && number <= last_point && (number == current.count || changes_what_is_durable(number));
 }
+
+// A crash before a number is printed is a point of its own if the next run is told how many were printed.
+static int is_point_before(u32 print) { return tells_prints() && printed[print] >= first_point && printed[print] <= last_point; }
 
 // The points of a layer that are not yet tried whole.
 static u64 count_left(const struct crashed *crashed) {
@@ -234,14 +286,24 @@ static u64 count_left(const struct crashed *crashed) {
     left += !is_done[number] && is_point(number);
     if (number < crashed->count) take_event(number);
   }
+  for (u32 print = 0; print < printed_count; print++) left += !is_print_done[print] && is_point_before(print);
   return left;
+}
+
+// Tries the crashes after this event and before each number that is printed then; the next print.
+static u32 try_before_prints(u32 print, u32 number, u32 deviations, int is_first_pass) {
+  for (; print < printed_count && printed[print] == number && !is_stopped; print++)
+    if (!is_print_done[print] && is_point_before(print)) try_images(print, deviations, is_first_pass, &is_print_done[print]);
+  return print;
 }
 
 // Tries each point whose number is a multiple of `step` and not one of `among`, and, at the step 1, what is between points.
 static void try_pass(const struct crashed *crashed, u32 deviations, int is_first_pass, u64 step, u64 among) {
   u64 point = 0;
+  u32 print = 0;
   begin_layer(crashed);
   for (u32 number = 0; number <= crashed->count && !is_stopped; number++) {
+    if (step == 1 && tells_prints()) print = try_before_prints(print, number, deviations, is_first_pass);
     if (!is_point(number)) {
       if (step == 1) try_event(number, deviations, is_first_pass);
     } else if (point++ % step == 0 && !(among && (point - 1) % among == 0)) {
@@ -256,7 +318,8 @@ static void try_pass(const struct crashed *crashed, u32 deviations, int is_first
 static u64 try_layer(const struct crashed *crashed) {
   static const u32 DEVIATIONS[] = {0, 1, 2, 4, ALL};
   is_done = calloc(crashed->count + 1, 1);
-  if (!is_done) return 1;
+  is_print_done = calloc(printed_count + 1, 1);
+  if (!is_done || !is_print_done) abort();
   u64 points = count_left(crashed), step = 1;
   if (!tries_outputs && !looks_for_one) {
     all_points += points;
@@ -266,6 +329,7 @@ static u64 try_layer(const struct crashed *crashed) {
   for (u32 pass = 1; pass < 5 && !is_stopped; pass++) try_pass(crashed, DEVIATIONS[pass], 0, 1, 0);
   u64 left = count_left(crashed);
   free(is_done);
+  free(is_print_done);
   return left;
 }
 
@@ -304,10 +368,11 @@ static struct crashed copied_run(void) {
   return (struct crashed){.events = copy, .count = last_run.events, .level = 1};
 }
 
-// The limit of a run from an image: several times what a run takes.
-static u64 limit_for_images(u64 turns, u64 times) {
-  u64 most = times * (turns + 2500);
-  return most < greatest_limit ? most : greatest_limit;
+// The limits of runs from images, where the longest known run takes these turns. A shorter input is not worth the whole limit.
+static void set_limits(u64 turns) {
+  u64 some = TIMES_QUIET * (turns + 2500), any = some + TURNS_FOR_ANY + TURNS_FOR_A_BYTE * hippo_program_region;
+  whole_limit = any < greatest_limit ? any : greatest_limit;
+  turn_limit = looks_for_one && some < whole_limit ? some : whole_limit;
 }
 
 // Whether the next run fails from what the run left before an operation, or at its end, with nothing lost. Then the input leaves a state that
@@ -320,7 +385,7 @@ static int is_refused(const struct crashed *crashed, u64 *turns) {
     if (number == crashed->count || (next < quiet_count && quiet[next] == number)) {
       find_pending();
       for (u32 i = 0; i < pending_count; i++) choice[i] = pending[i].count - 1;
-      current.told = told_at(printed, printed_count, 0);
+      current.told = prints_at_event();
       run_image(choice);
       found = fails(&last_run);
       if (found) note_refusal(choice);
@@ -376,9 +441,10 @@ void try_crashes(const i64 *numbers, u32 count, int only_wanted) {
     struct crashed first = copied_run();
     begin_failures(numbers, count, last_run.status);
     u64 turns = last_run.turns;
-    turn_limit = limit_for_images(turns, TIMES_QUIET);
+    set_limits(turns);
     int refused = is_refused(&first, &turns);
-    turn_limit = limit_for_images(turns, TIMES);
+    turn_limit = TIMES * (turns + 2500) < whole_limit ? TIMES * (turns + 2500) : whole_limit;
+    endless_runs = 0;
     if (!refused) try_run(&first, only_wanted);
     end_layer();
     free((void *)first.events);

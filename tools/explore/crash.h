@@ -109,7 +109,7 @@ extern double images_here;
 void keep_operations(const i64 *numbers, u32 count); // of the last run
 u32 first_of_operations(void);
 int finds_outputs(void);                             // whether the run has operations whose outputs are compared
-u64 begin_outputs(u64 told);                         // a crash at this point; the number that identifies what its runs are given
+u64 begin_outputs(u64 told, u32 prints_before);      // a crash at this point; the number that identifies what its runs are given
 void set_crash_input(void);                          // the input of a run from an image
 int judge_outputs(const struct leaf *leaf, const u32 *choice); // whether the last run prints what no run without a crash does
 void write_cuts(const u32 *choice);
@@ -119,5 +119,7 @@ void write_crashed_input(void);
 // ---- crash.c
 
 void run_image(const u32 *choice); // leaves the region as it was
+extern u64 whole_limit;            // a run from an image that takes more turns does not end
+int is_endless(const u32 *choice); // whether a run from an image, which the limit cut, does not end
 void try_crashes(const i64 *numbers, u32 count, int only_wanted); // `only_wanted`: until the wanted cause is found
 #endif

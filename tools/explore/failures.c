@@ -98,11 +98,15 @@ static u64 cause_of(u64 place, const u32 *stores, u32 count) {
   return cause | 1;
 }
 
+static int is_known_cause(u64 cause) {
+  for (int i = 0; i < failures_found; i++)
+    if (failures[i].cause == cause) return 1;
+  return 0;
+}
+
 // Whether the cause is new; notes it with its input.
 static int is_new_cause(u64 cause) {
-  for (int i = 0; i < failures_found; i++)
-    if (failures[i].cause == cause) return 0;
-  if (failures_found == MOST_CAUSES) return 0;
+  if (is_known_cause(cause) || failures_found == MOST_CAUSES) return 0;
   i64 *numbers = malloc((crashed_count + 1) * sizeof *numbers);
   if (!numbers) return 0;
   memcpy(numbers, crashed_numbers, crashed_count * sizeof *numbers);
@@ -147,11 +151,18 @@ static void write_failure(const struct leaf *leaf, u64 cause, const u32 *chosen,
     printf("%s%llu:%u:", i ? "," : "", (unsigned long long)store->address, store->size);
     write_site(store);
   }
-  printf(" told=%llu limit=%llu input=", (unsigned long long)current.told, (unsigned long long)turn_limit);
+  printf(" told=%llu limit=%llu input=", (unsigned long long)current.told, (unsigned long long)whole_limit);
   write_crashed_input();
   write_cuts(chosen);
   putchar('\n');
   fflush(stdout);
+}
+
+// Whether the smaller image, whose run the quick limit may have cut, would be shown but does not fail.
+static int is_cut_too_early(const u32 *smaller, u64 cause) {
+  if (last_run.ending != CUT || turn_limit >= whole_limit) return 0;
+  if (wanted_cause ? cause != wanted_cause || !is_showing : is_known_cause(cause)) return 0;
+  return !is_endless(smaller);
 }
 
 void note_failure(const struct leaf *leaf, const u32 *chosen) {
@@ -164,6 +175,13 @@ void note_failure(const struct leaf *leaf, const u32 *chosen) {
   last_run = run;
   u32 count = lost_once(smaller, stores);
   u64 cause = cause_of(place, stores, count);
+  if (is_cut_too_early(smaller, cause)) {
+    if (wanted_cause) return;
+    memcpy(smaller, chosen, pending_count * sizeof *smaller);
+    count = lost_once(smaller, stores);
+    cause = cause_of(place, stores, count);
+  }
+  last_run = run;
   is_wanted_found |= cause == wanted_cause;
   if (wanted_cause ? cause == wanted_cause && is_showing : is_new_cause(cause)) write_failure(leaf, cause, smaller, stores, count);
 }
@@ -172,7 +190,7 @@ void note_refusal(const u32 *chosen) {
   if (wanted_cause) return;
   printf("refused ending=%s status=%d site=%u path=", ending_word(last_run.ending), last_run.status, last_run.site);
   if (last_run.ending != CUT) write_calls(last_run.path);
-  printf(" told=%llu limit=%llu input=", (unsigned long long)current.told, (unsigned long long)turn_limit);
+  printf(" told=%llu limit=%llu input=", (unsigned long long)current.told, (unsigned long long)whole_limit);
   write_crashed_input();
   write_cuts(chosen);
   putchar('\n');
@@ -232,7 +250,7 @@ void note_reports(u32 first, const u32 *chosen) {
   for (u32 i = first; i < key_count; i++) {
     write_key(&keys[i]);
     write_crashed_input();
-    printf(" told=%llu", (unsigned long long)current.told);
+    printf(" told=%llu limit=%llu", (unsigned long long)current.told, (unsigned long long)whole_limit);
     write_cuts(chosen);
     putchar('\n');
   }

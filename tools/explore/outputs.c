@@ -16,6 +16,7 @@ static u32 *starts, operation_count, *printed_operations, *printed_events;
 static u32 skipped, skipped_without; // the prints of the runs before those that are compared
 static u32 operation;                // of the crash; 0 before the first one
 static int is_acknowledged, is_comparing;
+static int ends_without; // whether the run without the operation ends well, so that its prints say something
 static u64 causes[MOST_CAUSES];
 static u32 cause_count, prepared; // the operation whose inputs are made
 
@@ -109,6 +110,7 @@ static void run_without(u32 k) {
   run_program(0);
   memcpy(REGION, here, hippo_program_region);
   free(here);
+  ends_without = last_run.ending == STOP || last_run.ending == INPUT;
   skipped_without = first_print_of(print_operations, last_run.prints, k ? k : 1);
   expected = copied(expected, prints, last_run.prints * sizeof *expected), expected_count = last_run.prints;
 }
@@ -124,11 +126,11 @@ static void resume_after(u32 k) {
   lower_count(resumed, k);
 }
 
-u64 begin_outputs(u64 told) {
+u64 begin_outputs(u64 told, u32 prints_before) {
   operation = at_event ? current.events[at_event - 1].operation : 0;
   if (operation > operation_count) operation = operation_count;
   is_acknowledged = 0;
-  for (u32 i = 0; i < printed_count; i++) is_acknowledged |= operation && printed_operations[i] == operation && printed_events[i] <= at_event;
+  for (u32 i = 0; i < printed_count && i < prints_before; i++) is_acknowledged |= operation && printed_operations[i] == operation;
   if (prepared != operation) {
     run_without(operation);
     resume_after(operation);
@@ -168,6 +170,7 @@ int judge_outputs(const struct leaf *leaf, const u32 *chosen) {
   if (leaf->ending != STOP && leaf->ending != INPUT) return 0; // the other pass shows traps
   u32 skip = first_print_of(print_operations, last_run.prints, 1);
   if (prints_are(printed, skipped, printed_count, skip)) return 0;
+  if (!is_acknowledged && !ends_without) return 0;
   if (!is_acknowledged && prints_are(expected, skipped_without, expected_count, skip)) return 0;
   if (!is_new_cause()) return 1;
   printf("outputs acknowledged=%d operation=%u skips=%u,%u,%u told=%llu", is_acknowledged, operation, skipped, skipped_without, skip,

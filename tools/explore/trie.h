@@ -13,14 +13,15 @@ struct node {
   u64 mask;
 };
 
-// How a run ended, its events up to the end of its recovery, for crashes in that recovery, and what it read if that is shown.
+// How a run ended, its events up to the end of its recovery, for crashes in that recovery, and what it read if that is shown. It is undecided
+// whether a run ends that the limit cut, if it was not followed further.
 struct leaf {
   enum ending ending;
   int status;
   u32 site, path, event_count, read_count;
   struct event *events;
   struct read *reads;
-  u8 is_failing;
+  u8 is_failing, is_undecided;
 };
 
 extern struct node *trie;

@@ -16,6 +16,7 @@ from . import (
     crashing,
     doctor,
     ends,
+    explore_options,
     exploring,
     install,
     pools,
@@ -90,7 +91,7 @@ def parser() -> argparse.ArgumentParser:
     crash.set_defaults(carry_out=crashing.crash)
     search = commands.add_parser("explore", help="search inputs and power cuts that show durability bugs")
     add_program(search)
-    exploring.add_options(search)
+    explore_options.add_options(search)
     search.set_defaults(carry_out=exploring.explore)
     pool = commands.add_parser("pool", help="write the bytes of a pool that a run leaves, or a power cut in it")
     add_program(pool)

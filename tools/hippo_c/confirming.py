@@ -179,7 +179,9 @@ class Confirming:
 
     def confirm_after_crash(self, report: Report) -> None:
         """Shows a report of a run from an image if `hippo check` of that run has it."""
-        crashes, following = self.follow(report, self.session.request.limit or 1_000_000_000)
+        crashes, following = self.follow(report, report.limit or self.session.request.limit or 1_000_000_000)
+        if following.ended.how != "cut":
+            report.limit = None
         lines = running.lines_of(["check", following.text, following.path]) if following.ended.code in ENDED else []
         if any(key_of_line(line) == report.key for line in list(lines)):
             self.answer.after_crashes.append((report, crashes))

@@ -6,7 +6,8 @@ import argparse
 from .confirming import Confirmed, Confirming
 from .diagnostics import Printer, amount, images_in_words
 from .explore_answers import Again, print_failure
-from .exploring import check_engine, run_engine, words_of
+from .explore_options import words_of
+from .exploring import check_engine, run_engine
 from .findings import Found
 from .native import Engine
 from .session import Session

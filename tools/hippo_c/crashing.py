@@ -13,7 +13,7 @@ from . import debugging, images, running
 from .checking import printer_of
 from .crash_answers import image_of, print_crashes
 from .crash_verdicts import try_images
-from .following import follow
+from .following import PAST_INPUT, follow
 from .images import Choice, Point
 from .numbers import from_to, seconds
 from .progress import Progress
@@ -179,8 +179,9 @@ def single_point(options: argparse.Namespace, first: int, last: int) -> Point:
 
 
 def failing_test(recorded: str, status: bool) -> Fails:
-    """The test whether a run from an image fails: it traps, it is cut, or, with `--status`, main returns another number."""
-    return lambda ended: not ended.startswith("stop") or status and ended != recorded
+    """The test whether a run from an image fails: it traps, it is cut, or, with `--status`, main returns another number. A run that reads past
+    its input has left the recovery behind."""
+    return lambda ended: ended != PAST_INPUT and (not ended.startswith("stop") or status and ended != recorded)
 
 
 def try_point(session: Session, path: str, point: Point) -> Outcome:

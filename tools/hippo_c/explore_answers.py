@@ -48,7 +48,7 @@ def print_answer(
             True,
             show_site(report.key[2][0]),
         )
-        printer.line(f"  see that run: {again.crash(report, crashes, None)}")
+        printer.line(f"  see that run: {again.crash(report, crashes, report.limit)}")
     print_counts(printer, session, options, found, confirmed, again)
     if interrupted:
         printer.line("interrupted: the answer has what was found and confirmed until then")

@@ -104,7 +104,7 @@ def after_cut_of(session: Session, report: Report, crashes: list[Crash], again: 
         "calls": [place_of(place) for place in places[1:]],
         "numbers": report.numbers,
         "cuts": cuts_of(crashes),
-        "again": again.crash(report, crashes, None),
+        "again": again.crash(report, crashes, report.limit),
     }
 
 

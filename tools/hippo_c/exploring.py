@@ -4,20 +4,18 @@ from __future__ import annotations
 import argparse
 import contextlib
 import os
-import re
 import subprocess
 import threading
 
 from . import ends, running, words
 from .checking import printer_of
 from .crashed_inputs import CrashedInput, rows_of
-from .behaviours import MOST_BEHAVIOURS
 from .confirming import Confirmed, Confirming, same_trace
 from .explore_answers import Again, print_answer
 from .explore_forms import write_forms
+from .explore_options import bounds_of, words_of
 from .findings import Found, Reader
 from .native import Engine, accepted
-from .numbers import from_to, seconds
 from .pool_starts import PoolFiles
 from .progress import Progress
 from .reading import text_of
@@ -25,75 +23,8 @@ from .session import Request, Session
 from .trouble import Trouble
 from .writing import output_file
 
-RANGE = re.compile(r"(-?[0-9]{1,18})-(-?[0-9]{1,18})")
 MOST_CORPUS = 1000
 SECONDS_TO_END = 5
-
-
-def add_options(command: argparse.ArgumentParser) -> None:
-    """The options of explore that other commands do not have."""
-    command.add_argument(
-        "--inputs", metavar="FILE", help="a file with an input in each line, from which the search begins"
-    )
-    command.add_argument("--time", type=seconds, default=60, metavar="SECONDS", help="processor time of each job (60)")
-    command.add_argument(
-        "--runs",
-        type=from_to(1),
-        metavar="N",
-        help="stop after N runs in place of a time, so that equal words give equal answers",
-    )
-    command.add_argument("--seed", type=from_to(0, 1 << 62), default=1, metavar="N", help="the seed of the search (1)")
-    command.add_argument("--range", dest="bounds", metavar="A-B", help="bounds of the numbers that the search makes")
-    command.add_argument(
-        "--numbers", type=from_to(1, 100_000), default=200, metavar="N", help="the greatest length of an input (200)"
-    )
-    command.add_argument(
-        "--crashes",
-        type=from_to(0, 4),
-        default=2,
-        metavar="N",
-        help="power cuts one after another that are tried; 2 cuts the recovery too, 0 tries none (2)",
-    )
-    command.add_argument(
-        "--recover",
-        action="append",
-        default=[],
-        metavar="FUNCTION",
-        help="the recovery ends when this function returns",
-    )
-    command.add_argument(
-        "--status", action="store_true", help="a run after a power cut also fails if main returns another number"
-    )
-    command.add_argument(
-        "--atomic",
-        action="store_true",
-        help="each command that the program reads must be done or not done after a power cut",
-    )
-    command.add_argument(
-        "--corpus",
-        metavar="FILE",
-        help="begin with the inputs of this file too, and write those that were found into it",
-    )
-    command.add_argument(
-        "--pools", metavar="FOLDER", help="write the files of pools whose other bytes show a finding into this folder"
-    )
-    command.add_argument(
-        "--merge", nargs="+", metavar="CORPUS", help="only unite these files, and show what their inputs show"
-    )
-    command.add_argument(
-        "--jobs",
-        type=from_to(1, 64),
-        default=1,
-        metavar="N",
-        help="the number of searches side by side, with seeds one after another (1)",
-    )
-    command.add_argument(
-        "--groups", type=from_to(0), default=50, metavar="N", help="show at most N groups, 0 for all (50)"
-    )
-    command.add_argument("--show-missed", action="store_true", help="list the places in C that never ran")
-    command.add_argument("--json", metavar="FILE", help="write the answer as JSON, - for standard output")
-    command.add_argument("--sarif", metavar="FILE", help="write the answer as SARIF 2.1.0")
-    command.add_argument("--html", metavar="FILE", help="write the answer as a page for a browser")
 
 
 def explore(options: argparse.Namespace, request: Request, progress: Progress) -> int:
@@ -117,7 +48,7 @@ def explore(options: argparse.Namespace, request: Request, progress: Progress) -
         pools = PoolFiles(session, options.pools)
         said += pools.words()
         if options.json or options.html:
-            said += ["--behaviours", str(MOST_BEHAVIOURS)]
+            said += ["--behaviours", str(options.behaviours)]
         found, interrupted = run_engine(session, engine, seeds, said, options)
         progress.say("confirming")
         confirming = Confirming(session)
@@ -145,16 +76,6 @@ def words_as_numbers(request: Request) -> bool:
     request.lower.append(words.FROM_INPUT)
     request.arguments = []
     return True
-
-
-def bounds_of(text: str | None) -> tuple[int, int] | None:
-    """The bounds `A-B` of drawn numbers."""
-    if text is None:
-        return None
-    found = RANGE.fullmatch(text)
-    if not found or int(found[1]) > int(found[2]):
-        raise Trouble(f"--range {text}: not A-B with A at most B")
-    return int(found[1]), int(found[2])
 
 
 def corpus_of(path: str | None, must_exist: bool = True) -> list[list[int]]:
@@ -200,26 +121,6 @@ def check_engine(session: Session, engine: Engine, numbers: list[int]) -> None:
             f'the run of the given input ends with "{ended.how}"',
             f'hippo-c run shows why, with --input {" ".join(map(str, numbers))}',
         )
-
-
-def words_of(options: argparse.Namespace, bounds: tuple[int, int] | None) -> list[str]:
-    """The options of the engine, without the seed."""
-    given = vars(options)
-    said = [
-        "--time",
-        str(options.time or 60),
-        "--runs",
-        str(options.runs or 0),
-        "--numbers",
-        str(given.get("numbers", 200)),
-        "--crashes",
-        str(options.crashes),
-        "--status",
-        str(int(options.status)),
-        "--atomic",
-        str(int(given.get("atomic", False))),
-    ]
-    return said + (["--least", str(bounds[0]), "--greatest", str(bounds[1])] if bounds else [])
 
 
 def run_engine(
@@ -318,7 +219,11 @@ def write_corpus(path: str, given: list[list[int]], confirmed: Confirmed, found:
     showing = [shown.checked.numbers for shown in confirmed.groups] + [
         shown.failure.numbers for shown in confirmed.failures
     ]
-    crashed = [CrashedInput(report.numbers, crashes) for report, crashes in confirmed.after_crashes if not report.told]
+    crashed = [
+        CrashedInput(report.numbers, crashes)
+        for report, crashes in confirmed.after_crashes
+        if not (report.told or report.limit)
+    ]
     showing += [one.numbers for one in crashed]
     lines = {tuple(numbers): None for numbers in [*united(showing), *given, *united(found.kept)]}
     texts = [" ".join(map(str, numbers)) for numbers in list(lines)[:MOST_CORPUS]]

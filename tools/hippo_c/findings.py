@@ -23,13 +23,14 @@ def shortened(path: Iterable[Site]) -> tuple[Site, ...]:
 
 @dataclass
 class Report:
-    """A report that an input shows; with cuts, the run from the image that these crashes leave shows it."""
+    """A report that an input shows; with cuts, the run from the image that these crashes leave shows it, up to a limit of turns."""
 
     key: Key
     numbers: list[int]
     cuts: list[Cut] = field(default_factory=list)
     told: int = 0
     start: Start = ()
+    limit: int | None = None
 
 
 @dataclass
@@ -163,6 +164,7 @@ class Reader:
             cuts(fields.get("cuts", "")),
             int(fields.get("told", 0)),
             start_in(fields),
+            int(fields["limit"]) if "limit" in fields else None,
         )
         known = self.found.reports.get(report.key)
         if known is None or rank(report) < rank(known):

@@ -18,6 +18,8 @@ from .trouble import Trouble
 
 HEADER = ("START", "REGISTER", "INPUT", "IMAGE")
 ENDED = (0, running.TRAPPED, running.CUT)
+# How a run ends that has left its recovery behind: this is no failure.
+PAST_INPUT = "trap input"
 MOST_CALLS = 4
 
 
@@ -122,11 +124,12 @@ def follow(
         if not following.crash(crash):
             running.accept(["crash"], following.ended)
     ended = following.ended.how
-    fails = not ended.startswith("stop") or (options.status and ended != recorded)
+    fails = ended != PAST_INPUT and (not ended.startswith("stop") or (options.status and ended != recorded))
     session.progress.wipe()
     cuts = "power cut" if following.level == 1 else f"{following.level} power cuts"
     if not fails:
-        printer.line(f"after {cuts} the next run ends well: {ended}")
+        how = "reads past its input" if ended == PAST_INPUT else f"ends well: {ended}"
+        printer.line(f"after {cuts} the next run {how}")
         return 0
     printer.diagnostic(None, "error", f"after {cuts} the next run fails: {meaning(ended)}")
     program = following.program()

@@ -66,6 +66,7 @@ def parse() -> argparse.Namespace:
         help="where packages are kept from one run to the next",
     )
     parser.add_argument("--time", default="60", help="seconds of processor for each search (60)")
+    parser.add_argument("--again", default="60", help="seconds of processor for each search after the repair (60)")
     parser.add_argument(
         "names", nargs="*", help="examples such as examples/from_c/undo.c, and pieces; without names, all of them"
     )
@@ -88,6 +89,8 @@ def explored(text: str, folder: str, given: list[str], seed: int, seconds: str) 
         seconds,
         *bounds,
         *corpus,
+        "--behaviours",
+        "0",
         "--json",
         answer,
     ]
@@ -118,14 +121,14 @@ def lowered_piece(piece: Piece, source: str, folder: str) -> str:
     return lowered([*piece.options, *source_files(piece, source), "--", *flags], folder)
 
 
-def row(name: str, text: str, given: list[str], folder: str, seconds: str) -> tuple[list, int]:
-    """The row of a program, and the number of groups that are left."""
+def row(name: str, text: str, given: list[str], folder: str, seconds: tuple[str, str]) -> tuple[list, int]:
+    """The row of a program, and the number of groups that are left; the seconds are those of the first and of the second search."""
     repaired = f"{folder}/repaired.ll"
-    found = explored(text, folder, given, 1, seconds)
+    found = explored(text, folder, given, 1, seconds[0])
     groups, counts, left = groups_of(found), found["covered"], 0
     if groups:
         run([sys.executable, f"{TOP}/tools/hippo-c", "repair", text, "--inputs", "corpus", "-o", repaired], folder)
-        left = groups_of(explored(repaired, folder, given, 2, seconds))
+        left = groups_of(explored(repaired, folder, given, 2, seconds[1]))
     with open(f"{folder}/corpus", encoding="ascii") as file:
         inputs = len(file.read().splitlines())
     return [
@@ -150,7 +153,7 @@ def main() -> int:
     pieces = {piece.name: piece for piece in PIECES if piece.name in names}
     sources = sources_of(Packages(options.folder), list(pieces.values()))
     print("| " + " | ".join(HEADINGS) + " |\n|" + "---|" * len(HEADINGS), flush=True)
-    all_left = 0
+    all_left, seconds = 0, (options.time, options.again)
     for name in (name for name in names if name in EXAMPLES or pieces[name].package in sources):
         with tempfile.TemporaryDirectory() as folder:
             try:
@@ -161,11 +164,11 @@ def main() -> int:
                         path if name.endswith(".ll") else lowered([path], folder),
                         EXAMPLES[name].split(),
                         folder,
-                        options.time,
+                        seconds,
                     )
                 else:
                     text = lowered_piece(pieces[name], sources[pieces[name].package], folder)
-                    cells, left = row(name, text, SEED, folder, options.time)
+                    cells, left = row(name, text, SEED, folder, seconds)
             except Differs as difference:
                 cells, left = [f"FAILED {name}: {difference}"], 1
         all_left += left

@@ -177,6 +177,17 @@ class Crash(Case):
         self.hippo_c(*one, code=0)
         self.hippo_c(*one, "--status", code=1)
 
+    def test_a_run_that_reads_past_its_input_does_not_fail(self) -> None:
+        self.write(
+            "a.c",
+            "#include <hippo.h>\nPERSISTENT long started;\nint main(void) {\n  read_i64();\n  if (started) read_i64();\n  started = 1;\n"
+            "  pmem_persist(&started, 8);\n  return 0;\n}\n",
+        )
+        for words in ((), ("--sample", "2"), ("--entries", "4", "--pick", "0:1")):
+            self.hippo_c("crash", "a.c", "--input", "4", *words, code=0)
+        ran = self.hippo_c("crash", "a.c", "--input", "4", "--entries", "4", "--pick", "0:1", "--then", "5", code=0)
+        self.assertIn("after 2 power cuts the next run reads past its input", ran.stdout)
+
     def test_bounds_of_what_is_tried(self) -> None:
         self.take("ring_buffer", "ring.c")
         self.refused(

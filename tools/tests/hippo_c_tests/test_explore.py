@@ -69,7 +69,7 @@ class Confirming(BugCase):
         return confirming.Confirming(session).confirm(reader.found, [])
 
     def test_failures_are_confirmed_by_runs_of_hippo(self) -> None:
-        for name in ("seals", "recovery_flush", "lost_acknowledgement"):
+        for name in ("seals", "recovery_flush", "lost_acknowledgement", "early_second", "endless_recovery"):
             confirmed = self.confirmed(name)
             self.assertTrue(confirmed.failures, name)
             self.assertEqual(confirmed.refused, 0, name)

@@ -38,7 +38,7 @@ class Bugs(BugCase):
     """Each program with its bug, and its twin."""
 
     def test_the_given_inputs(self) -> None:
-        self.assertGreaterEqual(len(NAMES), 27)
+        self.assertGreaterEqual(len(NAMES), 30)
 
         def of_both(name: str) -> tuple[str, bool, list[str], bool]:
             """Whether the program with the bug fails, the failures of its twin, and whether all images of the twin are tried."""
@@ -89,6 +89,19 @@ class Bugs(BugCase):
             for levels in (1, 2, 3):
                 found = self.failures(engine, "replay", numbers_of(name), "--runs", "30000", "--crashes", str(levels))
                 self.assertEqual(found > 0, levels >= least, (name, levels))
+
+    def test_a_long_recovery_and_one_that_does_not_end(self) -> None:
+        for name, bug, wanted in (("long_recovery", 0, False), ("endless_recovery", 1, True)):
+            lines = self.lines(self.engine_of(name, bug), "replay", numbers_of(name), "--runs", "30000")
+            found = [line for line in lines if line.startswith("failure ")]
+            self.assertEqual(any(" ending=cut " in line for line in found), wanted, (name, found))
+            self.assertIn(" left=0 ", lines[-1])
+
+    def test_a_power_cut_before_a_print(self) -> None:
+        for bug in (0, 1):
+            engine = self.engine_of("early_second", bug)
+            found = self.failures(engine, "replay", numbers_of("early_second"), "--runs", "30000")
+            self.assertEqual(found > 0, bool(bug))
 
     def test_operations_that_only_their_outputs_show(self) -> None:
         for name in sorted(NEED_OUTPUTS):

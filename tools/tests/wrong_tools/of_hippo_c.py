@@ -140,8 +140,8 @@ EDITS = [
         "other_status_is_no_failure",
         "ignores `--status` where one crash image is tried, so that main may return another number",
         "tools/hippo_c/crashing.py",
-        " or status and ended != recorded\n",
-        "\n",
+        " or status and ended != recorded)\n",
+        ")\n",
         f"{CRASH}.Crash.test_a_status_counts_where_it_is_asked_for",
     ),
     Edit(

@@ -114,7 +114,7 @@ def cut_program(text: bytes, trace: str, whole: Answer) -> Iterator[str]:
         elif len(prefix.rstrip()) in ends:
             passed = got == Answer(5, b"", "hippo: program: no main at program\n")
         else:
-            there = line and int(line[1]) == last_line(prefix) and line[2] in ("syntax", "unsupported")
+            there = line is not None and int(line[1]) == last_line(prefix) and line[2] in ("syntax", "unsupported")
             passed = got[:2] == (5, b"") and there
         if not passed:
             yield f"the first {len(prefix)} bytes: {got}"
@@ -129,7 +129,8 @@ def cut_trace(text: bytes, program: str, whole: Answer) -> Iterator[str]:
         if prefix + b"\n" == text:
             passed = got == whole
         else:
-            passed = got[:2] == (6, b"") and line and int(line[1]) in (last, last + 1) and line[2] != "extra"
+            there = line is not None and int(line[1]) in (last, last + 1) and line[2] != "extra"
+            passed = got[:2] == (6, b"") and there
         if not passed:
             yield f"the first {len(prefix)} bytes: {got}"
 
@@ -144,12 +145,13 @@ def damages(text: bytes) -> Iterator[tuple[int, bytes]]:
 
 def damaged(text: bytes, program: str | None, trace: str | None) -> Iterator[str]:
     """A damaged file is refused at the damage or after it, or is another valid file."""
-    places, variants = zip(*damages(text))
-    for place, (variant, got) in zip(places, repairs(variants, program, trace)):
+    found = list(damages(text))
+    variants = [variant for _, variant in found]
+    for (place, _), (variant, got) in zip(found, repairs(variants, program, trace)):
         line = (TRACE_LINE if program else TEXT_LINE).fullmatch(got.notes)
         damaged_line = 1 + text[:place].count(b"\n")
         if not is_answer(got) or line and not damaged_line <= int(line[1]) <= last_line(variant) + 1:
-            yield f"byte {place} as {variant[place : place + 1]}: {got}"
+            yield f"byte {place} as {variant[place : place + 1]!r}: {got}"
 
 
 def drip(text: bytes, path: str | int) -> None:

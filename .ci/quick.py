@@ -60,8 +60,15 @@ def skips(output: str) -> tuple[list[str], int]:
 def part(name: str, command: list[str], folder: Path) -> Ran:
     """Runs a part, and prints how it ended and what it skipped."""
     start = time.monotonic()
-    how = {"stdin": subprocess.DEVNULL, "stdout": subprocess.PIPE, "stderr": subprocess.STDOUT, "errors": "replace"}
-    ran = subprocess.run(command, cwd=folder, check=False, **how)
+    ran = subprocess.run(
+        command,
+        cwd=folder,
+        check=False,
+        stdin=subprocess.DEVNULL,
+        stdout=subprocess.PIPE,
+        stderr=subprocess.STDOUT,
+        errors="replace",
+    )
     lines, count = skips(ran.stdout)
     output = ran.stdout if ran.returncode else ""
     ended = f"{name}: {'failed' if ran.returncode else 'passed'}, {time.monotonic() - start:.0f} s"

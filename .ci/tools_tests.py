@@ -25,7 +25,8 @@ from collections import Counter
 from concurrent.futures import Future, ProcessPoolExecutor, as_completed
 from concurrent.futures.process import BrokenProcessPool
 from pathlib import Path
-from typing import Iterator, NamedTuple
+from typing import Any, Iterator, NamedTuple, cast
+from unittest.util import strclass
 
 sys.dont_write_bytecode = True
 TESTS = Path(__file__).resolve().parent.parent / "tools" / "tests"
@@ -69,8 +70,8 @@ def since(start: tuple[float, float], test: str) -> Took:
 class Timed(unittest.TextTestResult):
     """Notes how long each test takes."""
 
-    def __init__(self, *words: object) -> None:
-        super().__init__(*words)
+    def __init__(self, stream: Any, descriptions: bool, verbosity: int) -> None:
+        super().__init__(stream, descriptions, verbosity)
         self.took: list[Took] = []
 
     def startTest(self, test: unittest.TestCase) -> None:  # noqa: N802
@@ -116,7 +117,7 @@ def parts_of(suite: unittest.TestSuite) -> list[list[unittest.TestCase]]:
 
 def skipped(result: unittest.TestResult, tests: list[unittest.TestCase]) -> Counter[str]:
     """How many tests each reason skips. A class that is skipped as a whole counts with all its tests."""
-    of_class = Counter(unittest.util.strclass(type(test)) for test in tests)
+    of_class = Counter(strclass(type(test)) for test in tests)
     counts: Counter[str] = Counter()
     for test, reason in result.skipped:
         whole = str(test).removeprefix("setUpClass (").removesuffix(")")
@@ -128,9 +129,9 @@ def run_part(tests: list[unittest.TestCase], failfast: bool) -> Ran:
     """Runs tests of a class."""
     said, start = io.StringIO(), now()
     runner = unittest.TextTestRunner(said, verbosity=0, failfast=failfast, resultclass=Timed)
-    result = runner.run(unittest.TestSuite(tests))
+    result = cast(Timed, runner.run(unittest.TestSuite(tests)))
     failed = len(result.failures) + len(result.errors) + len(result.unexpectedSuccesses)
-    whole = since(start, f"{unittest.util.strclass(type(tests[0]))}.setUpClass")
+    whole = since(start, f"{strclass(type(tests[0]))}.setUpClass")
     rest = whole._replace(
         seconds=whole.seconds - sum(one.seconds for one in result.took),
         processors=whole.processors - sum(one.processors for one in result.took),
@@ -165,7 +166,7 @@ def outcome(done: Future[Ran], tests: list[unittest.TestCase]) -> Ran:
     try:
         return done.result()
     except BrokenProcessPool:
-        name = unittest.util.strclass(type(tests[0]))
+        name = strclass(type(tests[0]))
         return Ran(f"ERROR: {name} ({name})\nits process ended\n", 1, Counter(), [])
 
 
@@ -194,7 +195,7 @@ def run(
     Where the program is built, a test that is skipped since it is not counts as a failure."""
     parts = parts_of(tests)
     ran = run_all(parts, failfast, jobs)
-    left_out = sum((one.skipped for one in ran), Counter())
+    left_out: Counter[str] = sum((one.skipped for one in ran), Counter())
     failed = sum(one.failed for one in ran)
     for reason, count in sorted(left_out.items()):
         print(f"{NAME}: {count} skipped: {reason}")

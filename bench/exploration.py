@@ -8,7 +8,7 @@ import shutil
 import sys
 from pathlib import Path
 
-from measuring import Command, Hippo, figures, leave_out, seconds, show, times
+from measuring import Command, Hippo, Missed, figures, leave_out, seconds, show, times
 
 TOP = Path(__file__).resolve().parent.parent
 sys.path.insert(0, str(TOP / "tools"))
@@ -65,7 +65,10 @@ def beside_the_program(hippo: Hippo, name: str) -> None:
         return
     images = replay(engine, hippo, name, 1, 2, hippo.size(MOST_IMAGE_RUNS))
     taken = max(times(hippo.runs, images)[0] - few, 1e-6)
-    runs = int(re.search(r"runs=(\d+)", Path(images.out).read_text(encoding="ascii"))[1])
+    summary = re.search(r"runs=(\d+)", Path(images.out).read_text(encoding="ascii"))
+    if summary is None:
+        raise Missed(f"{images.out} has no summary")
+    runs = int(summary[1])
     trace = hippo.recorded(text, *numbers_of(name))
     entries = len(Path(trace).read_text(encoding="ascii").split("\n")) - 1
     show(f"explore: microseconds of a run from an image, {name}.c", taken / runs * 1e6, most=MOST_OF_AN_IMAGE.get(name))

@@ -176,15 +176,15 @@ def of_memory(hippo: Hippo) -> None:
     few, many = hippo.size(33_333), hippo.size(333_333)
     region = hippo.file("region.ll", shapes.untouched_region(64 * MIB))
     stores = hippo.file("stores.ll", shapes.stores_to_one_word(hippo.size(100_000_000)))
-    rows = [
-        ("run: MB, 10^8 turns without a store", 8, ["run", turns, hippo.size(25_000_000)]),
+    rows: list[tuple[str, int | None, list[str]]] = [
+        ("run: MB, 10^8 turns without a store", 8, ["run", turns, str(hippo.size(25_000_000))]),
         ("run: MB, a region of 64 MiB that nothing touches", 16, ["run", region]),
         ("run: MB, 10^8 stores to one word", 16, ["run", stores]),
         ("record: MB, 10^8 stores to one word", 64, ["record", stores]),
         ("check: MB, 10^6 entries", 8, ["check", flush, hippo.recorded(flush, many)]),
         ("check: MB, 10^5 entries and one byte never flushed", 8, ["check", loose, hippo.recorded(loose, few)]),
         ("check: MB, 10^6 entries and one byte never flushed", 8, ["check", loose, hippo.recorded(loose, many)]),
-        ("demo: MB, size 50,000", None, ["demo", "1", hippo.size(50_000)]),
+        ("demo: MB, size 50,000", None, ["demo", "1", str(hippo.size(50_000))]),
     ]
     for title, most, words in rows:
         show(title, peak(hippo.command(*words)), most=most, form=".0f")

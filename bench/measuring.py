@@ -33,7 +33,7 @@ class Command:
     input: str = os.devnull
 
 
-def started(command: Command) -> subprocess.Popen:
+def started(command: Command) -> subprocess.Popen[bytes]:
     """The process of a command."""
 
     def limit() -> None:
@@ -57,7 +57,7 @@ def spent(command: Command) -> float:
     _, status, used = os.wait4(process.pid, 0)
     process.returncode = os.waitstatus_to_exitcode(status)
     require(command, process.returncode)
-    return used.ru_utime + used.ru_stime
+    return float(used.ru_utime + used.ru_stime)
 
 
 def times(runs: int, *commands: Command) -> list[float]:

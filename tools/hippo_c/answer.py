@@ -1,4 +1,6 @@
 """What a check found, as plain data: the one source of JSON, SARIF and the page."""
+from typing import Any
+
 from . import about
 from .diagnostics import helper_of, message_of, object_of, warnings_of
 from .fixes import Suggestion
@@ -14,7 +16,7 @@ FORMAT = 1
 ABOUT = "The answer of hippo in another form, which hippo-c made; hippo-c is not proved."
 
 
-def answer_of(session: Session, results: list[Checked], found: Suggestions | None) -> dict:
+def answer_of(session: Session, results: list[Checked], found: Suggestions | None) -> dict[str, Any]:
     """The whole answer, of groups that have their fingerprints; each key is described in docs/HIPPO_C.md."""
     return {
         "format": FORMAT,
@@ -27,7 +29,7 @@ def answer_of(session: Session, results: list[Checked], found: Suggestions | Non
     }
 
 
-def input_of(session: Session, checked: Checked, found: Suggestions | None) -> dict:
+def input_of(session: Session, checked: Checked, found: Suggestions | None) -> dict[str, Any]:
     """What was found on one input."""
     trace, lines = checked.trace, checked.lines_ran
     return {
@@ -54,7 +56,7 @@ def input_of(session: Session, checked: Checked, found: Suggestions | None) -> d
     }
 
 
-def declared_group(session: Session, checked: Checked, group: Group) -> dict:
+def declared_group(session: Session, checked: Checked, group: Group) -> dict[str, Any]:
     """A group of bytes that are declared volatile, which has neither a fingerprint nor a suggestion."""
     return {
         key: value
@@ -63,7 +65,7 @@ def declared_group(session: Session, checked: Checked, group: Group) -> dict:
     }
 
 
-def place_of(place: Place | None) -> dict | None:
+def place_of(place: Place | None) -> dict[str, Any] | None:
     """A place; line and column count from 1, columns in bytes."""
     if place is None:
         return None
@@ -76,7 +78,7 @@ def place_of(place: Place | None) -> dict | None:
     }
 
 
-def group_of(session: Session, checked: Checked, group: Group, found: Suggestions | None) -> dict:
+def group_of(session: Session, checked: Checked, group: Group, found: Suggestions | None) -> dict[str, Any]:
     """A group of equal reports; numbers of entries are those of the first one."""
     name, size = object_of(session, checked, group)
     places = session.places.along(group.path)
@@ -103,7 +105,7 @@ def group_of(session: Session, checked: Checked, group: Group, found: Suggestion
     }
 
 
-def suggestion_of(suggestion: Suggestion, has_edits: bool) -> dict:
+def suggestion_of(suggestion: Suggestion, has_edits: bool) -> dict[str, Any]:
     """A suggestion, on demand with its edits; columns count bytes, and an edit replaces what is between its places by its text."""
     regions = suggestion.additions.regions() if suggestion.additions and has_edits else ()
     edits = [
@@ -120,7 +122,7 @@ def suggestion_of(suggestion: Suggestion, has_edits: bool) -> dict:
     }
 
 
-def trap_of(session: Session, checked: Checked) -> dict | None:
+def trap_of(session: Session, checked: Checked) -> dict[str, Any] | None:
     """Where a run trapped; no place if none was found."""
     if not checked.ended.startswith("trap"):
         return None

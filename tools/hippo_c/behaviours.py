@@ -1,6 +1,8 @@
 """The behaviours of crash points, as data and as a part of the page: an image, what the next run reads of it, and how that run ends."""
 from __future__ import annotations
 
+from typing import Any
+
 from .answer import place_of
 from .confirming import Confirmed
 from .diagnostics import amount, images_in_words
@@ -16,9 +18,9 @@ MOST_BEHAVIOURS = 200
 LINE = 64
 
 
-def crash_points_of(session: Session, confirmed: Confirmed) -> list[dict]:
+def crash_points_of(session: Session, confirmed: Confirmed) -> list[dict[str, Any]]:
     """The crash points with the behaviours that hippo confirmed, in the order of the inputs and of their entries."""
-    points: dict[tuple, dict] = {}
+    points: dict[tuple[object, ...], dict[str, Any]] = {}
     for behaviour, crashes in confirmed.behaviours:
         key = (tuple(behaviour.numbers), crashes[0].entry)
         point = points.setdefault(
@@ -35,7 +37,7 @@ def crash_points_of(session: Session, confirmed: Confirmed) -> list[dict]:
     return list(points.values())
 
 
-def behaviour_of(session: Session, behaviour: Behaviour, crash: Crash) -> dict:
+def behaviour_of(session: Session, behaviour: Behaviour, crash: Crash) -> dict[str, Any]:
     """A behaviour: the lines of its image that have more than their durable stores, what the run reads of lines that differ, and its end."""
     places = session.places.along(behaviour.path)
     return {
@@ -54,14 +56,14 @@ def behaviour_of(session: Session, behaviour: Behaviour, crash: Crash) -> dict:
     }
 
 
-def points_in_html(points: list[dict]) -> str:
+def points_in_html(points: list[dict[str, Any]]) -> str:
     """The crash points as a part of the page: each opens to the table of its behaviours."""
     if not points:
         return ""
     return f'<h3>Crash points</h3>{"".join(map(point_in_html, points))}'
 
 
-def point_in_html(point: dict) -> str:
+def point_in_html(point: dict[str, Any]) -> str:
     """A crash point."""
     place = point["place"]
     where = (
@@ -85,7 +87,7 @@ def point_in_html(point: dict) -> str:
     )
 
 
-def row_in_html(behaviour: dict) -> str:
+def row_in_html(behaviour: dict[str, Any]) -> str:
     """A behaviour as a row of the table."""
     image = [f"line of '{pick['object']}' with {amount(pick['stores'], 'store')}" for pick in behaviour["picks"]] or [
         "only what is durable"

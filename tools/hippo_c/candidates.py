@@ -38,7 +38,6 @@ def suggest(options: argparse.Namespace, request: Request, progress: Progress) -
     """Lists the candidates, those first that the next run reads first."""
     printer = printer_of(options)
     with Session(request, progress) as session:
-        session.lower()
         path, _ = session.record(request.inputs[0], "program.trace")
         progress.say("looking for the stores")
         found = candidates_of(session, request.inputs[0], path)

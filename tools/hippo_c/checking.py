@@ -66,7 +66,6 @@ def check(options: argparse.Namespace, request: Request, progress: Progress) -> 
     known = baseline.read(options.baseline) if options.baseline else set()
     request.wants_declared = True
     with Session(request, progress) as session:
-        session.lower()
         depfile.write_depfile(options, session)
         results = []
         for number, numbers in enumerate(request.inputs, 1):
@@ -106,9 +105,10 @@ def write_forms(
     if not (options.json or options.sarif or options.html):
         return
     answer = answer_of(session, results, found)
-    for path, form in ((options.json, lambda: answer), (options.sarif, lambda: sarif_of(answer))):
-        if path:
-            write_text(path, json.dumps(form(), indent=2) + "\n", printer)
+    if options.json:
+        write_text(options.json, json.dumps(answer, indent=2) + "\n", printer)
+    if options.sarif:
+        write_text(options.sarif, json.dumps(sarif_of(answer), indent=2) + "\n", printer)
     if options.html:
         write_text(options.html, page_of(answer, histories_of(session, results)), printer)
 
@@ -153,7 +153,6 @@ def run(options: argparse.Namespace, request: Request, progress: Progress) -> in
     """Runs the program, and shows what it prints and where it traps."""
     printer = Printer(sys.stderr, printer_of(options).colour and sys.stderr.isatty(), not options.no_source)
     with Session(request, progress) as session:
-        session.lower()
         progress.wipe()
         limit = ["--limit", str(request.limit)] if request.limit is not None else []
         numbers = request.inputs[0]
@@ -162,8 +161,7 @@ def run(options: argparse.Namespace, request: Request, progress: Progress) -> in
         ended = running.accept(words, running.finish(process), (0, running.TRAPPED, running.CUT))
         if kind := ended.word("trap"):
             trap = find_trap(session.program, numbers, kind)
-            checked = Checked(numbers, "", [], None, ended.how, trap=trap)
-            print_trap(printer, session, checked)
+            print_trap(printer, session, ended.how, trap)
         else:
             printer.line(how_it_ended(ended, request))
     return 0 if ended.code == 0 else 2

@@ -5,7 +5,7 @@ import re
 import signal
 import sys
 import traceback
-from typing import TextIO
+from typing import IO
 
 from . import (
     about,
@@ -60,7 +60,7 @@ EPILOG = """Arguments for clang stand after "--". Exit codes: 0 nothing found, 1
 class Parser(argparse.ArgumentParser):
     """A parser that fails where its help cannot be written."""
 
-    def _print_message(self, message: str, file: TextIO | None = None) -> None:
+    def _print_message(self, message: str, file: IO[str] | None = None) -> None:
         """Writes the help, or what is wrong with the words."""
         if message:
             (file or sys.stderr).write(message)
@@ -239,7 +239,8 @@ def carry_out(words: list[str], progress: Progress) -> int:
         if options.command == "doctor":
             return doctor.doctor(options)
         check_outputs(options)
-        return options.carry_out(options, request_of(options, clang, arguments), progress)
+        code: int = options.carry_out(options, request_of(options, clang, arguments), progress)
+        return code
     except Trouble as trouble:
         progress.wipe()
         ends.complain("\n".join(trouble.lines(getattr(options, "files", []))))

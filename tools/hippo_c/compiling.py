@@ -70,7 +70,8 @@ class Compiling:
         errors = self.compiled(additions)
         if errors and self.without_edits is None:
             self.without_edits = {(error.file, error.what) for error in self.compiled(Additions())}
-        return [error for error in errors if (error.file, error.what) not in self.without_edits]
+        known = self.without_edits or set()
+        return [error for error in errors if (error.file, error.what) not in known]
 
     def compiled(self, additions: Additions) -> list[Error]:
         """The errors of the program's files with edits."""

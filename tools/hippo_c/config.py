@@ -5,6 +5,7 @@ a table with the name of a command for that one alone. Its paths are relative to
 from __future__ import annotations
 
 import argparse
+import importlib
 import os
 import re
 from collections.abc import Iterator
@@ -148,7 +149,7 @@ def find() -> str | None:
 def read(path: str) -> tuple[dict[str, Any], str]:
     """The tables of a file, and its text."""
     try:
-        import tomllib
+        tomllib = importlib.import_module("tomllib")
     except ImportError:
         raise Trouble(f"{NAME}: Python 3.11 or later is needed to read it") from None
     try:

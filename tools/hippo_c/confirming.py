@@ -15,6 +15,7 @@ from .pool_starts import Start
 from .program import Site, parse_site
 from .reports import Group
 from .session import Checked, Session
+from .writing import whole_file
 
 MOST_EXAMPLES = 4
 
@@ -76,7 +77,7 @@ class Confirming:
         self.seen: set[Key] = set()
         self.recorded: tuple[list[int], int, Start] | None = None  # whose trace the file crashed.trace has
         self.sessions: dict[Start, Session] = {(): session}
-        self.by_user: dict[tuple, ShownGroup] = {}
+        self.by_user: dict[tuple[object, ...], ShownGroup] = {}
 
     def confirm(self, found: Found, given: list[list[int]]) -> Confirmed:
         """Confirms all findings. The given inputs are checked too, since their reports belong to the answer."""
@@ -120,7 +121,7 @@ class Confirming:
             session = self.sessions[start] = copy.copy(self.session)
             session.program = with_image(self.session.program, image)
             session.text_path = self.session.file(f"start.{len(self.sessions)}.ll")
-            with running.whole_file(session.text_path) as file:
+            with whole_file(session.text_path) as file:
                 file.write(plain(session.program).encode("latin-1"))
         return self.sessions[start]
 
@@ -137,7 +138,7 @@ class Confirming:
                 self.by_user[key] = ShownGroup(group, checked, start=start)
                 self.answer.groups.append(self.by_user[key])
 
-    def user_key(self, group: Group) -> tuple:
+    def user_key(self, group: Group) -> tuple[object, ...]:
         """What makes two groups one for the user: the kind, the flush, and the path from the user's innermost function outwards."""
         start = next((level for level, site in enumerate(group.path) if self.session.places.of(site)), 0)
         return group.kind, group.flush, shortened(group.path[start:]), start > 0
@@ -216,7 +217,7 @@ class Confirming:
             self.answer.refused += 1
             return
         text = self.session.file("resumed.ll")
-        with running.whole_file(text) as file:
+        with whole_file(text) as file:
             file.write(plain(program).encode("latin-1"))
         printed = self.printed(text, outputs.resumed, outputs.skips[2])
         first = self.at(outputs.start).text_path

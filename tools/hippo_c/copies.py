@@ -71,6 +71,8 @@ class Copies:
         head = re.compile(rb"\b" + re.escape(last_part(original.name_in_c).encode()) + rb"\b").search(
             tree.source, tree.function.begin
         )
+        if head is None:
+            return False
         inside.replace(tree, Edit(head.start(), head.end(), self.name_of(clone)))
         text = applied(tree.source, inside.edits(tree.file), tree.function.begin, tree.function.end)
         end = tree.function.end
@@ -91,7 +93,7 @@ class Copies:
                 continue
             place, statement, offset = self.statement(item.site, tree)
             text = self.fixer.flush_text(place, tree, statement, offset, item.instruction.callee != "pmem_flush")
-            if statement.role == "other":
+            if statement is None or statement.role == "other":
                 return False
             inside.add(tree, statement, [text], [])
         return True
@@ -114,12 +116,12 @@ class Copies:
                     return False
                 continue
             text = self.fixer.flush_text(place, tree, statement, offset, False)
-            if statement.role == "other":
+            if statement is None or statement.role == "other":
                 return False
             inside.add(tree, statement, [text], [])
         return True
 
-    def stores(self, name: str, seen: frozenset = frozenset()) -> bool:
+    def stores(self, name: str, seen: frozenset[str] = frozenset()) -> bool:
         """Whether the clone of a function flushes anything, itself or by its calls."""
         if name in seen:
             return False

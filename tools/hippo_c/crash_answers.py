@@ -71,7 +71,7 @@ def rows_of(
     session: Session, found: Exploration, smallest: list[Outcome], paths: dict[int, tuple[Site, ...]]
 ) -> list[Row]:
     """Rows by the place of the entry and the ending, in the order of their first entries."""
-    rows: dict[tuple, Row] = {}
+    rows: dict[tuple[object, ...], Row] = {}
     by_entry = {}
     for outcome in smallest:
         place = session.places.first(paths.get(outcome.point.entry, ()))

@@ -38,7 +38,7 @@ class Exploration:
     """The points that were tried, counted by their entries, and the outcomes of those that fail; the number of the entries of which each image
     was tried, and of all."""
 
-    tried: Counter = field(default_factory=Counter)
+    tried: Counter[int] = field(default_factory=Counter)
     failing: list[Outcome] = field(default_factory=list)
     whole: bool = True
     entries: int = 0
@@ -122,7 +122,6 @@ def crash(options: argparse.Namespace, request: Request, progress: Progress) -> 
     debugging.prepare(options)
     printer = printer_of(options)
     with Session(request, progress) as session:
-        session.lower()
         path, ended = session.record(request.inputs[0], "program.trace")
         recorded = ended.how
         if recorded == "cut":
@@ -175,7 +174,8 @@ def single_point(options: argparse.Namespace, first: int, last: int) -> Point:
         raise Trouble("--pick needs one entry: --entries N")
     if strange := [pick for pick in options.picks if not re.fullmatch(r"[0-9]{1,18}:[0-9]{1,18}", pick)]:
         raise Trouble(f"--pick {strange[0]}: not LINE:UPTO")
-    return Point(first, tuple(tuple(map(int, pick.split(":"))) for pick in options.picks))
+    pairs = (pick.split(":") for pick in options.picks)
+    return Point(first, tuple((int(line), int(upto)) for line, upto in pairs))
 
 
 def failing_test(recorded: str, status: bool) -> Fails:

@@ -19,6 +19,7 @@ from .diagnostics import Printer
 from .program import REGION_BASE, Global
 from .session import Session
 from .trouble import Trouble
+from .writing import whole_file
 
 NATIVE = ("-g", "-O0", "-no-pie", "-mcmodel=large", f"-Wl,--section-start=.pm={REGION_BASE:#x}")
 LOADER = """#include <stdio.h>
@@ -103,7 +104,7 @@ def write_native(options: argparse.Namespace, session: Session, image: bytearray
 
 def write(path: str, content: bytes) -> None:
     """Writes a file, which gets its name when it is complete."""
-    with running.whole_file(path) as file:
+    with whole_file(path) as file:
         file.write(content)
 
 

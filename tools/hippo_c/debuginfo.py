@@ -16,6 +16,7 @@ class DebugInfo:
     def __init__(self) -> None:
         self.lines: list[str] = []
         self.numbers: dict[object, int] = {}
+        self.files: dict[str, int] = {}
         self.unit = self.node("unit", "")
 
     def node(self, key: object, text: str) -> int:
@@ -28,7 +29,8 @@ class DebugInfo:
     def file(self, name: str) -> int:
         """The number of a file."""
         folder = "" if os.path.isabs(name) else os.getcwd()
-        return self.node(("file", name), f"!DIFile(filename: {quoted(name)}, directory: {quoted(folder)})")
+        self.files[name] = self.node(("file", name), f"!DIFile(filename: {quoted(name)}, directory: {quoted(folder)})")
+        return self.files[name]
 
     def subprogram(self, name: str, linkage: str, file: str, line: int, part: str = "") -> int:
         """A function; `part` distinguishes the inlined copies of one."""
@@ -58,14 +60,10 @@ class DebugInfo:
 
     def text(self) -> str:
         """All nodes, with those that the module names."""
-        file = next((number for key, number in self.numbers.items() if key[0] == "file"), None)
+        file = next(iter(self.files.values()), None)
         if file is None:
             return ""
-        language = (
-            "DW_LANG_C_plus_plus_14"
-            if any(is_cpp(key[1]) for key in self.numbers if key[0] == "file")
-            else "DW_LANG_C11"
-        )
+        language = "DW_LANG_C_plus_plus_14" if any(map(is_cpp, self.files)) else "DW_LANG_C11"
         self.lines[self.unit] = (
             f'distinct !DICompileUnit(language: {language}, file: !{file}, producer: "hippo-c", '
             "isOptimized: true, runtimeVersion: 0, emissionKind: LineTablesOnly)"
@@ -106,8 +104,8 @@ def with_debug_info(repair: Repair, head: list[str], functions: list[tuple[Funct
         for block in function.blocks:
             out += [f"{block.label}:", *(f"  {phi}" for phi in block.phis)]
             for index, instruction in enumerate(block.instructions):
-                place = places_of(repair, (function.name, block.label, index))
-                mark = f", !dbg !{info.location(place, scope)}" if scope is not None and place else ""
+                frames = places_of(repair, (function.name, block.label, index))
+                mark = f", !dbg !{info.location(frames, scope)}" if scope is not None and frames else ""
                 out.append(f"  {instruction.text}{mark}")
         out.append("}")
     return "\n".join(out) + "\n" + info.text()

@@ -15,6 +15,7 @@ from lowering.requests import HELPER, NOTES, REGISTER_FILE, REGISTER_MAPPING, RE
 
 from . import running
 from .places import Place, Places
+from .places import place_of as place_of_frame
 from .program import Program, parse_site
 from .reports import Group, grouped, joined
 from .traces import pieces
@@ -191,7 +192,7 @@ def places_along(places: Places, path: str) -> tuple[str, ...]:
 def place_of(comment: str) -> Place | None:
     """The place of a comment of the text."""
     frames = lines.read(comment)
-    return Place(*frames[0]) if frames else None
+    return place_of_frame(frames[0]) if frames else None
 
 
 def stores_of(trace: str, wanted: Iterable[int]) -> dict[int, tuple[int, int]]:

@@ -11,7 +11,7 @@ from .program import show_site
 from .reports import Group
 from .session import Checked, Session
 from .sources import line_of
-from .traps import meaning_of
+from .traps import Trap, meaning_of
 
 COLOURS = {
     "warning": "\x1b[0;1;35m",
@@ -100,7 +100,8 @@ def message_of(session: Session, checked: Checked, group: Group) -> str:
 def check_of(session: Session, checked: Checked, group: Group) -> str:
     """The check of a group and its place: `at the check in ring.c:25`, `when 'put' returns in ring.c:31`."""
     place = session.check_place(checked, group.check)
-    boundary = session.boundary_checks.get(checked.check_sites.get(group.check))
+    site = checked.check_sites.get(group.check)
+    boundary = session.boundary_checks.get(site) if site else None
     where = boundary.where if boundary else "at the check"
     if group.check == checked.trace.entries:
         where = "at the return of main" if not place or place.function == "main" else "at the end of the run"
@@ -164,12 +165,12 @@ def print_merged(printer: Printer, place: Place | None) -> None:
         )
 
 
-def print_trap(printer: Printer, session: Session, checked: Checked) -> None:
+def print_trap(printer: Printer, session: Session, ended: str, trap: Trap | None) -> None:
     """Where the run trapped, and by which calls."""
-    kind = checked.ended.split(" ")[-1]
-    places = session.places.along(checked.trap.path) if checked.trap else []
+    kind = ended.split(" ")[-1]
+    places = session.places.along(trap.path) if trap else []
     place = places[0] if places else None
-    printer.diagnostic(place, "error", f"the run trapped: {meaning_of(kind, checked.trap)} [{kind}]", True)
+    printer.diagnostic(place, "error", f"the run trapped: {meaning_of(kind, trap)} [{kind}]", True)
     print_merged(printer, place)
     print_calls(printer, places, MOST_CALLS)
     if len(places) - 1 > MOST_CALLS:
@@ -221,7 +222,7 @@ def print_checked(
     for text in warnings_of(session, checked):
         printer.diagnostic(None, "warning", text)
     if checked.ended.startswith("trap"):
-        print_trap(printer, session, checked)
+        print_trap(printer, session, checked.ended, checked.trap)
     if checked.ended == "cut":
         printer.diagnostic(
             None, "error", f"the run was cut after {checked.trace.limit:,} turns; --limit N gives it more"

@@ -108,7 +108,7 @@ class Additions:
 
     def diff(self) -> str:
         """A unified diff, for `patch -p0`."""
-        texts = []
+        texts: list[str] = []
         for file, new in sorted(self.edited().items()):
             old_lines, new_lines = (
                 text.decode("utf-8", "surrogateescape").splitlines(True) for text in (self.sources[file], new)

@@ -11,7 +11,8 @@ import tempfile
 import threading
 import time
 from collections.abc import Callable, Iterator
-from typing import NoReturn
+from io import TextIOWrapper
+from typing import Any, NoReturn, cast
 
 FAILED, INTERRUPTED = 2, 130
 SIGNALS = (signal.SIGINT, signal.SIGTERM, signal.SIGHUP)
@@ -34,7 +35,7 @@ class State:
         self.works = self.closing = self.searches = False
         self.held, self.waiting = 0, 0
         self.lock = threading.Lock()
-        self.processes: set[subprocess.Popen] = set()
+        self.processes: set[subprocess.Popen[bytes]] = set()
 
 
 state = State()
@@ -60,7 +61,7 @@ def open_streams() -> None:
     if sys.stderr is None:
         sys.stderr = open(2, "w", encoding="utf-8", closefd=False)
     for stream in (sys.stdout, sys.stderr):
-        stream.reconfigure(errors="surrogateescape")  # names of files need not be UTF-8
+        cast(TextIOWrapper, stream).reconfigure(errors="surrogateescape")  # names of files need not be UTF-8
 
 
 def on_signal(number: int, _frame: object) -> None:
@@ -133,12 +134,12 @@ def new_room() -> str:
         raise OSError(error.errno, error.strerror, error.filename or "the temporary folder") from None
 
 
-def started(command: list[str], **more: object) -> subprocess.Popen:
+def started(command: list[str], **more: Any) -> subprocess.Popen[bytes]:
     """A process that is ended with hippo-c, with all that it starts itself."""
     with held():
         if state.closing:
             raise Signalled(signal.SIGTERM)
-        process = subprocess.Popen(command, start_new_session=True, **more)
+        process: subprocess.Popen[bytes] = subprocess.Popen(command, start_new_session=True, **more)
         with state.lock:
             state.processes.add(process)
     if state.closing:  # a thread started it meanwhile
@@ -147,7 +148,7 @@ def started(command: list[str], **more: object) -> subprocess.Popen:
     return process
 
 
-def has_ended(process: subprocess.Popen) -> bool:
+def has_ended(process: subprocess.Popen[bytes]) -> bool:
     """Whether a process has ended; its number stays its own."""
     try:
         return (
@@ -158,14 +159,14 @@ def has_ended(process: subprocess.Popen) -> bool:
         return True
 
 
-def signal_group(process: subprocess.Popen, number: int) -> None:
+def signal_group(process: subprocess.Popen[bytes], number: int) -> None:
     """Sends a signal to a process and to what it started, while its number is its own."""
     if process.returncode is None:
         with contextlib.suppress(ProcessLookupError, PermissionError):
             os.killpg(process.pid, number)
 
 
-def end(process: subprocess.Popen) -> None:
+def end(process: subprocess.Popen[bytes]) -> None:
     """Ends a process, and what it started: it may clean up, for a short time."""
     runs = process.returncode is None
     signal_group(process, signal.SIGTERM)

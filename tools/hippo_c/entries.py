@@ -83,7 +83,8 @@ def sites_in_order(
     made: list[tuple[Site, Instruction]], marks: Iterator[int], program: Program
 ) -> Iterator[tuple[tuple[Site, ...], int]]:
     """The sites of the entries with the first operand of each, from the marks of a run."""
-    size, outside = program.region_size(), []
+    size = program.region_size()
+    outside: list[Site] = []
     for mark in marks:
         if mark < 0:
             outside.pop()

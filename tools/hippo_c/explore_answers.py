@@ -4,11 +4,13 @@ from __future__ import annotations
 import argparse
 import re
 import shlex
+from collections.abc import Sized
 
 from .confirming import Confirmed, ShownFailure, ShownGroup, ShownOutputs
 from .diagnostics import Printer, amount, images_in_words, message_of, print_calls, print_merged, show_place
 from .findings import Failure, Found, Outputs, Report
 from .following import Crash
+from .places import Place
 from .pool_starts import PoolFiles, Start
 from .program import show_site
 from .session import Session
@@ -262,11 +264,12 @@ def print_counts(
 def print_examples(printer: Printer, again: Again, found: Found, confirmed: Confirmed) -> None:
     """Inputs that are no finding, and of whose runs no power cut was tried: those that trap, that are long, or that leave a refused state."""
     refusing = confirmed.refusing.numbers if confirmed.refusing else None
-    for inputs, shortest, what in (
+    examples: tuple[tuple[Sized, list[int] | None, str], ...] = (
         (found.trapped, confirmed.trapping, "traps"),
-        (found.long, min(found.long, key=len, default=None), "is too long for the search"),
+        (found.long, min(found.long, key=len) if found.long else None, "is too long for the search"),
         (found.refused, refusing, "leaves a state that the next run refuses though nothing is lost"),
-    ):
+    )
+    for inputs, shortest, what in examples:
         if shortest is not None:
             printer.line(
                 f'the run of {amount(len(inputs), "kept input")} {what}, for example of {again.words(shortest)}'
@@ -276,7 +279,7 @@ def print_examples(printer: Printer, again: Again, found: Found, confirmed: Conf
 def print_missed(printer: Printer, session: Session, found: Found) -> None:
     """The places of the blocks that never ran, each line once."""
     blocks = list(session.program.blocks)
-    places = {}
+    places: dict[str, Place | None] = {}
     for number in sorted(found.missed or ()):
         function, label = blocks[number]
         count = len(session.program.blocks[(function, label)].instructions)

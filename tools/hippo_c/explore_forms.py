@@ -4,6 +4,7 @@ from __future__ import annotations
 import argparse
 import copy
 import json
+from typing import Any
 
 from . import fingerprints
 from .answer import answer_of, place_of
@@ -70,7 +71,7 @@ def results_of(confirmed: Confirmed) -> list[Checked]:
     return list(results.values())
 
 
-def failure_of(session: Session, shown: ShownFailure, again: Again) -> dict:
+def failure_of(session: Session, shown: ShownFailure, again: Again) -> dict[str, Any]:
     """A failure: the power cuts as hippo's `crash` takes them, where the last run ends, and the stores that its image lacks."""
     failure = shown.failure
     places = session.places.along(failure.path)
@@ -95,7 +96,7 @@ def failure_of(session: Session, shown: ShownFailure, again: Again) -> dict:
     }
 
 
-def after_cut_of(session: Session, report: Report, crashes: list[Crash], again: Again) -> dict:
+def after_cut_of(session: Session, report: Report, crashes: list[Crash], again: Again) -> dict[str, Any]:
     """A report of a run after power cuts."""
     places = session.places.along(report.key[2])
     return {
@@ -108,12 +109,12 @@ def after_cut_of(session: Session, report: Report, crashes: list[Crash], again: 
     }
 
 
-def cuts_of(crashes: list[Crash]) -> list[dict]:
+def cuts_of(crashes: list[Crash]) -> list[dict[str, Any]]:
     """Power cuts as the words of `crash`."""
     return [{"entry": crash.entry, "picks": [list(pick) for pick in crash.picks]} for crash in crashes]
 
 
-def outputs_of(session: Session, shown: ShownOutputs, again: Again) -> dict:
+def outputs_of(session: Session, shown: ShownOutputs, again: Again) -> dict[str, Any]:
     """An operation that a power cut leaves half done or loses: the inputs, and what the runs print."""
     outputs = shown.outputs
     return {
@@ -130,7 +131,7 @@ def outputs_of(session: Session, shown: ShownOutputs, again: Again) -> dict:
     }
 
 
-def covered(session: Session, found: Found, confirmed: Confirmed) -> dict:
+def covered(session: Session, found: Found, confirmed: Confirmed) -> dict[str, Any]:
     """What was covered."""
     counts = {
         name: found.summary.get(name, 0)
@@ -147,7 +148,7 @@ def covered(session: Session, found: Found, confirmed: Confirmed) -> dict:
     }
 
 
-def sarif_with_failures(answer: dict) -> dict:
+def sarif_with_failures(answer: dict[str, Any]) -> dict[str, Any]:
     """The SARIF log of the groups, with a result for each finding after a power cut."""
     log = sarif_of(answer)
     run = log["runs"][0]
@@ -176,7 +177,7 @@ def sarif_with_failures(answer: dict) -> dict:
     return log
 
 
-def result_of(text: str, finding: dict, related: list[tuple[dict | None, str]]) -> dict:
+def result_of(text: str, finding: dict[str, Any], related: list[tuple[dict[str, Any] | None, str]]) -> dict[str, Any]:
     """A finding after a power cut as a result."""
     return {
         "ruleId": RULE["id"],
@@ -186,13 +187,13 @@ def result_of(text: str, finding: dict, related: list[tuple[dict | None, str]]) 
         "locations": [location_of(finding["place"])] if finding["place"] else [],
         "relatedLocations": [
             {**location_of(place), "id": number, "message": {"text": what}}
-            for number, (place, what) in enumerate((one for one in related if one[0]), 1)
+            for number, (place, what) in enumerate(((place, what) for place, what in related if place), 1)
         ],
         "properties": {"input": finding["numbers"], "again": finding["again"]},
     }
 
 
-def failures_in_html(answer: dict) -> str:
+def failures_in_html(answer: dict[str, Any]) -> str:
     """What power cuts show as a part of the page: the findings with the commands that show them again, and the behaviours of crash points."""
     rows = []
     for failure in answer["failures"]:
@@ -228,11 +229,11 @@ def failures_in_html(answer: dict) -> str:
     )
 
 
-def row(finding: dict, text: str) -> str:
+def row(finding: dict[str, Any], text: str) -> str:
     """A finding after a power cut as an item of the list."""
     return f'<li><b>{escaped(where(finding["place"]))}</b>: {escaped(text)}<br><code>{escaped(finding["again"])}</code></li>'
 
 
-def where(place: dict | None) -> str:
+def where(place: dict[str, Any] | None) -> str:
     """A place as FILE:LINE."""
     return f'{place["file"]}:{place["line"]}' if place else "a place that is not in the C"

@@ -36,7 +36,6 @@ def explore(options: argparse.Namespace, request: Request, progress: Progress) -
     seeds = united([line for path in options.merge for line in corpus_of(path)]) if options.merge else seeds
     printer = printer_of(options)
     with Session(request, progress) as session:
-        session.lower()
         if spelled and not words.reads_words(session.program):
             raise Trouble("--args: main does not use its parameters")
         check_recovers(session, options.recover)
@@ -176,7 +175,7 @@ class Job:
 
     def read(self) -> None:
         """Takes in the lines; a line that an interrupt cut off is left out."""
-        for line in self.process.stdout:
+        for line in running.output_of(self.process):
             text = line.decode("ascii", "replace")
             if text.startswith("progress ") and text.endswith("\n"):
                 self.progress.show(progress_text(text, self.blocks, self.seconds))

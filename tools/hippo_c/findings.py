@@ -3,6 +3,7 @@ from __future__ import annotations
 
 from collections.abc import Iterable
 from dataclasses import dataclass, field
+from typing import Any
 
 from .pool_starts import Start, start_of
 from .program import Site
@@ -121,7 +122,7 @@ class Found:
 
     reports: dict[Key, Report] = field(default_factory=dict)
     failures: dict[str, Failure] = field(default_factory=dict)
-    outputs: dict[tuple, Outputs] = field(default_factory=dict)
+    outputs: dict[tuple[object, ...], Outputs] = field(default_factory=dict)
     trapped: list[list[int]] = field(default_factory=list)
     long: list[list[int]] = field(default_factory=list)
     refused: list[Refused] = field(default_factory=list)
@@ -200,7 +201,9 @@ class Reader:
             fields["acknowledged"] == "1",
             int(fields["operation"]),
             at,
-            *(numbers(fields[name]) for name in ("input", "without", "resumed")),
+            numbers(fields["input"]),
+            numbers(fields["without"]),
+            numbers(fields["resumed"]),
             (first, second, third),
             cuts(fields["cuts"]),
             int(fields["told"]),

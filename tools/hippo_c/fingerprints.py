@@ -19,7 +19,7 @@ def give(session: Session, results: Iterable[Checked]) -> None:
 
     It does not change if lines move, or if the program stores to other elements of an array. A group of several inputs has one.
     """
-    kinds: dict[Kind, dict[tuple, list[Group]]] = {}
+    kinds: dict[Kind, dict[tuple[object, ...], list[Group]]] = {}
     for checked in results:
         for group in checked.groups:
             kinds.setdefault(kind_of(session, checked, group), {}).setdefault(identity(session, group), []).append(
@@ -47,11 +47,12 @@ def kind_of(session: Session, checked: Checked, group: Group) -> Kind:
 
 def functions_of(session: Session, path: Path) -> str:
     """A digest of the functions along a path; that of a path around it is a part of it, and is computed once."""
-    known, left, mark = session.digests, [], ""
-    while path is not None and path not in known:
-        left.append(path)
-        path = path.outer
-    mark = known[path] if path is not None else ""
+    known, left = session.digests, []
+    rest: Path | None = path
+    while rest is not None and rest not in known:
+        left.append(rest)
+        rest = rest.outer
+    mark = known[rest] if rest is not None else ""
     for one in reversed(left):
         names = "\n".join([*(place.function for place in session.places.of(one.site)), mark])
         mark = known[one] = hashlib.sha256(names.encode("utf-8", "surrogateescape")).hexdigest()
@@ -64,7 +65,7 @@ def instruction_of(session: Session, group: Group) -> str:
     return REGISTER.sub("%", instruction.text) if instruction else ""
 
 
-def identity(session: Session, group: Group) -> tuple:
+def identity(session: Session, group: Group) -> tuple[object, ...]:
     """What makes two groups of several inputs one: the flush, and the path from the innermost function that is the user's."""
     start = next((level for level, site in enumerate(group.path) if session.places.of(site)), 0)
     return group.flush, group.path[start:], start > 0

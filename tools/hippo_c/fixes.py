@@ -1,6 +1,7 @@
 """Suggestions: what to add to the C for each group, by the plan of hippo's repair.
 
 A suggestion is not proved. The repaired text is proved; `--verify-fix` checks the edited C like any other."""
+from collections.abc import Sequence
 from dataclasses import dataclass
 
 from lowering.externs import LIBPMEM, LINE_FLUSHES
@@ -47,10 +48,11 @@ class Fixer:
         """What to do about a group; nothing if the plan has nothing for it."""
         if group.kind == "fence" and group.flush:
             return self.after_flush((group.flush,))
-        found = [suggestion for suggestion in map(self.for_path, (group.path, *group.more)) if suggestion]
-        return max(found, key=lambda suggestion: len(suggestion.statements), default=None)
+        paths = (group.path, *group.more)
+        found = [suggestion for path in paths if (suggestion := self.for_path(path))]
+        return max(found, key=lambda suggestion: len(suggestion.statements)) if found else None
 
-    def for_path(self, path: tuple[Site, ...]) -> Suggestion | None:
+    def for_path(self, path: Sequence[Site]) -> Suggestion | None:
         """What to do about the store of a path, at the level that the plan has for it."""
         for level, site in enumerate(path):
             if level == 0 and site in self.put_in:
@@ -64,7 +66,7 @@ class Fixer:
                 return found if found.additions else self.after_construction(path[level:], True) or found
         return None
 
-    def after_construction(self, path: tuple[Site, ...], fenced: bool) -> Suggestion | None:
+    def after_construction(self, path: Sequence[Site], fenced: bool) -> Suggestion | None:
         """A flush of the whole object after the statement that makes it, if a constructor of the user's is on the path."""
         functions = self.session.program.functions
         made = [
@@ -95,11 +97,11 @@ class Fixer:
             return Suggestion(place, f"write '{returned[1]}'", statements, additions)
         return None
 
-    def located(self, path: tuple[Site, ...]) -> tuple[Place | None, Tree | None, Statement | None, int]:
+    def located(self, path: Sequence[Site]) -> tuple[Place | None, Tree | None, Statement | None, int]:
         """The innermost place of the user's on a path, and the statement that stands there."""
         place = self.places.first(path)
-        tree = place and place.exact and self.tree_of(place)
-        if not tree:
+        tree = self.tree_of(place) if place and place.exact else None
+        if place is None or tree is None:
             return place, None, None, -1
         offset = tree.offset(place.line, place.column)
         return place, tree, tree.statement(offset), offset
@@ -118,7 +120,7 @@ class Fixer:
                     return tree
         return None
 
-    def after_flush(self, path: tuple[Site, ...]) -> Suggestion:
+    def after_flush(self, path: Sequence[Site]) -> Suggestion:
         """A fence after a flush that no fence follows."""
         place, tree, statement, _ = self.located(path)
         additions, reason = self.added(place, tree, statement, [], [self.fence])
@@ -128,13 +130,14 @@ class Fixer:
         self, place: Place | None, tree: Tree | None, statement: Statement | None, flushes: list[str], fences: list[str]
     ) -> tuple[Additions | None, str]:
         """The edits that put statements after one, or why that is not possible."""
-        if reason := why_not(place, tree, statement):
+        reason = why_not(place, tree, statement)
+        if reason or tree is None or statement is None:
             return None, reason
         additions = Additions()
         additions.add(tree, statement, flushes, fences)
         return additions, ""
 
-    def flush(self, path: tuple[Site, ...], fenced: bool, wide: bool) -> Suggestion:
+    def flush(self, path: Sequence[Site], fenced: bool, wide: bool) -> Suggestion:
         """A flush after the statement that stores, and a fence if none follows."""
         place, tree, statement, offset = self.located(path)
         fences = [self.fence] if fenced else []
@@ -143,29 +146,29 @@ class Fixer:
             text = self.of_object(path, tree, statement, offset) or self.flush_text(
                 place, tree, statement, offset, direct and not wide
             )
-        except Unclear as reason:
+        except Unclear as unclear:
             more = f", and then '{self.fence}'" if fenced else ""
             return Suggestion(
-                place, f"flush what this statement stores{more}", fences, reason=self.in_library(path) or str(reason)
+                place, f"flush what this statement stores{more}", fences, reason=self.in_library(path) or str(unclear)
             )
         shown = " ".join([text, *fences])
         additions, reason = self.added(place, tree, statement, [text], fences)
         return Suggestion(place, f"add '{shown}' after this statement", [text, *fences], additions, reason)
 
-    def in_library(self, path: tuple[Site, ...]) -> str:
+    def in_library(self, path: Sequence[Site]) -> str:
         """Why there is no edit for a store inside a header of the system; an empty text if it is elsewhere."""
         function = self.session.program.functions[path[0][0]]
         if function.place is None or not function.place.file.startswith(SYSTEM):
             return ""
         return f"the store is inside '{shortened(function.name_in_c)}'; the program that hippo-c repair writes has the flush"
 
-    def of_object(self, path: tuple[Site, ...], tree: Tree | None, statement: Statement | None, offset: int) -> str:
+    def of_object(self, path: Sequence[Site], tree: Tree | None, statement: Statement | None, offset: int) -> str:
         """The flush of an object of C++ that a statement stores to: of a `std::atomic` by its functions, or of a class that is copied
         as bytes; an empty text if it is another store."""
         if tree is None or statement is None:
             return ""
         function = self.session.program.functions[path[0][0]]
-        frames = self.session.program.instruction(path[0]).frames
+        frames = self.session.program.at(path[0]).frames
         if is_of_atomics(frames and frames[0].function or function.name_in_c):
             address = stored_object(tree, statement, offset) or ""
             line = f"pmem_flush({address}, sizeof(*({address})));" if self.uses_libpmem else f"_mm_clwb({address});"
@@ -187,7 +190,7 @@ class Fixer:
         address, size = tree.range(statement, offset)
         return f"pmem_flush({address}, {size});"
 
-    def hoist(self, path: tuple[Site, ...], level: int, clone: str) -> Suggestion:
+    def hoist(self, path: Sequence[Site], level: int, clone: str) -> Suggestion:
         """A flushing copy of a function that is called; if the function is not the user's, a flush of its range."""
         original = self.session.program.called(path, level)
         if not self.places.is_users_function(original):
@@ -196,7 +199,7 @@ class Fixer:
         name = original.name_in_c
         additions, reason = self.added(place, tree, statement, [], [self.fence])
         copies = Copies(self)
-        if additions and copies.call(tree, offset, clone) and copies.finish():
+        if additions and tree and copies.call(tree, offset, clone) and copies.finish():
             additions.merge(copies.additions)
         elif additions:
             additions, reason = None, copies.reason

@@ -15,6 +15,7 @@ from .session import Session
 from .traces import pieces
 from .traps import find_trap
 from .trouble import Trouble
+from .writing import whole_file
 
 HEADER = ("START", "REGISTER", "INPUT", "IMAGE")
 ENDED = (0, running.TRAPPED, running.CUT)
@@ -48,7 +49,7 @@ class Following:
         self.level += 1
         out = self.session.file(f"after.{self.level}.trace")
         words = ["crash", self.text, self.path, str(crash.entry), *(f"{line}:{upto}" for line, upto in crash.picks)]
-        with running.whole_file(out) as file:
+        with whole_file(out) as file:
             self.ended = running.finish(running.start([running.hippo_program(), *words], stdout=file))
         if self.ended.code not in ENDED:
             return False
@@ -69,7 +70,7 @@ class Following:
         if program is None:
             return False
         self.text = self.session.file(f"after.{self.level}.ll")
-        with running.whole_file(self.text) as file:
+        with whole_file(self.text) as file:
             file.write(plain(program).encode("latin-1"))
         self.path = self.session.file(f"told.{self.level}.trace")
         self.ended = running.hippo(["record", self.text, *self.limit, "--", *map(str, self.numbers)], self.path, ENDED)

@@ -2,6 +2,7 @@
 from collections import deque
 from collections.abc import Iterator
 from dataclasses import dataclass, field
+from typing import Any
 
 from .entries import paths_of_entries
 from .images import LINE
@@ -37,7 +38,7 @@ class History:
             self.state = applied(self.state, self.events.popleft())
             self.left_out += 1
 
-    def data(self, places: dict[int, str]) -> dict:
+    def data(self, places: dict[int, str]) -> dict[str, Any]:
         """The history as plain data, with the places in C of its events."""
         rows = [[*event, places.get(event[0], "")] for event in self.events]
         return {
@@ -58,7 +59,7 @@ def applied(state: list[str], event: Event) -> list[str]:
     return [after if letter == before else letter for letter in state]
 
 
-def histories_of(session: Session, results: list[Checked]) -> list[list[dict]]:
+def histories_of(session: Session, results: list[Checked]) -> list[list[dict[str, Any]]]:
     """For each input the history of each group's cache line, up to the check of its first report."""
     found = []
     for checked in results:
@@ -67,7 +68,7 @@ def histories_of(session: Session, results: list[Checked]) -> list[list[dict]]:
     return found
 
 
-def histories(session: Session, checked: Checked) -> list[dict]:
+def histories(session: Session, checked: Checked) -> list[dict[str, Any]]:
     """The history of the cache line of each group of one input."""
     by_group = [
         History((checked.trace.wanted[group.entry][0] - REGION_BASE) // LINE, group.check) for group in checked.groups
@@ -115,7 +116,7 @@ def events_of(
 def entry_places(session: Session, checked: Checked) -> dict[int, str]:
     """`FILE:LINE` of each entry whose site is known."""
     paths = paths_of_entries(session.places, checked.numbers, checked.path)
-    short: dict[tuple, str] = {}
+    short: dict[tuple[object, ...], str] = {}
     for path in set(paths.values()):
         place = session.places.first(path)
         short[path] = place.short if place else ""

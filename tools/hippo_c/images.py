@@ -2,7 +2,7 @@
 
 This only enumerates what to try: hippo makes the image, and refuses picks that no crash leaves."""
 import random
-from collections.abc import Callable, Collection, Iterable, Iterator
+from collections.abc import Callable, Collection, Iterable, Iterator, Mapping
 from dataclasses import dataclass, field
 from functools import lru_cache
 from hashlib import blake2b
@@ -136,7 +136,8 @@ class Choice:
 def points_of(path: str, choice: Choice, spread: bool = False) -> Iterator[list[Point]]:
     """The points of a trace, for each entry together, and each image once, at the first entry that has it. They are in the order of the trace,
     or, spread, first those of some entries over the whole run, then those between, as long as there are any."""
-    chance, seen = random.Random(choice.seed), set()
+    chance = random.Random(choice.seed)
+    seen: set[object] = set()
     choice.entries = sum(1 for number, _ in enumerate(pieces(path), 1) if choice.has(number))
     chosen = None if choice.most is None else sample_of(path, choice.has, chance, choice.count, choice.most)
     entries = choice.entries if chosen is None else len(chosen)
@@ -166,7 +167,7 @@ def strides(entries: int) -> Iterator[tuple[int, int]]:
 
 def sample_of(
     path: str, wanted: Callable[[int], bool], chance: random.Random, count: int, most: int
-) -> dict[int, Collection[int]]:
+) -> Mapping[int, Collection[int]]:
     """Some images of a trace, chosen at random: their numbers, by entries."""
     lines, ends, total = CacheLines(), [], 0
     for number, entry in enumerate(pieces(path), 1):
@@ -177,9 +178,9 @@ def sample_of(
     found: dict[int, list[int]] = {}
     numbers = iter(sorted(chance.sample(range(total), min(most, total))))
     one, start = next(numbers, None), 0
-    for entry, end in ends:
+    for place, end in ends:
         while one is not None and one < end:
-            found.setdefault(entry, []).append(one - start)
+            found.setdefault(place, []).append(one - start)
             one = next(numbers, None)
         start = end
     return found

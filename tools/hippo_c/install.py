@@ -7,6 +7,7 @@ import stat
 from . import completions, running
 from .progress import Progress
 from .trouble import Trouble
+from .writing import whole_file
 
 WRAPPER = """#!/bin/sh
 here=$(dirname "$(readlink -f "$0")")
@@ -115,7 +116,7 @@ def put(source: str, target: str, executable: bool = False) -> None:
 def write(target: str, content: str | bytes, executable: bool = False) -> None:
     """Writes a file, in a folder that it makes if there is none."""
     os.makedirs(os.path.dirname(target), exist_ok=True)
-    with running.whole_file(target) as file:
+    with whole_file(target) as file:
         file.write(content.encode() if isinstance(content, str) else content)
     if executable:
         os.chmod(target, os.stat(target).st_mode | stat.S_IXUSR | stat.S_IXGRP | stat.S_IXOTH)

@@ -231,7 +231,7 @@ class Instrumented:
     def renamed(self, text: str) -> str:
         """A text with addresses in place of globals, and with the names of functions that the instrumented text has."""
 
-        def name(found: re.Match) -> str:
+        def name(found: re.Match[str]) -> str:
             if found[1] in self.addresses:
                 return f"inttoptr (i64 {self.addresses[found[1]]} to ptr)"
             return f"@p.{found[1]}"
@@ -256,7 +256,7 @@ class Instrumented:
     def tables(self) -> Iterator[str]:
         """The tables of engine.h."""
         volatile, region = self.sizes
-        initials = []
+        initials: list[str] = []
         for line in self.program.head:
             found = GLOBAL.match(line)
             if found and (value := self.initial(line, found.end())):

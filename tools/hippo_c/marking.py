@@ -11,7 +11,7 @@ from collections.abc import Callable, Iterator
 
 from .numbers import MOST_TURNS
 from .program import Instruction, Program, Site
-from .running import Ended, finish, hippo_program, start, stop
+from .running import Ended, finish, hippo_program, output_of, start, stop
 
 PRINTS = "print_i64"
 # The functions of the runtime that end the run.
@@ -71,12 +71,12 @@ class MarkedRun:
 
     def marks(self) -> Iterator[int]:
         """The marks one by one."""
-        return map(int, self.process.stdout)
+        return map(int, output_of(self.process))
 
     def chunks(self, seen: Callable[[], bool] = lambda: True) -> Iterator[list[bytes]]:
         """The marks in large pieces, for work in bulk, while `seen` holds."""
         rest = b""
-        while seen() and (piece := self.process.stdout.read(1 << 20)):
+        while seen() and (piece := output_of(self.process).read(1 << 20)):
             *whole, rest = (rest + piece).split(b"\n")
             yield whole
 
@@ -109,7 +109,7 @@ def sites_of_checks(program: Program, numbers: list[int], asserts: int, ends: bo
     returned: list[Site] = []
     with marked_run(text, numbers) as run:
         for mark in run.marks():
-            instruction = program.instruction(sites[mark])
+            instruction = program.at(sites[mark])
             if instruction.added and returned:
                 continue  # the return that tools/lower added for `exit`
             (found if instruction.callee == "pm_assert" else returned).append(sites[mark])

@@ -27,19 +27,23 @@ class Types:
             variable = self.link(number, "var") or number
             self.variables[name.strip('"')] = self.link(variable, "type")
 
+    def node(self, number: str | None) -> str:
+        """The fields or the elements of a node; an empty text if there is none."""
+        return self.nodes.get(number, "") if number else ""
+
     def link(self, number: str | None, name: str) -> str | None:
         """The number of the node that a field names."""
-        found = re.search(rf"\b{name}: !(\d+)", self.nodes.get(number, ""))
-        return found and found[1]
+        found = re.search(rf"\b{name}: !(\d+)", self.node(number))
+        return found[1] if found else None
 
     def value(self, number: str | None, name: str) -> int:
         """The integer in a field, or 0."""
-        found = re.search(rf"\b{name}: (-?\d+)", self.nodes.get(number, ""))
+        found = re.search(rf"\b{name}: (-?\d+)", self.node(number))
         return int(found[1]) if found else 0
 
     def items(self, number: str | None) -> list[str]:
         """The elements of a type: the fields of a struct, the dimensions of an array."""
-        return re.findall(r"!(\d+)", self.nodes.get(self.link(number, "elements"), ""))
+        return re.findall(r"!(\d+)", self.node(self.link(number, "elements")))
 
     def plain(self, number: str | None) -> str | None:
         """A type without its other names."""
@@ -49,8 +53,8 @@ class Types:
 
     def tag(self, number: str | None) -> str | None:
         """The kind of a type."""
-        found = re.search(r"\btag: (\w+)", self.nodes.get(number, ""))
-        return found and found[1]
+        found = re.search(r"\btag: (\w+)", self.node(number))
+        return found[1] if found else None
 
     def bytes(self, number: str | None) -> int:
         """The size of a type."""
@@ -60,8 +64,8 @@ class Types:
     def within(self, number: str | None, offset: int) -> str:
         """The path of fields and elements to the innermost object at an offset."""
         number = self.plain(number)
-        tag = number and self.tag(number)
-        if tag == "DW_TAG_array_type":
+        tag = self.tag(number)
+        if number and tag == "DW_TAG_array_type":
             return self.in_array(number, offset)
         if tag not in ("DW_TAG_structure_type", "DW_TAG_class_type", "DW_TAG_union_type"):
             return ""
@@ -116,7 +120,7 @@ class Names:
             return f"{address:#x}"
         item, offset = found
         types, number = self.type_of(item.name, item.size)
-        if not number:
+        if not types or not number:
             return shown(item.name) + (f"+{offset}" if offset else "")
         return shown(re.sub(r"\.\d+$", "", item.name)) + types.within(number, offset)
 

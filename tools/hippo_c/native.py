@@ -15,8 +15,9 @@ from collections.abc import Callable
 from . import running
 from .instrument import Instrumented, check_names
 from .program import Program
-from .running import TOOLS, Ended, finish, start, whole_file
+from .running import TOOLS, Ended, finish, start
 from .trouble import Trouble
+from .writing import whole_file
 
 SOURCES = os.path.join(TOOLS, "explore")
 COMPILE = ["clang-19", "-O2", "-g0", "-std=gnu17", "-target", "x86_64-pc-linux-gnu", "-fno-pic"]

@@ -16,7 +16,7 @@ from .sources import lines_of
 FOLDER = os.path.dirname(os.path.abspath(__file__))
 
 
-def page_of(answer: dict, histories: list[list[dict]]) -> str:
+def page_of(answer: dict[str, Any], histories: list[list[dict[str, Any]]]) -> str:
     """The page; it needs no network and no other file."""
     groups = []
     for number, (item, lines) in enumerate(zip(answer["inputs"], histories), 1):
@@ -41,7 +41,7 @@ def page_of(answer: dict, histories: list[list[dict]]) -> str:
     return part("page.html").format(**parts)
 
 
-def data_of(groups: list[dict], numbers: dict[str, int]) -> str:
+def data_of(groups: list[dict[str, Any]], numbers: dict[str, int]) -> str:
     """The data of the script, with no letter that ends or opens an element."""
     data = {"groups": with_shown_names(groups), "files": {shown(file): number for file, number in numbers.items()}}
     return json.dumps(data).replace("<", "\\u003c")
@@ -73,13 +73,13 @@ def part(name: str) -> str:
         return file.read()
 
 
-def places_in(group: dict) -> list[dict]:
+def places_in(group: dict[str, Any]) -> list[dict[str, Any]]:
     """The places in the user's C that a group names."""
     suggestion = group["suggestion"] and group["suggestion"]["place"]
     return [place for place in (group["store"], group["flush"], group["check"], suggestion, *group["calls"]) if place]
 
 
-def summary(answer: dict) -> str:
+def summary(answer: dict[str, Any]) -> str:
     """The first lines: counts for each input, and warnings."""
     rows = []
     for number, item in enumerate(answer["inputs"], 1):
@@ -103,7 +103,7 @@ def summary(answer: dict) -> str:
     return "".join(rows)
 
 
-def row(number: int, group: dict) -> str:
+def row(number: int, group: dict[str, Any]) -> str:
     """A group in the list."""
     place = group["store"]
     where = f'{os.path.basename(place["file"])}:{place["line"]}' if place else "no line"
@@ -114,9 +114,10 @@ def row(number: int, group: dict) -> str:
     )
 
 
-def source(file: str, number: int, groups: list[dict]) -> str:
+def source(file: str, number: int, groups: list[dict[str, Any]]) -> str:
     """A file: a row for each line, with the counts of its groups, and the suggested statements after it."""
-    at, added = defaultdict(list), defaultdict(list)
+    at: defaultdict[int, list[int]] = defaultdict(list)
+    added: defaultdict[int, list[str]] = defaultdict(list)
     for index, group in enumerate(groups):
         if group["store"] and group["store"]["file"] == file:
             at[group["store"]["line"]].append(index)
@@ -140,7 +141,7 @@ def source(file: str, number: int, groups: list[dict]) -> str:
     return f'<section><h2>{escaped(file)}</h2><div class="source">{"".join(rows)}</div></section>'
 
 
-def line_row(file: int, line: int, code: str, here: list[int], groups: list[dict]) -> str:
+def line_row(file: int, line: int, code: str, here: list[int], groups: list[dict[str, Any]]) -> str:
     """A line of a file, with the number of its reports."""
     mark = ""
     if here:

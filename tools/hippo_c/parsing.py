@@ -7,6 +7,7 @@ from functools import cache
 
 from lowering.languages import arguments_for, is_cpp
 from lowering.names import last_part, without_arguments
+from typing import Any
 
 from .clang import CLANG, clang_for
 from .running import tool
@@ -51,12 +52,12 @@ class Reader:
         self.file = file
         self.home: str | None = None
 
-    def function(self, raw: dict) -> Node:
+    def function(self, raw: dict[str, Any]) -> Node:
         """A function with all nodes in it; those that stand in another file, as members' initial values may, have no range."""
         self.home = None
         return self.node(raw)
 
-    def node(self, raw: dict) -> Node:
+    def node(self, raw: dict[str, Any]) -> Node:
         """A node with all nodes in it."""
         begin = end = None
         is_here = True
@@ -78,7 +79,7 @@ class Reader:
             node.begin, node.end, node.macro, node.from_macro = begin[0], end[0] + end[1], begin[2] or end[2], begin[2]
         return node
 
-    def location(self, raw: dict) -> tuple[int, int, bool] | None:
+    def location(self, raw: dict[str, Any]) -> tuple[int, int, bool] | None:
         """The offset, the length of the token, and whether it is in a macro's expansion."""
         if "expansionLoc" in raw:
             self.location(raw.get("spellingLoc", {}))
@@ -112,7 +113,7 @@ class Parsed:
                 self.take(raw, None if self.whole else name, self.reader if self.whole else Reader(""))
         return self.functions.get(name, [])
 
-    def documents(self, filtered: list[str]) -> Iterator[dict]:
+    def documents(self, filtered: list[str]) -> Iterator[dict[str, Any]]:
         """The trees that clang writes."""
         with tempfile.TemporaryDirectory(prefix="hippo-c-") as folder:
             small = overlay({intrinsics_header(): INTRINSICS}, folder)
@@ -133,7 +134,7 @@ class Parsed:
             raw, place = decoder.raw_decode(text, place)
             yield raw
 
-    def take(self, raw: dict, name: str | None, reader: Reader) -> None:
+    def take(self, raw: dict[str, Any], name: str | None, reader: Reader) -> None:
         """Keeps the definitions, each with the file that its location names, or else that of the last location."""
         if raw.get("kind") in AROUND:
             for place in (raw.get("loc", {}), *raw.get("range", {}).values()):

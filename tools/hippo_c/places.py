@@ -1,6 +1,9 @@
 """Which places in C an instruction and a path of calls have."""
 import os
+from collections.abc import Sequence
 from typing import NamedTuple
+
+from lowering.lines import Frame
 
 from .letters import shown
 from .program import Function, Program, Site
@@ -55,22 +58,29 @@ class Places:
         if function is None or instruction is None or not self.is_users_function(function):
             return []
         named = [frame._replace(function=shown(frame.function or function.name_in_c)) for frame in instruction.frames]
-        found = [Place(*frame) for frame in named if frame.line and self.is_users(frame.file)]
+        found = [place_of(frame) for frame in named if frame.line and self.is_users(frame.file)]
         return found or [head_of(function)]
 
     def is_users_function(self, function: Function) -> bool:
         """Whether a function stands in a file of the user's."""
         return function.place is not None and self.is_users(function.place.file)
 
-    def first(self, path: tuple[Site, ...]) -> Place | None:
+    def first(self, path: Sequence[Site]) -> Place | None:
         """The innermost place of the user's on a path of sites."""
         return next((place for site in path for place in self.of(site)), None)
 
-    def along(self, path: tuple[Site, ...]) -> list[Place]:
+    def along(self, path: Sequence[Site]) -> list[Place]:
         """All of the user's places on a path, from the innermost outwards."""
         return [place for site in path for place in self.of(site)]
 
 
+def place_of(frame: Frame) -> Place:
+    """The place of a frame whose function is named."""
+    return Place(frame.file, frame.line, frame.column, frame.function or "")
+
+
 def head_of(function: Function) -> Place:
-    """The place of the head of a function."""
+    """The place of the head of a function that has one."""
+    if function.place is None:
+        raise ValueError(f"{function.name} has no place")
     return Place(function.place.file, function.place.line, 1, function.name_in_c, exact=False)

@@ -7,6 +7,7 @@ from . import running
 from .program import REGION_BASE
 from .session import Session
 from .trouble import Trouble
+from .writing import whole_file
 
 # Changed bytes of the region before a run: their offsets and values.
 Start = tuple[tuple[int, int], ...]
@@ -44,7 +45,7 @@ class PoolFiles:
         """The word of a pool with a file that has these bytes, or the same word."""
         offset, size = self.files.get(number, (0, 0))
         own = {at - offset: byte for at, byte in start if offset <= at < offset + size}
-        if not own:
+        if not own or self.folder is None:
             return word
         first, _, path = word.partition(",")
         with open(path, "rb") as file:
@@ -56,7 +57,7 @@ class PoolFiles:
             os.makedirs(self.folder, exist_ok=True)
         except OSError as error:
             raise Trouble(f"--pools {self.folder}: {error.strerror}") from None
-        with running.whole_file(name) as file:
+        with whole_file(name) as file:
             file.write(content)
         return f"{first},{name}"
 

@@ -41,7 +41,6 @@ def pool(options: argparse.Namespace, request: Request, progress: Progress) -> i
         raise Trouble("--pick needs one entry: --entries N")
     number, name = pool_of(options)
     with Session(request, progress) as session:
-        session.lower()
         path, ended = session.record(request.inputs[0], "program.trace")
         point = end_of(path) if options.entries is None else single_point(options, *entries_of(options.entries))
         progress.say("taking the image")

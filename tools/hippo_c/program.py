@@ -1,7 +1,7 @@
 """A text in hippo's subset as functions, blocks and instructions, each with its places in C."""
 import re
 from bisect import bisect_right
-from collections.abc import Iterator
+from collections.abc import Iterator, Sequence
 from typing import NamedTuple
 
 from lowering import lines
@@ -123,7 +123,7 @@ class Program:
             self.comments[comment] = (tuple(lines.read(comment)), comment == lines.ADDED)
         return self.comments[comment]
 
-    def called(self, path: tuple[Site, ...], level: int) -> Function:
+    def called(self, path: Sequence[Site], level: int) -> Function:
         """The function that the call at a level of a path runs; for a call by pointer the one that the pointer names."""
         callee = self.functions[path[level - 1][0]]
         return self.functions[path[level - 2][0]] if callee.is_dispatch and level > 1 else callee
@@ -132,6 +132,10 @@ class Program:
         """The instruction of a site, if there is one."""
         block = self.blocks.get(site[:2])
         return block.instructions[site[2]] if block and site[2] < len(block.instructions) else None
+
+    def at(self, site: Site) -> Instruction:
+        """The instruction of a site of this program."""
+        return self.blocks[site[:2]].instructions[site[2]]
 
     def sites(self) -> Iterator[tuple[Site, Instruction]]:
         """Each site with its instruction, in the order of the text."""
@@ -158,8 +162,9 @@ def laid_out(texts: list[str]) -> list[Global]:
     ends = {True: REGION_BASE, False: 65536}
     found = []
     for text in texts:
-        name = GLOBAL.match(text)
-        end = GLOBAL_END.search(text)
+        name, end = GLOBAL.match(text), GLOBAL_END.search(text)
+        if name is None or end is None:
+            raise ValueError(f"no global: {text[:90]}")
         type_ = read_type(Tokens(type_text(text, name.end())), {})
         persistent = end[1] is not None
         at = max(alignment(type_), int(end[2] or 1))

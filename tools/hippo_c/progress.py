@@ -5,9 +5,10 @@ import subprocess
 import sys
 import time
 from collections.abc import Iterable, Iterator
-from typing import TextIO
+from typing import TextIO, TypeVar
 
 EVERY = 0.2
+Item = TypeVar("Item")
 
 
 class Progress:
@@ -51,7 +52,7 @@ class Progress:
         self.began = time.monotonic()
         yield
 
-    def watch(self, process: subprocess.Popen, path: str) -> None:
+    def watch(self, process: subprocess.Popen[bytes], path: str) -> None:
         """Shows the size of the file that a command writes, until the command ends."""
         while self.shown:
             with contextlib.suppress(subprocess.TimeoutExpired):
@@ -61,7 +62,7 @@ class Progress:
                 size = os.path.getsize(path)
                 self.show(f"{self.step}: {size / 1e6:.1f} MB, {time.monotonic() - self.began:.0f} s")
 
-    def counted(self, items: Iterable, step: str, what: str) -> Iterator:
+    def counted(self, items: Iterable[Item], step: str, what: str) -> Iterator[Item]:
         """The items, with their count shown now and then."""
         for number, item in enumerate(items, 1):
             if number % 4096 == 0 and self.often():

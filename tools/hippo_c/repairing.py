@@ -3,6 +3,7 @@ from __future__ import annotations
 
 import argparse
 import os
+from collections.abc import Sequence
 
 from lowering.names import shortened
 
@@ -61,7 +62,6 @@ def repair(options: argparse.Namespace, request: Request, progress: Progress) ->
     check_words(options, request)
     printer = printer_of(options)
     with Session(request, progress) as session:
-        session.lower()
         depfile.write_depfile(options, session)
         results = [
             session.check(numbers, f"program.{number}.trace", coverage=False)
@@ -109,7 +109,7 @@ def trace_after(
     trace_path = session.file(f"repaired.{number}.trace")
     session.progress.say("running the repaired program")
     codes = (0, running.TRAPPED, running.CUT)
-    if checked.is_crashed:
+    if checked.is_crashed and engine:
         engine.record(checked.numbers, trace_path, "--image", checked.path, *session.limit_words())
         left = sum(1 for _ in running.lines_of(["check", path, trace_path]))
     elif by_record:
@@ -147,7 +147,9 @@ def assembled(text: str) -> bytes:
 def callers_of(session: Session, results: list[Checked]) -> dict[Site, Place]:
     """The user's places from which reports came to sites that are not in the user's code."""
     found: dict[Site, Place] = {}
-    paths = [path for checked in results for group in checked.groups for path in (group.path, *group.more)]
+    paths: list[Sequence[Site]] = [
+        path for checked in results for group in checked.groups for path in (group.path, *group.more)
+    ]
     for path in paths:
         for level, site in enumerate(path):
             if site not in found and (place := session.places.first(path[level:])):
@@ -157,12 +159,12 @@ def callers_of(session: Session, results: list[Checked]) -> dict[Site, Place]:
 
 def print_repair(printer: Printer, session: Session, found: Repair, callers: dict[Site, Place]) -> None:
     """What was added, by C lines: in functions themselves, and the calls that go to clones."""
-    rows: dict[str, tuple] = {}
+    rows: dict[str, tuple[Place | None, str]] = {}
     for item in found.insertions:
         if not item.clone and item.site not in found.hoists:
             place = session.places.first((item.site,)) or callers.get(item.site)
             what = "a fence" if item.is_fence else "a flush"
-            kind = "flush" if session.program.instruction(item.site).callee else "store"
+            kind = "flush" if session.program.at(item.site).callee else "store"
             rows[f"{item.site}{what}"] = (place, f"{what} is added after this {kind}{of_helper(session, item.site)}")
     for site, clone in found.hoists.items():
         rows[f"{site}"] = (

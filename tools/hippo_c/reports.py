@@ -55,7 +55,7 @@ def grouped(lines: Iterable[str], paths: Paths | None = None) -> list[Group]:
 
 def joined(groups: list[Group], is_users: Callable[[Site], bool]) -> list[Group]:
     """Joins the groups that differ only in functions that are not the user's."""
-    found: dict[tuple, Group] = {}
+    found: dict[tuple[object, ...], Group] = {}
     for group in groups:
         start = next((level for level, site in enumerate(group.path) if is_users(site)), 0)
         first = found.setdefault((group.kind, group.flush, group.path[start:], start > 0), group)

@@ -8,7 +8,7 @@ import subprocess
 import sys
 import time
 from collections.abc import Callable, Iterator
-from typing import TYPE_CHECKING, Any
+from typing import IO, TYPE_CHECKING, Any
 
 from . import ends
 from .trouble import Trouble
@@ -63,7 +63,7 @@ class Ended:
     def how(self) -> str:
         """`stop C`, `trap K` or `cut`, of a command that runs a program."""
         found = re.findall(r"^(stop -?\d+|trap \w+|cut)$", self.notes, re.M)
-        return found[-1] if found else ""
+        return str(found[-1]) if found else ""
 
     def word(self, name: str) -> str:
         """The rest of the line of the notes that begins with a word."""
@@ -79,7 +79,14 @@ def start(command: list[str], **more: Any) -> subprocess.Popen[bytes]:
         raise Trouble(f"{command[0]}: {error.strerror}", "set HIPPO_PROGRAM to a hippo that is built") from None
 
 
-def finish(process: subprocess.Popen) -> Ended:
+def output_of(process: subprocess.Popen[bytes]) -> IO[bytes]:
+    """The pipe that has the output of a command."""
+    if process.stdout is None:
+        raise ValueError("the output goes to no pipe")
+    return process.stdout
+
+
+def finish(process: subprocess.Popen[bytes]) -> Ended:
     """Waits for a command whose output goes to a file or was read; standard error is short."""
     try:
         _, notes = process.communicate()
@@ -90,7 +97,7 @@ def finish(process: subprocess.Popen) -> Ended:
     return Ended(process.returncode, notes.decode("utf-8", "replace"))
 
 
-def stop(process: subprocess.Popen) -> None:
+def stop(process: subprocess.Popen[bytes]) -> None:
     """Ends a command that is no longer needed."""
     ends.end(process)
     for pipe in (process.stdout, process.stderr):
@@ -179,7 +186,7 @@ def lines_of(words: list[str], accepted: tuple[int, ...] = (0,)) -> Iterator[str
     """The lines that hippo writes, one by one; after the last line the exit code must be accepted."""
     process = start([hippo_program(), *words], stdout=subprocess.PIPE)
     try:
-        for line in process.stdout:
+        for line in output_of(process):
             yield line.decode("ascii", "replace").rstrip("\n")
         accept(words, finish(process), accepted)
     finally:

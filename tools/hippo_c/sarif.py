@@ -1,6 +1,7 @@
 """The answer as SARIF 2.1.0, the form that code scanning reads."""
 import os
 from urllib.parse import quote
+from typing import Any
 
 from .sources import line_of
 
@@ -22,7 +23,7 @@ RULES = {
 }
 
 
-def sarif_of(answer: dict) -> dict:
+def sarif_of(answer: dict[str, Any]) -> dict[str, Any]:
     """A log with one run; results come by input and group."""
     results = []
     for item in answer["inputs"]:
@@ -48,7 +49,7 @@ def sarif_of(answer: dict) -> dict:
     return {"$schema": SCHEMA, "version": "2.1.0", "runs": [run]}
 
 
-def rule_of(name: str) -> dict:
+def rule_of(name: str) -> dict[str, Any]:
     """The rule of a kind of result."""
     title, text = RULES[name]
     return {
@@ -61,7 +62,7 @@ def rule_of(name: str) -> dict:
     }
 
 
-def result_of(group: dict, numbers: list[int]) -> dict:
+def result_of(group: dict[str, Any], numbers: list[int]) -> dict[str, Any]:
     """A group as a result."""
     text = group["message"]
     if group["suggestion"]:
@@ -90,9 +91,9 @@ def result_of(group: dict, numbers: list[int]) -> dict:
     return result
 
 
-def fix_of(suggestion: dict) -> dict:
+def fix_of(suggestion: dict[str, Any]) -> dict[str, Any]:
     """The edits of a suggestion as a fix."""
-    changes: dict[str, list[dict]] = {}
+    changes: dict[str, list[dict[str, Any]]] = {}
     for edit in suggestion["edits"]:
         region = {
             "startLine": edit["line"],
@@ -111,7 +112,7 @@ def fix_of(suggestion: dict) -> dict:
     }
 
 
-def trap_result(trap: dict) -> dict:
+def trap_result(trap: dict[str, Any]) -> dict[str, Any]:
     """A trap as a result."""
     return {
         "ruleId": "trap",
@@ -128,7 +129,7 @@ def uri_of(path: str) -> str:
     return f"file://{raw}" if os.path.isabs(path) else raw
 
 
-def location_of(place: dict) -> dict:
+def location_of(place: dict[str, Any]) -> dict[str, Any]:
     """A place as a location."""
     region = {"startLine": place["line"]}
     if place["exact"] and place["column"]:
@@ -136,12 +137,12 @@ def location_of(place: dict) -> dict:
     return {"physicalLocation": {"artifactLocation": artifact_of(place["file"]), "region": region}}
 
 
-def artifact_of(file: str) -> dict:
+def artifact_of(file: str) -> dict[str, Any]:
     """A file as an artifact."""
     return {"uri": uri_of(file)} if os.path.isabs(file) else {"uri": uri_of(file), "uriBaseId": "SRCROOT"}
 
 
-def column_of(place: dict) -> int:
+def column_of(place: dict[str, Any]) -> int:
     """The column in characters; clang counts bytes."""
     line = line_of(place["file"], place["line"]) or ""
     return len(line.encode("utf-8", "replace")[: place["column"] - 1].decode("utf-8", "replace")) + 1

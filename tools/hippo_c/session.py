@@ -24,6 +24,7 @@ from .reports import Group, grouped, joined
 from .traces import Trace, read_trace
 from .traps import Trap, find_trap
 from .trouble import Trouble
+from .writing import whole_file
 
 if TYPE_CHECKING:
     from .crashed_inputs import CrashedInput
@@ -79,6 +80,19 @@ class Checked:
         return sum(group.count for group in self.groups)
 
 
+@dataclass(frozen=True)
+class Lowered:
+    """A lowered program: its instructions, its places and names in C, the notes of tools/lower, the checks at boundaries, and the path of
+    the text in which requests to Valgrind are marked; an empty path if the program has none."""
+
+    program: Program
+    places: Places
+    names: Names
+    notes: str
+    boundary_checks: dict[Site, Check]
+    requests: str
+
+
 class Session:
     """The lowered program of a request and the checks of its inputs."""
 
@@ -89,8 +103,14 @@ class Session:
         self.text_path = self.file("program.ll")
         self.paths = Paths()
         self.digests: dict[Path, str] = {}
-        self.boundary_checks: dict[Site, Check] = {}
-        self.declarations: Declarations | None = None
+        try:
+            lowered = self.lower()
+            self.program, self.places, self.names = lowered.program, lowered.places, lowered.names
+            self.lower_notes, self.boundary_checks = lowered.notes, lowered.boundary_checks
+            self.declarations = Declarations(self, lowered.requests) if lowered.requests else None
+        except BaseException:
+            self.room.close()
+            raise
 
     def __enter__(self) -> Session:
         return self
@@ -113,7 +133,7 @@ class Session:
             os.unlink(path)
         return path
 
-    def lower(self) -> None:
+    def lower(self) -> Lowered:
         """Makes the lowered text and reads it."""
         for file in self.request.files:
             if not os.path.isfile(file):
@@ -125,26 +145,26 @@ class Session:
             self.request.clang += sources.expand_macros(given, self.request.clang_of, running.TOOLS, self.folder)
         self.progress.say("lowering")
         requests = self.fresh_file("requests.ll") if self.request.wants_declared else ""
-        self.lower_notes = running.lower(self.request, self.text_path, requests)
-        has_requests = requests and os.path.exists(requests)
+        notes = running.lower(self.request, self.text_path, requests)
+        if requests and not os.path.exists(requests):
+            requests = ""
+        checks: dict[Site, Check] = {}
         if self.request.boundaries:
-            self.boundary_checks = self.place_boundaries(self.text_path)
-            if has_requests:
+            checks = self.place_boundaries(self.text_path)
+            if requests:
                 self.place_boundaries(requests)
-        with open(self.text_path, encoding="latin-1") as file:
-            self.program = Program(file.read())
-        self.places = Places(self.program)
-        self.names = Names(self.program, self.request.files, self.request.clang_of, running.TOOLS)
-        sources.take_from(self.names.compiled_files)
-        if has_requests:
-            self.declarations = Declarations(self, requests)
+        with open(self.text_path, encoding="latin-1") as text:
+            program = Program(text.read())
+        names = Names(program, self.request.files, self.request.clang_of, running.TOOLS)
+        sources.take_from(names.compiled_files)
+        return Lowered(program, Places(program), names, notes, checks, requests)
 
     def place_boundaries(self, path: str) -> dict[Site, Check]:
         """Puts the checks at boundaries into a lowered text; their sites."""
         with open(path, encoding="latin-1") as file:
             placing = Placing(file.read(), self.request.boundaries)
         text = placing.placed()
-        with running.whole_file(path) as out:
+        with whole_file(path) as out:
             out.write(text.encode("latin-1"))
         return placing.checks
 
@@ -205,7 +225,7 @@ class Session:
     def only_sites(self, trace: Trace) -> list[Site] | None:
         """The sites of all checks of a run, if the program has at most one assert and one return of main; otherwise nothing."""
         sites = marking.checks_of(self.program)
-        asserts = [site for site in sites if self.program.instruction(site).callee == "pm_assert"]
+        asserts = [site for site in sites if self.program.at(site).callee == "pm_assert"]
         returns = [site for site in sites if site not in asserts]
         if len(asserts) > 1 or len(returns) != 1:
             return None
@@ -223,7 +243,7 @@ class Session:
 
     def lines_in(self, ran: set[tuple[str, str]]) -> tuple[int, int]:
         """The number of lines of the user's functions in these blocks, and in all."""
-        lines: dict[bool, set] = {True: set(), False: set()}
+        lines: dict[bool, set[tuple[str, int]]] = {True: set(), False: set()}
         for site, instruction in self.program.sites():
             if instruction.frames:
                 lines[site[:2] in ran].update(place[:2] for place in self.places.of(site) if place.exact)

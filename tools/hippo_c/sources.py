@@ -7,8 +7,9 @@ from functools import cache
 
 from .clang import clang_for
 from .reading import compiled_bytes
-from .running import tool, whole_file
+from .running import tool
 from .trouble import Trouble
+from .writing import whole_file
 
 # Where a line of C ends for clang.
 LINE_END = re.compile(r"\r\n|\n|\r")

@@ -42,7 +42,9 @@ def statements_of(file: str) -> tuple[list[int], list[Statement]]:
 
 def split(source: str) -> Iterator[Statement]:
     """The statements of a source: what is between semicolons outside of parentheses, and between braces."""
-    begin, words, depth, outer = 0, [], 0, []
+    begin, depth = 0, 0
+    words: list[str] = []
+    outer: list[int] = []
     for found in TOKEN.finditer(source):
         word = found[0]
         if found["left_out"] is not None:

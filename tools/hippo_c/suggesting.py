@@ -78,7 +78,6 @@ def verify(session: Session, results: list[Checked], found: Suggestions) -> list
         edited = overlay(found.additions.edited(), folder)
         request = replace(session.request, clang=[*session.request.clang, *edited], folder="")
         with Session(request, session.progress) as again:
-            again.lower()
             return [
                 again.check(checked.numbers, f"again.{number}.trace", coverage=False)
                 for number, checked in enumerate(results)

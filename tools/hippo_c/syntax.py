@@ -94,8 +94,8 @@ class Tree:
                 ),
                 (0, None),
             )
-            role = inner and role_of(node, number)
-            if role and not (found and found.role == "other"):
+            role = role_of(node, number) if inner else None
+            if inner and role and not (found and found.role == "other"):
                 found = Statement(inner, inner.begin, inner.end if role == "other" else self.stop(inner), role)
             node = inner
             if node and node.kind == "LambdaExpr":
@@ -140,7 +140,8 @@ class Tree:
     def indent(self, place: int) -> str:
         """The blanks before the first word of the line."""
         start = self.source.rfind(b"\n", 0, place) + 1
-        return re.match(rb"[ \t]*", self.source[start:place])[0].decode()
+        line = self.source[start:place]
+        return line[: len(line) - len(line.lstrip(b" \t"))].decode()
 
     def stored(self, statement: Statement, place: int) -> str:
         """The expression to which the statement stores at a place, if it can be evaluated again without an effect."""
@@ -148,9 +149,9 @@ class Tree:
             raise Unclear("the statement stores under a condition")
         stores = [node for node in statement.node.walk() if node.stores]
         exact = [node for node in stores if self.operator(node) == place]
-        target = (exact or (stores if len(stores) == 1 else [None]))[0]
-        if target is None:
+        if not exact and len(stores) != 1:
             raise Unclear("several assignments may be meant" if stores else "no assignment stands here")
+        target = (exact or stores)[0]
         left = target.inner[0]
         others = [node for node in stores if node is not target]
         if any(node.stores or node.kind in CALLS for node in left.walk()) or changes(others, left):

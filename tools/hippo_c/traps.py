@@ -78,9 +78,9 @@ def find_trap(program: Program, numbers: list[int], kind: str) -> Trap | None:
         return None
     if kind == "depth":
         return Trap(kind, tuple(reversed(calls)))
-    top = program.instruction(calls[-1]).callee if calls else "main"
+    top = program.at(calls[-1]).callee if calls else "main"
     site = last_candidate(program, numbers, kind, top)
-    return site and Trap(kind, (site, *reversed(calls)), program.instruction(site).callee)
+    return Trap(kind, (site, *reversed(calls)), program.at(site).callee) if site else None
 
 
 def standing_calls(program: Program, numbers: list[int], kind: str) -> list[Site] | None:
@@ -105,7 +105,7 @@ def last_candidate(program: Program, numbers: list[int], kind: str, function: st
     sites = [
         site for site, instruction in program.sites() if site[0] == function and may_trap(instruction, kind, program)
     ]
-    by_site = {site: ([str(number)], []) for number, site in enumerate(sites)}
+    by_site: dict[Site, tuple[list[str], list[str]]] = {site: ([str(number)], []) for number, site in enumerate(sites)}
     text = marked_text(program, lambda site, _: by_site.get(site, ([], [])))
     last = b""
     with marked_run(text, numbers) as run:

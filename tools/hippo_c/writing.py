@@ -9,7 +9,7 @@ import stat
 import sys
 import tempfile
 from collections.abc import Iterator
-from typing import BinaryIO
+from typing import IO, BinaryIO
 
 from .trouble import Trouble
 
@@ -23,7 +23,7 @@ LONGEST_PREFIX = 60
 
 
 @contextlib.contextmanager
-def whole_file(path: str, named: str = "", mode: int | None = None) -> Iterator[BinaryIO]:
+def whole_file(path: str, named: str = "", mode: int | None = None) -> Iterator[IO[bytes]]:
     """A binary file to write to; it gets its name when it is complete, and there is no file after a failure.
 
     What has the name, a link too, is replaced. A Trouble names the file `named`. Without a mode the permissions stay, or are those of
@@ -44,12 +44,13 @@ def whole_file(path: str, named: str = "", mode: int | None = None) -> Iterator[
                 os.unlink(half)
 
 
-def new_file(path: str) -> BinaryIO:
+def new_file(path: str) -> IO[bytes]:
     """A file beside a path that nothing else has: its name is chosen at random, and a link of this name is not followed."""
     folder, name = os.path.split(path)
-    return tempfile.NamedTemporaryFile(
+    made: IO[bytes] = tempfile.NamedTemporaryFile(
         prefix=f"{name[:LONGEST_PREFIX]}.", suffix=".part", dir=folder or ".", delete=False
     )
+    return made
 
 
 def mode_of(path: str) -> int:
@@ -62,7 +63,7 @@ def mode_of(path: str) -> int:
 
 
 @contextlib.contextmanager
-def output_file(path: str) -> Iterator[BinaryIO]:
+def output_file(path: str) -> Iterator[IO[bytes]]:
     """An output that the user named, as a binary file to write to.
 
     A regular file gets its content when that is complete. The target of a link is written, and the link stays. A device, a pipe and an

@@ -93,7 +93,7 @@ def not_made(log: Path, folder: Path) -> str:
     return f"the sources do not compile; {folder / 'log'} has the errors"
 
 
-def copy_of(tried: subprocess.Popen, words: list[str], to: Path) -> Path | None:
+def copy_of(tried: subprocess.Popen[bytes], words: list[str], to: Path) -> Path | None:
     """A copy of the program that `rt try` runs, or nothing if it ends without running one."""
     while tried.poll() is None:
         found = running(words, to.parent)
@@ -105,7 +105,7 @@ def copy_of(tried: subprocess.Popen, words: list[str], to: Path) -> Path | None:
     return None
 
 
-def end(tried: subprocess.Popen) -> None:
+def end(tried: subprocess.Popen[bytes]) -> None:
     """Ends `rt try`, which then ends what it started and removes its own files."""
     if tried.poll() is None:
         tried.terminate()

@@ -14,7 +14,7 @@ from .tokens import FAST_MATH, LINKAGE, Tokens
 from .types import Type, pieces
 from .values import read_operand
 from .variable_arguments import no_arguments, variable_block
-from .writer import struct_of
+from .writer import Instruction, struct_of
 
 if TYPE_CHECKING:
     from .function import Function, Signature
@@ -94,7 +94,7 @@ def read_arguments(function: Function, tokens: Tokens) -> list[Argument]:
     while tokens.peek() != ")":
         type_ = function.type(tokens)
         known, copied = tokens.skip_attributes()
-        copied_type = copied and function.type(copied)
+        copied_type = None if copied is None else function.type(copied)
         arguments.append(Argument(type_, read_operand(function, tokens, type_), known, copied_type))
         tokens.take_if(",")
     return arguments
@@ -238,7 +238,8 @@ def call_external(
         for callee, signature in signatures
     ]
     edges = []
-    for label, (text, callee) in zip([*labels, rest], [*zip(arms, chosen), other]):
+    calls: list[tuple[str, str | CallType]] = [*zip(arms, chosen), other]
+    for label, (text, callee) in zip([*labels, rest], calls):
         function.begin(label[1:])
         if call.target:
             edges.append((function.emit(text), label[1:]))
@@ -253,4 +254,4 @@ def call_external(
         function.put_phi(f"{function.results(call.target, call.result)[0]} = phi {pieces(call.result)[0]}", edges)
 
 
-INSTRUCTIONS = {"call": lower_call}
+INSTRUCTIONS: dict[str, Instruction] = {"call": lower_call}

@@ -7,7 +7,7 @@ from typing import TYPE_CHECKING, Callable
 
 from .refusals import Refused
 from .tokens import Tokens
-from .types import FLOATS, INTEGERS, Type, as_integer, bits, is_aggregate, pieces, read_type, show_type
+from .types import FLOATS, INTEGERS, Type, as_integer, as_scalar, bits, pieces, read_type, show_type
 
 if TYPE_CHECKING:
     from .module import Module
@@ -27,7 +27,7 @@ def read_pieces(tokens: Tokens, type_: Type, module: Module, emit: Emit) -> list
     if tokens.peek() in ("undef", "poison", "zeroinitializer"):
         note_undefined(tokens.take(), module)
         return [zero_of(piece) for piece in pieces(type_)]
-    if not is_aggregate(type_):
+    if isinstance(type_, str):
         if bits(as_integer(type_)) <= 64:
             return [read_scalar(tokens, type_, module, emit)]
         return limbs(read_number(tokens, type_), bits(as_integer(type_)))
@@ -38,7 +38,7 @@ def read_pieces(tokens: Tokens, type_: Type, module: Module, emit: Emit) -> list
         opening = tokens.take("{")
     if opening not in ("{", "["):
         raise Refused(f"the constant {opening!r} of {show_type(type_)} is not in the subset", "constant")
-    found = []
+    found: list[str] = []
     while tokens.peek() not in ("}", "]"):
         found += read_pieces(tokens, read_type(tokens, module.named_types), module, emit)
         tokens.take_if(",")
@@ -51,9 +51,9 @@ def read_elements(tokens: Tokens, type_: Type, module: Module, emit: Emit) -> li
     """The pieces of the vector that stands next."""
     if tokens.take_if("splat"):
         tokens.take("(")
-        found = read_pieces(tokens, read_type(tokens, module.named_types), module, emit) * type_[1]
+        element = read_pieces(tokens, read_type(tokens, module.named_types), module, emit)
         tokens.take(")")
-        return found
+        return element * int(type_[1])
     found = []
     tokens.take("<")
     while not tokens.take_if(">"):
@@ -90,12 +90,13 @@ def bits_of_float(text: str, type_: str) -> int:
     if text[2:3].isalpha() and text[2] in "HRKL":
         number = int(text[3:], 16)
         return number >> 64 | (number & (1 << 64) - 1) << 64 if text[2] == "L" else number
-    wide = int(text, 16) if text.startswith("0x") else struct.unpack("<Q", struct.pack("<d", float(text)))[0]
+    wide: int = int(text, 16) if text.startswith("0x") else struct.unpack("<Q", struct.pack("<d", float(text)))[0]
     if type_ != "float":
         return wide
     if wide >> 52 & 2047 == 2047:
         return wide >> 32 & 1 << 31 | 255 << 23 | wide >> 29 & (1 << 23) - 1
-    return struct.unpack("<I", struct.pack("<f", struct.unpack("<d", struct.pack("<Q", wide))[0]))[0]
+    narrow: int = struct.unpack("<I", struct.pack("<f", struct.unpack("<d", struct.pack("<Q", wide))[0]))[0]
+    return narrow
 
 
 def limbs(number: int, width: int) -> list[str]:
@@ -109,12 +110,13 @@ def with_sign(number: int, width: int = 64) -> int:
     return number - (1 << width) if number >> (width - 1) else number
 
 
-def read_scalar(tokens: Tokens, type_: str, module: Module, emit: Emit) -> str:
+def read_scalar(tokens: Tokens, type_: Type, module: Module, emit: Emit) -> str:
     """The constant of one piece that stands next; an expression that the subset does not have becomes an instruction."""
     if tokens.peek() in ("undef", "poison", "zeroinitializer", "null"):
         note_undefined("zeroinitializer" if tokens.peek() == "null" else tokens.peek(), module)
         tokens.take()
         return zero_of(pieces(type_)[0])
+    type_ = as_scalar(type_)
     if type_ in FLOATS:
         return str(with_sign(read_number(tokens, type_), bits(as_integer(type_))))
     kind, text = tokens.kind(), tokens.take()

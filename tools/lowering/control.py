@@ -9,6 +9,7 @@ from .tokens import FAST_MATH, Tokens
 from .traps import trap_in_call
 from .types import pieces, show_type
 from .values import read_early_operand, read_operand
+from .writer import Instruction
 
 if TYPE_CHECKING:
     from .function import Function
@@ -108,7 +109,7 @@ def refuse_exception(_function: Function, _tokens: Tokens, _target: str, word: s
     raise Refused(f"{word}: an exception", "exception")
 
 
-INSTRUCTIONS = {
+INSTRUCTIONS: dict[str, Instruction] = {
     "phi": phi,
     "br": branch,
     "switch": switch,

@@ -11,7 +11,8 @@ from .integers import cut, extended
 from .refusals import Refused
 from .tokens import FAST_MATH, Tokens
 from .types import INTEGERS as OF_THE_SUBSET
-from .types import Type, bits, container, pieces
+from .types import Type, as_scalar, bits, container, pieces
+from .writer import Instruction
 
 if TYPE_CHECKING:
     from .calls import Call
@@ -69,6 +70,7 @@ def functions_needed(text: str) -> set[str]:
 
 def computed(function: Function, result: str, type_: Type, word: str, *given: str) -> str:
     """The instruction that calls the runtime's function for a word on numbers of a type."""
+    type_ = as_scalar(type_)
     if type_ not in NAMES:
         raise Refused(f"{word} of {IN_C.get(type_, type_)}", "float")
     name = function.module.names.get(f'@hippo_{NAMES[type_]}_{word.replace(".", "_")}')
@@ -95,6 +97,7 @@ def negate(function: Function, tokens: Tokens, target: str, word: str) -> None:
 
 def sign_of(type_: Type, word: str) -> int:
     """The constant whose only bit is the sign of a type."""
+    type_ = as_scalar(type_)
     if type_ not in HIGHEST:
         raise Refused(f"{word} of {IN_C.get(type_, type_)}", "float")
     return -HIGHEST[type_]
@@ -143,7 +146,7 @@ def from_integer(function: Function, tokens: Tokens, target: str, word: str) -> 
         raise Refused(f"{word} of {source}", "float")
     number = function.operand(tokens, source)
     tokens.take("to")
-    type_, held = function.type(tokens), container(source)
+    type_, held = as_scalar(function.type(tokens)), container(source)
     if type_ not in NAMES:
         raise Refused(f"{word} to {IN_C.get(type_, type_)}", "float")
     if word == "sitofp":
@@ -158,7 +161,7 @@ def resize(function: Function, tokens: Tokens, target: str, word: str) -> None:
     tokens.take_all(FLAGS)
     source, value = function.argument(tokens)
     tokens.take("to")
-    type_ = function.type(tokens)
+    type_ = as_scalar(function.type(tokens))
     if type_ not in NAMES:
         raise Refused(f"{word} to {IN_C.get(type_, type_)}", "float")
     function.assign(target, computed(function, pieces(type_)[0], source, word, f"{pieces(source)[0]} {value[0]}"))
@@ -186,7 +189,7 @@ def lower_float_intrinsic(function: Function, name: str, call: Call) -> bool:
     return True
 
 
-INSTRUCTIONS = {
+INSTRUCTIONS: dict[str, Instruction] = {
     **dict.fromkeys(BINARY, binary),
     "fneg": negate,
     "fcmp": compare,

@@ -99,7 +99,7 @@ def program_of(options: Options) -> Program:
 
 def global_places(options: Options) -> dict[str, str]:
     """The places of globals in C and C++, as `FILE:LINE: `, since line tables do not have them."""
-    found = {}
+    found: dict[str, str] = {}
     for file in filter(is_source, options.files):
         text = output_of([*command_for(file, "-O0", options, TOOLS), "-w", "-g", "-o", "-"])
         files = Places(text).names

@@ -7,7 +7,7 @@ from typing import TYPE_CHECKING, NamedTuple
 from .constants import zero_of
 from .instructions import INSTRUCTIONS
 from .jumps import put_tests
-from .names import GLOBAL_NAME
+from .names import function_name
 from .refusals import Refused
 from .stack import block, padded
 from .tokens import LINKAGE, Tokens
@@ -51,24 +51,28 @@ class Function(Writer):
 
     def __init__(self, module: Module, head: str, body: list[str]) -> None:
         super().__init__(ADDED_COMMENT if module.line_tables else "")
-        self.module = module
+        self.module: Module = module
         self.values: dict[str, list[str]] = {}
         self.same_values: dict[str, str] = {}
         self.blocks: set[str] = set()
         self.metadata: dict[str, str] = {}
         self.parameters: list[str] = []
-        self.result_slot = self.variable_block = ""
-        self.registers_taken = self.float_registers_taken = 0
-        self.activation = ""
+        self.result_slot: str = ""
+        self.variable_block: str = ""
+        self.registers_taken: int = 0
+        self.float_registers_taken: int = 0
+        self.activation: str = ""
         self.sites: list[tuple[str, list[tuple[str, str]]]] = []
         head, metadata = module.places.without_metadata(head)
-        self.head_place = module.places.of(metadata)
+        self.head_place: str = module.places.of(metadata)
         self.head_comment = module.line_tables.head_comment(metadata) if module.line_tables else ""
-        self.lines = [module.places.without_metadata(line) for line in join_switches(body)]
-        self.definitions = {found[1]: line for line, _ in self.lines if (found := TARGET.match(line))}
-        self.defaults = {found[1] for line, _ in self.lines if (found := DEFAULT.match(line))}
-        self.written_name = "@" + re.search(GLOBAL_NAME + r"\(", head)[1]
-        self.signature = Signature("void", (), (), False)
+        self.lines: list[tuple[str, dict[str, str]]] = [
+            module.places.without_metadata(line) for line in join_switches(body)
+        ]
+        self.definitions: dict[str, str] = {found[1]: line for line, _ in self.lines if (found := TARGET.match(line))}
+        self.defaults: set[str] = {found[1] for line, _ in self.lines if (found := DEFAULT.match(line))}
+        self.written_name: str = function_name(head)
+        self.signature: Signature = Signature("void", (), (), False)
         try:
             self.read_head(Tokens(head))
         except Refused as refusal:
@@ -84,7 +88,9 @@ class Function(Writer):
             raise Refused("main has another result than int", "main_type")
         tokens.take(self.written_name)
         tokens.take("(")
-        types, by_value, variadic = [], [], False
+        types: list[str] = []
+        by_value: list[bool] = []
+        variadic = False
         if len(pieces(result)) > 1:
             self.result_slot = self.fresh("result")
             self.parameters.append(f"ptr {self.result_slot}")
@@ -93,8 +99,8 @@ class Function(Writer):
                 variadic = True
                 break
             type_ = self.type(tokens)
-            least, copied = tokens.skip_attributes()
-            copied = copied and self.type(copied)
+            least, written = tokens.skip_attributes()
+            copied = None if written is None else self.type(written)
             self.parameter(type_, tokens.take(), copied, least)
             self.registers_taken += registers_of(type_, copied, self.registers_taken)
             self.float_registers_taken += float_registers_of(type_, self.float_registers_taken)
@@ -204,11 +210,11 @@ class Function(Writer):
     def integer(self, tokens: Tokens) -> str:
         """The integer type that stands next."""
         type_ = self.type(tokens)
-        if bits(type_):
+        if isinstance(type_, str) and bits(type_):
             return type_
         raise Refused(f"{show_type(type_)} where an integer stands")
 
-    def operand(self, tokens: Tokens, type_: str) -> str:
+    def operand(self, tokens: Tokens, type_: Type) -> str:
         """The operand of one piece that stands next."""
         return read_operand(self, tokens, type_)[0]
 

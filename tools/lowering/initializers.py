@@ -19,7 +19,6 @@ from .types import (
     bits,
     container,
     element,
-    is_aggregate,
     read_type,
     show_type,
     size,
@@ -59,14 +58,15 @@ def read_value(tokens: Tokens, type_: Type, module: Module) -> Value:
         return Value(type_)
     if tokens.kind() == "bytes":
         return Value(type_, tokens.take())
-    if not is_aggregate(type_):
+    if isinstance(type_, str):
         return read_scalar_value(tokens, type_, module)
     if tokens.take_if("splat"):
         tokens.take("(")
-        items = [read_value(tokens, read_type(tokens, module.named_types), module)] * type_[1]
+        items = [read_value(tokens, read_type(tokens, module.named_types), module)] * int(type_[1])
         tokens.take(")")
         return Value(type_, "", items)
-    opening, items = tokens.take(), []
+    opening = tokens.take()
+    items = []
     if opening == "<" and type_[0] != "vector":
         opening = tokens.take()
     if opening not in ("{", "[", "<"):
@@ -133,9 +133,10 @@ def shaped(value: Value) -> tuple[Type, str] | None:
         if value.text.startswith('c"'):
             return value.type, byte_list(value.text)
         same = natural(value.type)
-        return same and (same, value.text or zero_of(same))
-    items = [shaped(item) for item in value.items]
-    if None in items or natural(value.type) is None:
+        return None if same is None else (same, value.text or zero_of(same))
+    items = [item for item in map(shaped, value.items) if item is not None]
+    same = natural(value.type)
+    if len(items) < len(value.items) or same is None:
         return None
     inside = ", ".join(f"{show_type(type_)} {text}" for type_, text in items)
     types = tuple(type_ for type_, _ in items)

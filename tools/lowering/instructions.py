@@ -6,5 +6,6 @@ from .floats import INSTRUCTIONS as FLOATS
 from .integers import INSTRUCTIONS as INTEGERS
 from .memory import INSTRUCTIONS as MEMORY
 from .vectors import INSTRUCTIONS as VECTORS
+from .writer import Instruction
 
-INSTRUCTIONS = {**INTEGERS, **FLOATS, **MEMORY, **CONTROL, **CALLS, **VECTORS}
+INSTRUCTIONS: dict[str, Instruction] = {**INTEGERS, **FLOATS, **MEMORY, **CONTROL, **CALLS, **VECTORS}

@@ -11,8 +11,9 @@ from .constants import BINARY, CASTS, FLAGS
 from .refusals import Refused
 from .tokens import FAST_MATH, Tokens
 from .types import INTEGERS as OF_THE_SUBSET
-from .types import bits, container, pieces, show_type
+from .types import Type, bits, container, pieces, show_type
 from .values import read_operand
+from .writer import Instruction
 
 if TYPE_CHECKING:
     from .function import Function
@@ -28,14 +29,14 @@ def binary(function: Function, tokens: Tokens, target: str, word: str) -> None:
     """An operation on two integers."""
     tokens.take_all(FLAGS)
     type_ = function.integer(tokens)
-    first = read_operand(function, tokens, type_)
+    first_pieces = read_operand(function, tokens, type_)
     tokens.take(",")
     written = tokens.peek()
-    second = read_operand(function, tokens, type_)
+    second_pieces = read_operand(function, tokens, type_)
     if bits(type_) > 64:
-        function.become(target, type_, wide.binary(function, word, bits(type_), first, second))
+        function.become(target, type_, wide.binary(function, word, bits(type_), first_pieces, second_pieces))
         return
-    first, second = first[0], second[0]
+    first, second = first_pieces[0], second_pieces[0]
     held = container(type_)
     if word in SHIFTS and second.startswith("%") and not is_in_range(function, written, bits(type_)):
         # LLVM may compute a shift before the test that guards it: the value is not used where the amount is too large.
@@ -58,7 +59,7 @@ def is_in_range(function: Function, written: str, width: int) -> bool:
     if widened := WIDENED.match(line):
         line = function.definitions.get(widened[1], "")
     found = IN_RANGE.match(line)
-    return bool(found) and int(found[1]) < width
+    return found is not None and int(found[1]) < width
 
 
 def cut(type_: str, value: str) -> str:
@@ -76,20 +77,25 @@ def extended(function: Function, type_: str, value: str) -> str:
     return function.emit(f"ashr {held} {raised}, {rest}")
 
 
+def number_or_pointer(type_: Type) -> str:
+    """The type itself, which must be that of an integer or of a pointer."""
+    if isinstance(type_, str) and (type_ == "ptr" or bits(type_)):
+        return type_
+    raise Refused(f"{show_type(type_)} where a scalar stands")
+
+
 def compare(function: Function, tokens: Tokens, target: str, _word: str) -> None:
     """`icmp`."""
     tokens.take_all(FLAGS)
     predicate = tokens.take()
-    type_ = function.type(tokens)
-    if not (type_ == "ptr" or bits(type_)):
-        raise Refused(f"{show_type(type_)} where a scalar stands")
-    first = read_operand(function, tokens, type_)
+    type_ = number_or_pointer(function.type(tokens))
+    first_pieces = read_operand(function, tokens, type_)
     tokens.take(",")
-    second = read_operand(function, tokens, type_)
+    second_pieces = read_operand(function, tokens, type_)
     if bits(type_) > 64:
-        function.assign(target, wide.compare(function, predicate, bits(type_), first, second))
+        function.assign(target, wide.compare(function, predicate, bits(type_), first_pieces, second_pieces))
         return
-    first, second = first[0], second[0]
+    first, second = first_pieces[0], second_pieces[0]
     if predicate.startswith("s") and type_ != "ptr" and type_ not in OF_THE_SUBSET:
         first, second = extended(function, type_, first), extended(function, type_, second)
     function.assign(target, f"icmp {predicate} {container(type_)} {first}, {second}")
@@ -98,12 +104,9 @@ def compare(function: Function, tokens: Tokens, target: str, _word: str) -> None
 def cast(function: Function, tokens: Tokens, target: str, word: str) -> None:
     """A conversion between widths, or between numbers and pointers."""
     tokens.take_all(FLAGS)
-    source, value = function.argument(tokens)
+    written, value = function.argument(tokens)
     tokens.take("to")
-    result = function.type(tokens)
-    for type_ in (source, result):
-        if type_ != "ptr" and not bits(type_):
-            raise Refused(f"{show_type(type_)} where a scalar stands")
+    source, result = number_or_pointer(written), number_or_pointer(function.type(tokens))
     if word == "ptrtoint" and result not in OF_THE_SUBSET:
         source, value, word = "i64", [function.emit(f"ptrtoint ptr {value[0]} to i64")], "zext"
         word = "trunc" if bits(result) < 64 else "zext"
@@ -153,7 +156,7 @@ def select(function: Function, tokens: Tokens, target: str, _word: str) -> None:
         function.put(f"{register} = select i1 {condition[0]}, {piece} {one}, {piece} {other}")
 
 
-INSTRUCTIONS = {
+INSTRUCTIONS: dict[str, Instruction] = {
     **dict.fromkeys(BINARY, binary),
     **dict.fromkeys(CASTS, cast),
     "icmp": compare,

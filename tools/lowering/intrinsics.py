@@ -11,7 +11,7 @@ from .counter import read_counter
 from .floats import lower_float_intrinsic
 from .integers import cut, extended
 from .refusals import Refused
-from .types import INTEGERS, bits, container
+from .types import INTEGERS, as_scalar, bits, container
 from .variable_arguments import variable_copy, variable_start
 from .vectors import lower_vector_intrinsic
 from .wide_intrinsics import lower_wide
@@ -87,9 +87,10 @@ def first_values(call: Call) -> list[str]:
 def compared_values(function: Function, sign: str, call: Call) -> list[str]:
     """The arguments, sign-extended if the comparison is signed."""
     values = first_values(call)
-    if sign == "u" or call.arguments[0].type in INTEGERS:
+    type_ = as_scalar(call.arguments[0].type)
+    if sign == "u" or type_ in INTEGERS:
         return values
-    return [extended(function, call.arguments[0].type, value) for value in values]
+    return [extended(function, type_, value) for value in values]
 
 
 def lower_small(function: Function, kind: str, width: int, call: Call) -> None:
@@ -124,7 +125,7 @@ def three_way(function: Function, sign: str, call: Call) -> None:
 
 def absolute(function: Function, call: Call) -> None:
     """`abs`."""
-    type_, held, value = call.arguments[0].type, held_type(call), first_values(call)[0]
+    type_, held, value = as_scalar(call.arguments[0].type), held_type(call), first_values(call)[0]
     signed = extended(function, type_, value)
     negated = function.emit(f"sub {held} 0, {signed}")
     test = function.emit(f"icmp slt {held} {signed}, 0")

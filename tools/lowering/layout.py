@@ -60,9 +60,11 @@ def known_alignment(least: int, offset: int) -> int:
     return min(least, offset & -offset) if offset else least
 
 
-def flat(fields: list[tuple[int, Type, str]], total: int) -> tuple[Type, str]:
+def flat(fields: list[tuple[int, Type, str]], total: int) -> tuple[Type, list[str]]:
     """A struct in the subset, and its fields as constants: the given constants at ascending offsets, and zeros between them."""
-    types, items, end = [], [], 0
+    types: list[Type] = []
+    items: list[str] = []
+    end = 0
     for offset, type_, text in [*fields, (total, None, "")]:
         aligned = round_up(end, alignment(type_)) if type_ is not None else end
         if aligned != offset:

@@ -23,6 +23,7 @@ from .types import (
     width,
 )
 from .vectors import joined, split
+from .writer import Instruction
 
 if TYPE_CHECKING:
     from .function import Function
@@ -92,9 +93,9 @@ def as_words(vector: Type) -> str:
     return f"i{vector[1] * width(vector[2])}"
 
 
-def load_leaf(function: Function, leaf: str, address: str, least: int) -> list[str]:
+def load_leaf(function: Function, leaf: Type, address: str, least: int) -> list[str]:
     """Loads one scalar, or a vector in words; the values of its pieces."""
-    if leaf[0] == "vector":
+    if not isinstance(leaf, str):
         whole = as_words(leaf)
         return split(function, leaf, load_leaf(function, whole, address, least))
     piece, count = pieces(leaf)[0], len(pieces(leaf))
@@ -153,9 +154,9 @@ def flush(function: Function, address: str, count: int, least: int) -> None:
         function.put(f"call void @pmem_flush(ptr {address}, i64 {count})")
 
 
-def store_leaf(function: Function, values: list[str], leaf: str, address: str, least: int) -> None:
+def store_leaf(function: Function, values: list[str], leaf: Type, address: str, least: int) -> None:
     """Stores one scalar, or a vector in words."""
-    if leaf[0] == "vector":
+    if not isinstance(leaf, str):
         values, leaf = joined(function, leaf, values), as_words(leaf)
     piece = pieces(leaf)[0]
     for offset, part in parts(leaf):
@@ -247,7 +248,7 @@ def fence(_function: Function, _tokens: Tokens, _target: str, _word: str) -> Non
     raise Refused("a fence between threads", "fence")
 
 
-INSTRUCTIONS = {
+INSTRUCTIONS: dict[str, Instruction] = {
     "alloca": alloca,
     "load": load,
     "store": store,

@@ -14,7 +14,7 @@ from .globals import ALIAS, UNDEFINED, global_text
 from .jumps import Jumps
 from .layout import natural
 from .lines import LineTables, marked_added
-from .names import GLOBAL_NAME, clean_name
+from .names import clean_name, function_name, global_name
 from .notes import note_text
 from .places import Places
 from .refusals import Refusals, Refused
@@ -41,7 +41,7 @@ class Module:
         self.marks_requests, self.request_count, self.has_requests = marks_requests, 0, False
         self.options, self.own_names, self.gated_names = options, program.own_names, program.gated_names
         self.public_names = set(program.public_names)
-        self.named_types: dict[str, str | Type] = {}
+        self.named_types: dict[str, Type] = {}
         self.names: dict[str, str] = {}
         self.taken = dict.fromkeys(EXTERNS, 1)
         self.global_names: set[str] = set()
@@ -68,8 +68,8 @@ class Module:
         self.code.take([*globals_, *(line for _, body in functions for line in body)])
         found = [Function(self, head, body) for head, body in functions]
         self.found_users: Users | None = None
-        self.users = lambda: self.users_of(globals_, found)
-        self.signatures = {function.written_name: function.signature for function in found}
+        self.users: Callable[[], Users] = lambda: self.users_of(globals_, found)
+        self.signatures: dict[str, Signature] = {function.written_name: function.signature for function in found}
         self.globals = [self.lower_global(line) for line in globals_]
         for function in found:
             self.lower_function(function)
@@ -96,7 +96,7 @@ class Module:
             elif not stripped or IGNORED.match(stripped):
                 continue
             elif stripped.startswith("declare"):
-                name = "@" + re.search(GLOBAL_NAME + r"\(", stripped)[1]
+                name = function_name(stripped)
                 (self.weak if " extern_weak " in stripped else self.declared).add(name)
             elif stripped.startswith("define"):
                 body = []
@@ -113,7 +113,7 @@ class Module:
 
     def keep_global(self, globals_: list[str], line: str) -> None:
         """Notes a line of a global, by its kind."""
-        name = re.match(GLOBAL_NAME, line).group()
+        name = global_name(line)
         if name in ("@llvm.global_ctors", "@llvm.global_dtors"):
             self.start.read_list(line)
         elif found := ALIAS.match(line):
@@ -127,9 +127,9 @@ class Module:
     def take_names(self, globals_: list[str], functions: list[tuple[str, list[str]]]) -> None:
         """Gives each global and each function its name in the subset."""
         for line in globals_:
-            self.global_names.add(self.take_name(re.match(GLOBAL_NAME, line).group()))
+            self.global_names.add(self.take_name(global_name(line)))
         for head, _ in functions:
-            self.function_names.add(self.take_name("@" + re.search(GLOBAL_NAME + r"\(", head)[1]))
+            self.function_names.add(self.take_name(function_name(head)))
 
     def take_name(self, written: str) -> str:
         """Gives a name; names from the runtime get the prefix `hippo.`."""
@@ -229,11 +229,11 @@ class Module:
         kind = "function" if written in self.declared else "variable"
         return Refused(f"the {kind} {written} is not in the program", "missing")
 
-    def element_address(self, type_: Type, base: str, indices: list[tuple[str, str]]) -> str:
+    def element_address(self, type_: Type, base: str, indices: list[tuple[Type, str]]) -> str:
         """A constant `getelementptr`; by bytes if the subset has no type with the same layout."""
         same = natural(type_)
         if same is not None:
-            inside = ", ".join(f"{index} {value}" for index, value in indices)
+            inside = ", ".join(f"{show_type(index)} {value}" for index, value in indices)
             return f"getelementptr ({show_type(same)}, ptr {base}, {inside})"
         offset = int(indices[0][1]) * size(type_)
         for _, value in indices[1:]:

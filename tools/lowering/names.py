@@ -4,6 +4,7 @@ import re
 from .commands import output_of
 
 GLOBAL_NAME = r'@("[^"]*"|[-A-Za-z$._0-9]+)'
+DECLARED = re.compile(GLOBAL_NAME + r"\(")
 # Letters of the arguments of a template that a line of text shows.
 MOST_LETTERS = 20
 # What stands before an angle bracket that belongs to an operator.
@@ -14,6 +15,22 @@ ESCAPED = re.compile(rb"\\([0-9A-Fa-f]{2}|\\)")
 # The section of persistent data, and names that programmers mean for it.
 PERSISTENT = ".pm"
 LOOKS_PERSISTENT = re.compile(r"[._]+pm|pm(?![a-z])|.*(?:pmem|persist|nvm|nvram)", re.I)
+
+
+def global_name(line: str) -> str:
+    """The name of the global that a line begins with, with its mark."""
+    found = re.match(GLOBAL_NAME, line)
+    if found is None:
+        raise ValueError(f"no name of a global: {line[:90]}")
+    return found.group()
+
+
+def function_name(head: str) -> str:
+    """The name of the function that a line declares or defines, with its mark."""
+    found = DECLARED.search(head)
+    if found is None:
+        raise ValueError(f"no name of a function: {head[:90]}")
+    return f"@{found[1]}"
 
 
 def clean_name(name: str, taken: dict[str, int], first: str) -> str:

@@ -5,7 +5,7 @@ import argparse
 import os
 import re
 from dataclasses import dataclass, field
-from typing import IO, Any
+from typing import IO, Any, NoReturn
 
 from .commands import USAGE, Failure
 
@@ -58,7 +58,7 @@ class Help(Exception):
 class Parser(argparse.ArgumentParser):
     """A parser whose errors have the exit code of a usage error."""
 
-    def error(self, message: str) -> None:
+    def error(self, message: str) -> NoReturn:
         """Ends the command."""
         raise Failure(f"usage: {USAGE_LINE}: {message}", USAGE)
 

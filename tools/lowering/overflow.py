@@ -5,7 +5,7 @@ from typing import TYPE_CHECKING
 
 from .integers import cut, extended
 from .refusals import Refused
-from .types import INTEGERS, bits, container
+from .types import INTEGERS, as_scalar, bits, container
 from .wide import high_product
 
 if TYPE_CHECKING:
@@ -15,7 +15,7 @@ if TYPE_CHECKING:
 
 def with_overflow(function: Function, sign: str, word: str, call: Call) -> None:
     """`llvm.*.with.overflow`: the value, and whether it was cut."""
-    type_ = call.arguments[0].type
+    type_ = as_scalar(call.arguments[0].type)
     first, second = (argument.values[0] for argument in call.arguments)
     value, is_cut = exact(function, sign, word, type_, first, second)
     function.become(call.target, call.result, [value, is_cut])
@@ -75,7 +75,7 @@ def product_is_cut(function: Function, sign: str, low: str, first: str, second: 
 
 def saturated(function: Function, sign: str, word: str, call: Call) -> None:
     """`llvm.*.sat`: the value, or the bound that it passes."""
-    type_ = call.arguments[0].type
+    type_ = as_scalar(call.arguments[0].type)
     first, second = (argument.values[0] for argument in call.arguments)
     if type_ in INTEGERS and sign == "u":
         unsigned_saturated(function, word, type_, first, second, call.target)

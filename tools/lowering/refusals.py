@@ -72,7 +72,7 @@ class Refusals:
 
     def text(self) -> list[str]:
         """The lines to be shown: places by reason, and after each kind what to do."""
-        shown = []
+        shown: list[str] = []
         for kind, reasons in self.kinds.items():
             before = len(shown)
             for reason, given in reasons.items():

@@ -2,6 +2,7 @@
 import glob
 import os
 import re
+from collections.abc import Callable
 from concurrent.futures import ThreadPoolExecutor
 
 from .commands import READ_FAULT, Failure, output_of
@@ -24,7 +25,7 @@ RUNTIME_FLAGS = ["-O1", "-D_GNU_SOURCE", "-ffreestanding", "-fno-builtin", "-mno
 # The C++ files make what the headers declare of templates, as those of the user's build.
 OF_CPP = ["-O1", "-std=c++20", "-w"]
 # Files that only an option links: each depends on an assumption that the user must make.
-BEHIND_OPTION = {
+BEHIND_OPTION: dict[str, tuple[str, Callable[[Options], object]]] = {
     "threads.c": ("--single-thread", lambda options: options.single_thread),
     "cpp_streams.c": ("--ignore-output or --print-numbers", lambda options: options.output),
     "output.c": ("--ignore-output or --print-numbers", lambda options: options.output),
@@ -183,8 +184,8 @@ def undefined(text: str) -> set[str]:
 
 def is_linked(file: str, options: Options) -> bool:
     """Whether a file of the runtime may be linked under these options."""
-    _, is_given = BEHIND_OPTION.get(os.path.basename(file), ("", lambda _: True))
-    return bool(is_given(options))
+    behind = BEHIND_OPTION.get(os.path.basename(file))
+    return behind is None or bool(behind[1](options))
 
 
 def macros(options: Options) -> list[str]:

@@ -42,7 +42,7 @@ class Tokens:
     """The tokens of a text, one after another."""
 
     def __init__(self, text: str) -> None:
-        found = ((match.lastgroup, match.group()) for match in TOKEN.finditer(text))
+        found = ((match.lastgroup or "odd", match.group()) for match in TOKEN.finditer(text))
         self.tokens = [token for token in found if token[0] != "space"]
         self.place = 0
 

@@ -8,11 +8,13 @@ from __future__ import annotations
 
 import re
 from functools import lru_cache
+from typing import Any
 
 from .refusals import Refused
 from .tokens import Tokens
 
-Type = str | tuple
+# The items of a tuple depend on its first one, which mypy does not follow.
+Type = str | tuple[Any, ...]
 INTEGERS = {"i1": 1, "i8": 1, "i16": 2, "i32": 4, "i64": 8}
 SCALARS = {**INTEGERS, "ptr": 8}
 # The integers that have the bits of floating-point numbers.
@@ -23,7 +25,7 @@ LISTS = ("array", "vector")
 WIDEST = 64 * MOST_PIECES
 
 
-def read_type(tokens: Tokens, named: dict[str, str | Type]) -> Type:
+def read_type(tokens: Tokens, named: dict[str, Type]) -> Type:
     """The type that stands next; `named` has the texts of the named types, which are written out in place."""
     text = tokens.take()
     if text in SCALARS or text in FLOATS or text == "void":
@@ -41,8 +43,9 @@ def read_type(tokens: Tokens, named: dict[str, str | Type]) -> Type:
         tokens.take(">")
         return packed
     if text.startswith("%") and text in named:
-        if isinstance(named[text], str):
-            named[text] = ("opaque",) if named[text] == "opaque" else read_type(Tokens(named[text]), named)
+        written = named[text]
+        if isinstance(written, str):
+            named[text] = ("opaque",) if written == "opaque" else read_type(Tokens(written), named)
         return named[text]
     if re.fullmatch(r"i[1-9][0-9]*", text):
         if int(text[1:]) > WIDEST:
@@ -53,7 +56,7 @@ def read_type(tokens: Tokens, named: dict[str, str | Type]) -> Type:
     raise Refused(f"the type {text} is not in the subset")
 
 
-def read_vector(tokens: Tokens, named: dict[str, str | Type]) -> Type:
+def read_vector(tokens: Tokens, named: dict[str, Type]) -> Type:
     """A vector, after its opening bracket. The number of elements of some is known to the processor alone."""
     if tokens.kind() != "number":
         raise Refused(f"a vector of {tokens.peek()}", "vector")
@@ -64,7 +67,7 @@ def read_vector(tokens: Tokens, named: dict[str, str | Type]) -> Type:
     return ("vector", count, element_type)
 
 
-def read_fields(tokens: Tokens, named: dict) -> tuple:
+def read_fields(tokens: Tokens, named: dict[str, Type]) -> tuple[Type, ...]:
     """The types of the fields of a struct, after its opening brace, which is closed after them."""
     fields = []
     while tokens.peek() != "}":
@@ -85,7 +88,7 @@ def bits(type_: Type) -> int:
     return int(type_[1:]) if isinstance(type_, str) and type_[0] == "i" else 0
 
 
-def width(type_: str) -> int:
+def width(type_: Type) -> int:
     """The number of bits of a scalar."""
     return 64 if type_ == "ptr" else bits(as_integer(type_))
 
@@ -95,14 +98,21 @@ def as_integer(type_: Type) -> Type:
     return FLOATS.get(type_, type_) if isinstance(type_, str) else type_
 
 
+def as_scalar(type_: Type) -> str:
+    """The type itself, which must be that of a scalar."""
+    if isinstance(type_, str):
+        return type_
+    raise Refused(f"{show_type(type_)} where a scalar stands")
+
+
 def next_power(number: int) -> int:
     """The least power of two that is not below the number."""
     return 1 << max(number - 1, 0).bit_length()
 
 
-def container(type_: str) -> str:
+def container(type_: Type) -> str:
     """The integer type of the subset that holds an integer of up to 64 bits; `ptr` holds itself."""
-    if type_ in SCALARS:
+    if isinstance(type_, str) and type_ in SCALARS:
         return type_
     return f"i{max(8, next_power(bits(type_)))}"
 
@@ -126,7 +136,7 @@ def pieces(type_: Type) -> tuple[str, ...]:
 def alignment(type_: Type) -> int:
     """The alignment of a type in memory."""
     if isinstance(type_, str):
-        type_ = as_integer(type_)
+        type_ = FLOATS.get(type_, type_)
         if type_ in SCALARS:
             return SCALARS[type_]
         if not bits(type_):
@@ -147,7 +157,7 @@ def size(type_: Type) -> int:
     if isinstance(type_, str):
         return 8 if type_ == "ptr" else round_up(-(-bits(as_integer(type_)) // 8), alignment(type_))
     if type_[0] == "array":
-        return type_[1] * size(type_[2])
+        return int(type_[1]) * size(type_[2])
     if type_[0] == "vector":
         return alignment(type_)
     whole = alignment(type_)
@@ -172,7 +182,7 @@ def element(type_: Type, index: int) -> tuple[int, Type]:
     return field_offsets(type_)[index], type_[1][index]
 
 
-def leaves(type_: Type, offset: int = 0) -> list[tuple[int, str]]:
+def leaves(type_: Type, offset: int = 0) -> list[tuple[int, Type]]:
     """The offset and the type of each scalar and each vector of a type that registers hold, without floating-point types."""
     if isinstance(type_, str):
         return [(offset, as_integer(type_))]
@@ -183,7 +193,7 @@ def leaves(type_: Type, offset: int = 0) -> list[tuple[int, str]]:
     return [leaf for index in range(count) for leaf in leaves_of_element(type_, index, offset)]
 
 
-def leaves_of_element(type_: Type, index: int, offset: int) -> list[tuple[int, str]]:
+def leaves_of_element(type_: Type, index: int, offset: int) -> list[tuple[int, Type]]:
     """The leaves of one element of an aggregate that lies at the offset."""
     begin, inner = element(type_, index)
     return leaves(inner, offset + begin)

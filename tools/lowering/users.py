@@ -4,7 +4,7 @@ from __future__ import annotations
 import re
 from typing import TYPE_CHECKING, NamedTuple
 
-from .names import GLOBAL_NAME, demangled, without_arguments
+from .names import GLOBAL_NAME, demangled, global_name, without_arguments
 from .refusals import Refused
 
 if TYPE_CHECKING:
@@ -29,7 +29,7 @@ class Users:
     def __init__(self, module: Module, globals_: list[str], functions: list[Function]) -> None:
         self.uses: dict[str, list[Use]] = {}
         for line in globals_:
-            name = NAMED.match(line).group()
+            name = global_name(line)
             for found in set(NAMED.findall(line)):
                 self.uses.setdefault(f"@{found}", []).append(Use(name, ""))
         for function in functions:
@@ -71,7 +71,7 @@ def shown(name: str) -> str:
 
 def refuse_global(module: Module, refusal: Refused, line: str) -> None:
     """Notes a refusal of a global: at its own place, or at the user's lines that come to what clang made for the library."""
-    name = NAMED.match(line).group()
+    name = global_name(line)
     place = module.place_of_global(name[1:].strip('"'))
     nearest = [] if place else module.users().nearest(name)
     if not nearest:

@@ -8,6 +8,7 @@ from typing import TYPE_CHECKING
 from .refusals import Refused
 from .tokens import Tokens
 from .types import Type, as_integer, container, pieces, show_type, width
+from .writer import Instruction
 
 if TYPE_CHECKING:
     from .calls import Call
@@ -226,4 +227,4 @@ def sums_of_distances(function: Function, call: Call) -> None:
     function.become(call.target, call.result, [function.emit(f"zext i32 {value} to i64") for value in sums])
 
 
-INSTRUCTIONS = {"bitcast": bitcast}
+INSTRUCTIONS: dict[str, Instruction] = {"bitcast": bitcast}

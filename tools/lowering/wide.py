@@ -1,6 +1,7 @@
 """Integers above 64 bits: pieces of 64 bits, the lowest first; the last one has zeros above the width."""
 from __future__ import annotations
 
+from functools import partial
 from typing import TYPE_CHECKING
 
 from .bit_helpers import high_product_helper, shift_helper
@@ -106,7 +107,7 @@ def shifted(function: Function, word: str, value: list[str], amount: str) -> lis
         raise Refused(f"{word} of more than 128 bits by an amount that is not constant", "width")
     found = []
     for part in ("low", "high"):
-        helper = function.module.helper(f"{word}.128.{part}", lambda name, part=part: shift_helper(name, word, part))
+        helper = function.module.helper(f"{word}.128.{part}", partial(shift_helper, word=word, part=part))
         found.append(function.emit(f"call i64 {helper}(i64 {value[0]}, i64 {value[1]}, i64 {amount})"))
     return found
 

@@ -1,13 +1,18 @@
 """The lines of a function in the subset, as they are written: names, instructions, blocks."""
 from __future__ import annotations
 
-from typing import TYPE_CHECKING, NamedTuple
+from typing import TYPE_CHECKING, Callable, NamedTuple
 
 from .lines import with_comment
 from .names import clean_name
 
 if TYPE_CHECKING:
     from .dispatch import CallType
+    from .function import Function
+    from .tokens import Tokens
+
+# Lowers an instruction: its function, the tokens after its word, the register that it assigns, and its word.
+Instruction = Callable[["Function", "Tokens", str, str], None]
 
 
 class Phi(NamedTuple):

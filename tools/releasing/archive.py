@@ -5,6 +5,7 @@ from __future__ import annotations
 import gzip
 import tarfile
 from pathlib import Path
+from typing import IO, cast
 
 from .origin import Origin
 
@@ -24,7 +25,7 @@ def entry(origin: Origin, folder: Path, path: Path) -> tarfile.TarInfo:
 def write_archive(origin: Origin, folder: Path, target: Path) -> None:
     """Writes the folder of a release as an archive."""
     with target.open("wb") as raw, gzip.GzipFile("", "wb", 9, raw, mtime=0) as packed:
-        with tarfile.open(fileobj=packed, mode="w", format=tarfile.USTAR_FORMAT) as archive:
+        with tarfile.open(fileobj=cast(IO[bytes], packed), mode="w", format=tarfile.USTAR_FORMAT) as archive:
             for path in [folder, *sorted(folder.rglob("*"))]:
                 info = entry(origin, folder, path)
                 if path.is_dir():

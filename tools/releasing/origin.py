@@ -88,4 +88,5 @@ def needed_library(program: Path) -> str:
     versions = LIBRARY_VERSION.findall(ran.stdout)
     if not versions:
         raise Refused(f"{program} names no version of the C library")
-    return max(versions, key=lambda version: [int(part) for part in version.split(".")])
+    newest: str = max(versions, key=lambda version: [int(part) for part in version.split(".")])
+    return newest

@@ -79,7 +79,7 @@ class Repository(unittest.TestCase):
         kept = {name: value for name, value in os.environ.items() if name != "HIPPO_PROGRAM"}
         return {**kept, "PATH": f"{self.kit}:{os.environ['PATH']}", **more}
 
-    def hippo(self, *words: str, **how: Any) -> subprocess.CompletedProcess:
+    def hippo(self, *words: str, **how: Any) -> subprocess.CompletedProcess[str]:
         """Runs the launcher in the folder of the caller's files."""
         environment = self.environment(**how.pop("more", {}))
         command = [str(how.pop("script", self.top / "hippo")), *words]
@@ -100,12 +100,12 @@ class Repository(unittest.TestCase):
             opened.write("more\n")
         os.utime(path, ns=(was.st_atime_ns, was.st_mtime_ns))
 
-    def lines(self, ran: subprocess.CompletedProcess) -> list[str]:
+    def lines(self, ran: subprocess.CompletedProcess[str]) -> list[str]:
         """The launcher's lines on standard error, where no other line is the toolchain's."""
         self.assertNotIn("rt: ", ran.stderr)
         return [line for line in ran.stderr.splitlines() if line.startswith("hippo: ")]
 
-    def fails(self, ran: subprocess.CompletedProcess, words: str) -> None:
+    def fails(self, ran: subprocess.CompletedProcess[str], words: str) -> None:
         """The launcher cannot answer: exit code 69, no standard output, and the words on the last line."""
         self.assertEqual((ran.returncode, ran.stdout), (69, ""), ran.stderr)
         self.assertRegex(ran.stderr.splitlines()[-1], words)

@@ -24,7 +24,7 @@ TURNS = 300000000
 PROCESSOR = ["-mclwb", "-mclflushopt"]
 
 
-def run(words: list[str], seconds: int = 0, folder: str | None = None) -> subprocess.CompletedProcess:
+def run(words: list[str], seconds: int = 0, folder: str | None = None) -> subprocess.CompletedProcess[str]:
     """Runs a command, for at most a number of seconds of processor time if one is given."""
     limit = ["prlimit", f"--cpu={seconds}"] if seconds else []
     return subprocess.run([*limit, *words], capture_output=True, encoding="latin-1", cwd=folder)
@@ -50,7 +50,7 @@ def native_output(program: str, folder: str) -> str | None:
     return done.stdout if done.returncode == 0 else None
 
 
-def check(made: subprocess.CompletedProcess) -> None:
+def check(made: subprocess.CompletedProcess[str]) -> None:
     """A compiler must succeed."""
     if made.returncode:
         raise RuntimeError(made.stderr)
@@ -100,12 +100,10 @@ def main() -> int:
     with tempfile.TemporaryDirectory() as folder, ThreadPoolExecutor(options.jobs) as workers:
         seeds = range(options.first, options.first + options.count)
         check(run(["clang-19", *PROCESSOR, "-c", "-o", f"{folder}/externs.o", f"{TOP}/tools/external_functions.c"]))
-        chosen = (
-            (lambda seed: [options.levels[seed % len(options.levels)]])
-            if options.one_level
-            else lambda _: options.levels
-        )
-        for results in workers.map(lambda seed: attempt(seed, chosen(seed), folder, options.hippo), seeds):
+        levels = [[level] for level in options.levels] if options.one_level else [options.levels]
+        for results in workers.map(
+            lambda seed: attempt(seed, levels[seed % len(levels)], folder, options.hippo), seeds
+        ):
             for seed, level, found in results:
                 kind = found if found in ("same", "cut", "too long") else "differs"
                 counts[kind] += 1

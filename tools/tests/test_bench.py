@@ -10,6 +10,7 @@ import sys
 import tempfile
 import unittest
 from pathlib import Path
+from typing import Any
 
 TOP = Path(__file__).resolve().parents[2]
 sys.path.insert(0, str(TOP / "bench"))
@@ -131,7 +132,7 @@ class Figures(unittest.TestCase):
         self.assertAlmostEqual(measuring.exponent([1, 4, 16], [1.0, 1.0, 16.0]), 2)
         self.assertAlmostEqual(measuring.exponent([1, 4, 16], [1.0, 16.0, 16.0]), 1)
 
-    def shown(self, measured: float, **asked: float) -> str:
+    def shown(self, measured: float, **asked: Any) -> str:
         """The line of a figure."""
         with contextlib.redirect_stdout(io.StringIO()) as out:
             measuring.show("a figure", measured, **asked)

@@ -6,6 +6,7 @@ import tempfile
 import unittest
 
 from clang_case import TOOLS, ClangCase
+from typing import Any
 
 
 class CompileCommands(ClangCase):
@@ -33,7 +34,7 @@ class CompileCommands(ClangCase):
             file.write(entries if isinstance(entries, str) else json.dumps(entries))
         return path
 
-    def entries(self) -> list[dict]:
+    def entries(self) -> list[dict[str, Any]]:
         """The commands of both files, in both forms."""
         return [
             {
@@ -59,7 +60,7 @@ class CompileCommands(ClangCase):
             },
         ]
 
-    def lower(self, path: str) -> subprocess.CompletedProcess:
+    def lower(self, path: str) -> subprocess.CompletedProcess[str]:
         """Runs tools/lower on both files."""
         words = [
             os.path.join(TOOLS, "lower"),

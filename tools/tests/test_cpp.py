@@ -10,6 +10,7 @@ import shutil
 import subprocess
 import sys
 import unittest
+from collections.abc import Callable
 from concurrent.futures import ThreadPoolExecutor
 
 from clang_case import HIPPO, TESTS, TOOLS
@@ -37,7 +38,7 @@ class Cpp(Comparing):
         tools = os.path.join(self.folder, "tools_of_c")
         os.mkdir(tools)
         for name in ("clang-19", "opt-19", "llvm-link-19", "llvm-as-19", "llvm-cxxfilt-19"):
-            os.symlink(shutil.which(name), os.path.join(tools, name))
+            os.symlink(shutil.which(name) or name, os.path.join(tools, name))
         for end, wanted in (("c", 0), ("cpp", 69), ("cc", 69), ("C", 69)):
             file = os.path.join(self.folder, f"small.{end}")
             with open(file, "w", encoding="utf-8") as out:
@@ -52,7 +53,7 @@ class Cpp(Comparing):
             self.assertEqual((done.returncode, done.stdout == ""), (wanted, wanted != 0), done.stderr)
             self.assertEqual("clang++-19 is not installed" in done.stderr, wanted == 69, done.stderr)
 
-    def at_levels(self, source: str, wrong: callable) -> None:
+    def at_levels(self, source: str, wrong: Callable[[str], str]) -> None:
         """Nothing is wrong at any level."""
         with ThreadPoolExecutor(4) as workers:
             found = list(workers.map(wrong, given(source, "levels", LEVELS)))
@@ -102,4 +103,4 @@ def add_tests() -> None:
 
 add_tests()
 if __name__ == "__main__":
-    sys.exit(unittest.main())
+    unittest.main()

@@ -81,7 +81,7 @@ class Schedules(unittest.TestCase):
                 self.assertLessEqual(ends[low], piece.start)
 
     def test_the_longest_chain_goes_first_among_those_that_become_ready_together(self) -> None:
-        crates = {"a": [], "b": [], "short": ["a"], "long1": ["b"], "long2": ["b"]}
+        crates: dict[str, list[str]] = {"a": [], "b": [], "short": ["a"], "long1": ["b"], "long2": ["b"]}
         made = tool.graph_of(crates, {"a": 5, "b": 5, "short": 1, "long1": 9, "long2": 9}, None)
         starts = {piece.name: piece.start for piece in tool.schedule(made, 2)}
         self.assertEqual((starts["long1"], starts["long2"], starts["short"]), (5, 5, 14))

@@ -65,7 +65,7 @@ FORMS: list[tuple[str, list[str]]] = [
     (asm("sfence"), [SFENCE]),
     (asm("mfence"), [MFENCE]),
     (asm("\\09sfence\\0A"), [SFENCE]),
-    *((asm(text), []) for text in ("", "lfence", "pause", "nop", "rep; nop")),
+    *((asm(text), list[str]()) for text in ("", "lfence", "pause", "nop", "rep; nop")),
     ("call void @llvm.x86.sse2.lfence()", []),
     ("call void @llvm.x86.sse2.pause()", []),
     ("fence seq_cst", []),

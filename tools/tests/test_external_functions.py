@@ -49,14 +49,22 @@ int main(void) {
 PROTOTYPE = re.compile(r"^((?:const )?[a-z][a-z_ ]*?[ *]+)(\w+)\(([^()]*)\)(?=;| \{)", re.M)
 
 
+def group_in(pattern: str, text: str) -> str:
+    """The first group of a pattern that a text has."""
+    found = re.search(pattern, text)
+    if found is None:
+        raise AssertionError(f"{pattern} is not in: {text[:200]}")
+    return found[1]
+
+
 def proved_table(text: str) -> dict[str, Extern]:
     """The rows of the method `row` of ExternCall."""
     body = text[text.index("pub fn row(self)") : text.index("pub fn is_flush")]
     rows: dict[str, Extern] = {}
     for arm in re.split(r"ExternCall::\w+ =>", body)[1:]:
-        name = re.search(r'b"([^"]+)"', arm)[1]
-        parameters = re.search(r"&\[([^\]]*)\]", arm)[1]
-        effect = EFFECTS[re.search(r"LineEffect::(\w+)", arm)[1]]
+        name = group_in(r'b"([^"]+)"', arm)
+        parameters = group_in(r"&\[([^\]]*)\]", arm)
+        effect = EFFECTS[group_in(r"LineEffect::(\w+)", arm)]
         result = re.search(r"ret: Some\((\w+)\)", arm)
         listed = tuple(SCALARS[word.strip()] for word in parameters.split(",") if word.strip())
         rows[name] = Extern(SCALARS[result[1]] if result else "void", listed, effect)
@@ -65,7 +73,7 @@ def proved_table(text: str) -> dict[str, Extern]:
 
 def calls_in(text: str) -> int:
     """The number of external functions that the constant CALLS has."""
-    return int(re.search(r"pub const CALLS: \[ExternCall; (\d+)\]", text)[1])
+    return int(group_in(r"pub const CALLS: \[ExternCall; (\d+)\]", text))
 
 
 def prototypes(text: str) -> dict[str, tuple[str, tuple[str, ...]]]:
@@ -95,6 +103,8 @@ def named(text: str, words: str) -> set[str]:
 
 class Tables(unittest.TestCase):
     """Each text against the proved table."""
+
+    table: dict[str, Extern]
 
     @classmethod
     def setUpClass(cls) -> None:

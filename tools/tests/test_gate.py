@@ -13,6 +13,7 @@ import tempfile
 import time
 import unittest
 from pathlib import Path
+from typing import Any
 from unittest import mock
 
 TOP = Path(__file__).resolve().parents[2]
@@ -156,7 +157,7 @@ class Selection(unittest.TestCase):
         found = {type(test).__module__.replace(".", "/") + ".py" for test in tests}
         files = {path.relative_to(tools_tests.TESTS).as_posix() for path in tools_tests.TESTS.rglob("test_*.py")}
         self.assertEqual(files - found, set())
-        self.assertFalse([test for test in tests if isinstance(test, unittest.loader._FailedTest)])
+        self.assertFalse([test for test in tests if type(test).__name__ == "_FailedTest"])
 
     def test_an_empty_selection_fails(self) -> None:
         self.assertEqual(
@@ -180,7 +181,7 @@ class Selection(unittest.TestCase):
         self.assertEqual(code, 1)
         self.assertRegex(said, r"^tests of the tools: clang-19 .* must be installed where CI is set\n$")
 
-    def ended(self, *tests: unittest.TestCase, **words: object) -> tuple[bool, str, str]:
+    def ended(self, *tests: unittest.TestCase, **words: Any) -> tuple[bool, str, str]:
         """Whether tests passed, and what was printed and said of them."""
         said, wrong = io.StringIO(), io.StringIO()
         with contextlib.redirect_stdout(said), contextlib.redirect_stderr(wrong):
@@ -236,7 +237,7 @@ class Selection(unittest.TestCase):
     def test_c_programs_need_clang_where_ci_is_set(self) -> None:
         with tempfile.TemporaryDirectory() as room:
             for tool in ("bash", "dirname", "uname"):
-                os.symlink(shutil.which(tool), f"{room}/{tool}")
+                os.symlink(shutil.which(tool) or tool, f"{room}/{tool}")
             for given, code in (("", 0), ("true", 1)):
                 ran = run("bash", ".ci/from_c.sh", PATH=room, CI=given)
                 self.assertEqual((ran.returncode, ran.stdout), (code, "from C: skipped: python3 is not installed\n"))

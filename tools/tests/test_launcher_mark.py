@@ -55,7 +55,7 @@ class Marks(Repository):
         tools.mkdir(exist_ok=True)
         for tool in ("find", "sha256sum", "sh", "bash"):
             if not (tools / tool).exists():
-                (tools / tool).symlink_to(shutil.which(tool))
+                (tools / tool).symlink_to(shutil.which(tool) or tool)
         return self.hippo("repair", "/dev/null", more={"PATH": str(tools)}).returncode == 7
 
     def edit(self) -> None:

@@ -15,10 +15,17 @@ from typing import Any, Callable
 from launcher_repository import LONG, RT, TOP, Repository, small_files
 
 
+def next_line(process: subprocess.Popen[str]) -> str:
+    """The next line that a process writes to standard error."""
+    if process.stderr is None:
+        raise ValueError("standard error is no pipe")
+    return process.stderr.readline()
+
+
 class Proved(Repository):
     """The proved program: how it is built, and when it answers."""
 
-    def build(self, *words: str) -> subprocess.CompletedProcess:
+    def build(self, *words: str) -> subprocess.CompletedProcess[str]:
         """Builds the program."""
         ran = self.hippo("--build", *words)
         self.assertEqual((ran.returncode, ran.stdout), (0, ""), ran.stderr)
@@ -35,9 +42,9 @@ class Proved(Repository):
     def test_build_tells_how_far_it_is(self) -> None:
         self.hold("hippo")
         ran = self.start("--build", "--jobs", "1")
-        lines = [ran.stderr.readline()]
+        lines = [next_line(ran)]
         while "1 of 2 crates proved" not in lines[-1] and lines[-1]:
-            lines.append(ran.stderr.readline())
+            lines.append(next_line(ran))
         self.release("hippo")
         lines += ran.communicate(timeout=LONG)[1].splitlines()
         self.assertRegex(lines[0], "proving 2 crates, 1 side by side.* about [0-9]+ minutes")
@@ -137,7 +144,7 @@ class Proved(Repository):
     def test_an_interrupt_ends_the_proofs(self) -> None:
         self.hold("hip_low")
         ran = self.start("--build")
-        self.assertIn("proving 2 crates", ran.stderr.readline())
+        self.assertIn("proving 2 crates", next_line(ran))
         self.wait_for(lambda: self.calls("ci") == 1)
         ran.send_signal(signal.SIGINT)
         said = ran.communicate(timeout=LONG)[1]
@@ -189,7 +196,7 @@ class Proved(Repository):
         first = self.start("--build")
         self.wait_for(lambda: self.calls("ci") == 1)
         second = self.start("--build")
-        self.assertRegex(second.stderr.readline(), rf"another --build \(process {first.pid}\).*waiting")
+        self.assertRegex(next_line(second), rf"another --build \(process {first.pid}\).*waiting")
         self.release("hip_low")
         first.communicate(timeout=LONG)
         self.assertEqual(first.returncode, 0)
@@ -226,7 +233,7 @@ class Proved(Repository):
         self.build("--write-weights")
         self.assertEqual((self.top / "tools" / "crate_weights.txt").read_text(), "# Seconds.\nhip_low 60\nhippo 120\n")
 
-    def start(self, *words: str) -> subprocess.Popen:
+    def start(self, *words: str) -> subprocess.Popen[str]:
         """Starts the launcher; its lines come by a pipe."""
         return subprocess.Popen(
             [str(self.top / "hippo"), *words], cwd=self.work, env=self.environment(), stderr=subprocess.PIPE, text=True
@@ -251,7 +258,7 @@ class Proved(Repository):
 class Gate(Repository):
     """The program that the gate proved."""
 
-    def keep(self) -> subprocess.CompletedProcess:
+    def keep(self) -> subprocess.CompletedProcess[str]:
         """Does what the gate does at its end."""
         command = [sys.executable, "-B", str(self.top / "tools" / "launcher" / "gate.py")]
         return subprocess.run(command, env=self.environment(), capture_output=True, text=True, timeout=LONG)

@@ -53,11 +53,15 @@ class Words(Repository):
         self.hippo("--build")
         (self.work / "program").write_text('#!/bin/sh\necho "$#"\necho "hippo: no file: program" >&2\nexit 2\n')
         (self.work / "program").chmod(0o755)
-        for more, own in (({"HIPPO_PROGRAM": "./program"}, ["hippo: no file: program"]), ({}, [])):
+        both: tuple[tuple[dict[str, str], list[str]], ...] = (
+            ({"HIPPO_PROGRAM": "./program"}, ["hippo: no file: program"]),
+            ({}, []),
+        )
+        for more, own in both:
             ran = self.hippo("check", "none.ll", "/dev/null", more=more)
             self.assertEqual(ran.stderr.splitlines(), [*own, "hippo: none.ll: no such file"])
             self.assertEqual(ran.returncode, 2 if own else 7)
-        for words, names in (
+        named: tuple[tuple[tuple[str, ...], list[str]], ...] = (
             (("run", "a b", "7"), ["a b: no such file"]),
             (("many", "x", "repair", "y"), ["x: no such file", "y: no such file"]),
             (("repair", ".", "z"), [".: this is a folder", "z: no such file"]),
@@ -66,7 +70,8 @@ class Words(Repository):
             (("check", "--base", "x"), []),
             (("check",), []),
             ((), []),
-        ):
+        )
+        for words, names in named:
             self.assertEqual(self.hippo(*words).stderr.splitlines(), [f"hippo: {name}" for name in names], words)
 
     def test_a_defect_of_the_launcher_names_its_file_and_line(self) -> None:

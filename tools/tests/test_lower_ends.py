@@ -306,4 +306,4 @@ def runs_in(session: int) -> bool:
 
 
 if __name__ == "__main__":
-    sys.exit(unittest.main())
+    unittest.main()

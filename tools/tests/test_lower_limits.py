@@ -106,4 +106,4 @@ define i32 @main() !dbg !4 {{
 
 
 if __name__ == "__main__":
-    sys.exit(unittest.main())
+    unittest.main()

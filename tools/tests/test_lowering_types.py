@@ -132,14 +132,15 @@ class Sizes(unittest.TestCase):
             text=True,
             check=True,
         )
-        values = dict(zip(*[iter(self.quads(done.stdout))] * 2))
+        labelled = self.quads(done.stdout)
+        values = dict(zip(labelled[::2], labelled[1::2]))
         found = {text: (values[f"size{number}"], values[f"align{number}"]) for number, text in enumerate(LAYOUTS)}
         self.assertEqual(found, {text: (size, alignment) for text, (size, alignment, _) in LAYOUTS.items()})
 
     @staticmethod
-    def quads(assembly: str) -> list:
+    def quads(assembly: str) -> list[str | int]:
         """The labels of an assembly text, each with the number after it."""
-        found: list = []
+        found: list[str | int] = []
         for line in assembly.splitlines():
             words = line.replace(":", " :").split()
             if len(words) > 1 and words[1] == ":" and words[0].startswith(("size", "align")):

@@ -6,6 +6,8 @@ import os
 import re
 import unittest
 import unittest.mock
+from collections.abc import Callable
+from operator import itemgetter
 
 from clang_case import HIPPO, ClangCase
 from random_c import numbers, pointers
@@ -89,7 +91,12 @@ class Model(unittest.TestCase):
             if word == "fence":
                 region.fence()
             else:
-                {"store": region.store, "flush": region.flush, "persist": region.persist}[word](0, int(number), 1)
+                steps_of: dict[str, Callable[[int, int, int], None]] = {
+                    "store": region.store,
+                    "flush": region.flush,
+                    "persist": region.persist,
+                }
+                steps_of[word](0, int(number), 1)
         region.check(0, 0, 128)
         found = region.events[-1].states
         self.assertEqual({len(states) for states in found.values()}, {1})
@@ -249,8 +256,9 @@ class Jumps(unittest.TestCase):
 
     def setUp(self) -> None:
         """Two places that may jump: one if `k` is odd, with the value `i`, and one always, with the value 3."""
-        self.catching, self.done = Catching("r7_"), []
-        numbers = {name: Index(name, lambda values, name=name: values[name]) for name in "ki"}
+        self.catching = Catching("r7_")
+        self.done: list[str] = []
+        numbers = {name: Index(name, itemgetter(name)) for name in "ki"}
         self.jump = self.catching.jump(numbers["k"], numbers["i"])
         self.leave = self.catching.jump(Index("1", lambda _: 1), Index("3", lambda _: 3))
 

@@ -464,4 +464,4 @@ def add_tests() -> None:
 
 add_tests()
 if __name__ == "__main__":
-    sys.exit(unittest.main())
+    unittest.main()

@@ -15,8 +15,9 @@ from unittest import mock
 
 sys.dont_write_bytecode = True
 TOP = Path(__file__).resolve().parents[2]
-sys.path.append(str(TOP / "tools"))
+sys.path += [str(TOP / "tools"), str(TOP / "tools" / "launcher")]
 
+import kept  # noqa: E402
 from releasing import command, contents, debian, origin, tree  # noqa: E402
 from releasing.refusal import Refused  # noqa: E402
 
@@ -57,7 +58,7 @@ class Releases(unittest.TestCase):
     def unpacked(self, out: Path) -> Path:
         """The folder of the release, taken from its archive."""
         with tarfile.open(out / f"{self.origin.name}.tar.gz") as archive:
-            archive.extractall(self.room, filter="data")
+            archive.extractall(self.room, filter="data")  # type: ignore[call-arg]  # mypy knows an older tarfile
         return self.room / self.origin.name
 
     def run_in(self, folder: Path, *words: str) -> subprocess.CompletedProcess[str]:
@@ -143,11 +144,11 @@ class Releases(unittest.TestCase):
             self.skipTest("fakeroot is not installed")
         ran = self.run_in(one, *dpkg, "--install", name)
         self.assertEqual(ran.returncode, 0, ran.stderr)
-        folder = root / "usr"
-        ran = self.run_in(folder, "bin/hippo", "check", f"{ONE_STORE}.ll", f"{ONE_STORE}.trace")
+        installed = root / "usr"
+        ran = self.run_in(installed, "bin/hippo", "check", f"{ONE_STORE}.ll", f"{ONE_STORE}.trace")
         self.assertEqual((ran.returncode, ran.stderr), (0, "reports 1\n"))
         self.assertEqual(self.run_in(one, *dpkg, "--purge", "hippo").returncode, 0)
-        self.assertFalse(folder.exists() and tree.files_of(folder))
+        self.assertFalse(installed.exists() and tree.files_of(installed))
 
     @unittest.skipUnless(shutil.which("lintian"), "lintian is not installed")
     def test_lintian_finds_no_error(self) -> None:
@@ -189,7 +190,7 @@ class Refusals(unittest.TestCase):
             origin.time_of(folder)
 
     def test_a_program_that_is_not_proved_is_refused(self) -> None:
-        with mock.patch.object(origin.Kept, "is_made_from", return_value=False), self.assertRaisesRegex(
+        with mock.patch.object(kept.Kept, "is_made_from", return_value=False), self.assertRaisesRegex(
             Refused, "not proved"
         ):
             origin.origin_of(TOP)

@@ -19,7 +19,7 @@ FILES = ["--file-calls", "--pool", "data.file=64K"]
 POOL = ["--pool", "data.pool=16K"]
 
 
-def run(words: list[str], folder: str) -> subprocess.CompletedProcess:
+def run(words: list[str], folder: str) -> subprocess.CompletedProcess[str]:
     """Runs a command, whose exit code must be 0."""
     done = subprocess.run(words, cwd=folder, capture_output=True, encoding="latin-1")
     if done.returncode:
@@ -48,7 +48,7 @@ class Setting(ClangCase):
         """What `hippo run` prints; the run must end with `stop 0`."""
         done = run([HIPPO, "run", text], self.folder)
         self.assertEqual(done.stderr.strip().splitlines()[-1], "stop 0")
-        return done.stdout
+        return str(done.stdout)
 
     def built(self, text: str) -> str:
         """What a lowered text prints that is built for the processor."""
@@ -75,7 +75,7 @@ class Setting(ClangCase):
     def output_of(self, source: str) -> str:
         """What a native build prints."""
         run(["clang-19", "-O1", *FLAGS, "-o", "program", source, self.externals(), "-lpthread", "-lm"], self.folder)
-        return run([f"{self.folder}/program"], self.folder).stdout
+        return str(run([f"{self.folder}/program"], self.folder).stdout)
 
 
 class Runtime(Setting):

@@ -39,7 +39,7 @@ define i32 @main() {
 class Targets(ClangCase):
     """What tools/lower says to texts of several targets."""
 
-    def lower(self, text: str, *words: str, name: str = "text.ll") -> subprocess.CompletedProcess:
+    def lower(self, text: str, *words: str, name: str = "text.ll") -> subprocess.CompletedProcess[str]:
         """Lowers a text."""
         path = os.path.join(self.folder, name)
         with open(path, "w", encoding="utf-8") as file:
@@ -48,7 +48,7 @@ class Targets(ClangCase):
             [os.path.join(TOOLS, "lower"), path, *words], capture_output=True, encoding="latin-1", check=False
         )
 
-    def is_refused(self, done: subprocess.CompletedProcess, reason: str) -> None:
+    def is_refused(self, done: subprocess.CompletedProcess[str], reason: str) -> None:
         """The text is refused for its target, by name."""
         self.assertEqual((done.returncode, done.stdout), (5, ""), done.stderr)
         self.assertRegex(done.stderr, rf"lower: \S+: the target {reason} is not that of x86-64 and Linux")

@@ -37,7 +37,8 @@ class Trial:
                 self.copies += 1
                 number = self.copies
             self.own.copy = make_copy(self.folder / f"copy{number}")
-        return self.own.copy
+        found: Path = self.own.copy
+        return found
 
     def say(self, line: str, is_wrong: bool = False) -> None:
         """Prints a line, and keeps it if something is wrong."""

@@ -16,6 +16,7 @@ from packages import Packages  # noqa: E402
 from pieces import PIECES, Piece  # noqa: E402
 from programs import sources_of  # noqa: E402
 from steps import Differs, clang_flags, run, source_files  # noqa: E402
+from typing import Any
 
 NAMES = (
     "btrfs_rbtree",
@@ -73,7 +74,7 @@ def parse() -> argparse.Namespace:
     return parser.parse_args()
 
 
-def explored(text: str, folder: str, given: list[str], seed: int, seconds: str) -> dict:
+def explored(text: str, folder: str, given: list[str], seed: int, seconds: str) -> dict[str, Any]:
     """The answer of explore on a lowered text. The first search writes a corpus."""
     answer = os.path.join(folder, f"answer.{seed}.json")
     bounds = ["--range", "0-2000"] if given is SEED else []
@@ -100,10 +101,11 @@ def explored(text: str, folder: str, given: list[str], seed: int, seconds: str) 
     if not os.path.exists(answer):
         raise Differs(f"hippo-c explore: {ended.stderr.strip()}")
     with open(answer, encoding="utf-8") as file:
-        return json.load(file)
+        found: dict[str, Any] = json.load(file)
+        return found
 
 
-def groups_of(answer: dict) -> int:
+def groups_of(answer: dict[str, Any]) -> int:
     """The groups of reports, those after power cuts too."""
     return sum(len(one["groups"]) for one in answer["inputs"]) + len(answer["after_cuts"])
 
@@ -121,7 +123,7 @@ def lowered_piece(piece: Piece, source: str, folder: str) -> str:
     return lowered([*piece.options, *source_files(piece, source), "--", *flags], folder)
 
 
-def row(name: str, text: str, given: list[str], folder: str, seconds: tuple[str, str]) -> tuple[list, int]:
+def row(name: str, text: str, given: list[str], folder: str, seconds: tuple[str, str]) -> tuple[list[object], int]:
     """The row of a program, and the number of groups that are left; the seconds are those of the first and of the second search."""
     repaired = f"{folder}/repaired.ll"
     found = explored(text, folder, given, 1, seconds[0])
@@ -172,7 +174,9 @@ def main() -> int:
             except Differs as difference:
                 cells, left = [f"FAILED {name}: {difference}"], 1
         all_left += left
-        print("| " + " | ".join(f"{cell:,}" if isinstance(cell, int) else cell for cell in cells) + " |", flush=True)
+        print(
+            "| " + " | ".join(f"{cell:,}" if isinstance(cell, int) else str(cell) for cell in cells) + " |", flush=True
+        )
     return 1 if all_left else 0
 
 

@@ -99,7 +99,7 @@ def unpack(archive: str, place: str) -> None:
     """Unpacks an archive into a folder, which appears only when it is complete."""
     partial = place + ".partial"
     with tarfile.open(archive) as tar:
-        tar.extractall(partial, filter="data")
+        tar.extractall(partial, filter="data")  # type: ignore[call-arg]  # mypy knows an older tarfile
     os.rename(partial, place)
 
 

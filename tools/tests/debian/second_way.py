@@ -26,7 +26,7 @@ from hippo_c.session import Request, Session  # noqa: E402
 from hippo_c.traces import pieces as entries_of  # noqa: E402
 from packages import Packages  # noqa: E402
 from pieces import PIECES, Piece  # noqa: E402
-from steps import clang_flags, configure, make_files, source_files  # noqa: E402
+from steps import Differs, clang_flags, configure, make_files, source_files  # noqa: E402
 
 NATIVE = (
     """-g -fwrapv -fno-strict-aliasing -fno-inline -fno-vectorize -fno-slp-vectorize -fno-unroll-loops -fno-pic -no-pie
@@ -69,7 +69,7 @@ def changed_bytes(path: str, wanted: set[int]) -> dict[int, Byte]:
 
 def reported_bytes(session: Session, path: str, groups: list[Group]) -> list[tuple[Group, Byte]]:
     """For each group a byte of one of its stores."""
-    group_of = {(group.kind, one): group for group in groups for one in (group.path, *group.more)}
+    group_of = {(group.kind, tuple(one)): group for group in groups for one in (group.path, *group.more)}
     stores: dict[int, Group] = {}
     counts: dict[int, int] = {}
     for line in lines_of(["check", session.text_path, path]):
@@ -94,6 +94,8 @@ class Native:
         self.program = program
         sections = output(["llvm-readelf-19", "-S", "--wide", program])
         found = re.search(r"\s\.pm\s+PROGBITS\s+(\w+)\s+\w+\s+(\w+)", sections)
+        if found is None:
+            raise Differs(f"{program} has no section .pm")
         environment = {**os.environ, "STORE_RANGE": f"{found[1]} {found[2]}", "STORE_TRACE": f"{folder}/changes"}
         subprocess.run(
             [program, *arguments],
@@ -165,13 +167,15 @@ def compare(piece: Piece, source: str, level: str, most: int, folder: str) -> tu
     with Session(
         Request(files, flags, [f"-{level}", *piece.options], [[]], None, folder, False, arguments), Progress()
     ) as session:
-        session.lower()
         checked = session.check([], coverage=False)
         own = (os.path.realpath(source) + os.sep, os.path.realpath(HERE) + os.sep)
         tried = reported_bytes(session, checked.path, checked.groups)[:most]
         for group, byte in tried:
             place = session.places.first(group.path)
-            item, offset = session.program.object_at(byte.address)
+            named = session.program.object_at(byte.address)
+            if named is None:
+                raise Differs(f"no object is at {byte.address:#x}")
+            item, offset = named
             native_line = ran.line(item.name, offset, byte.before, own)
             ours = f"{os.path.realpath(place.file)}:{place.line}" if place else "nothing"
             if native_line == ours:

@@ -31,7 +31,7 @@ class Setting:
 
 def run(
     words: list[str], folder: str, environment: dict[str, str] | None = None, codes: tuple[int, ...] = (0,)
-) -> subprocess.CompletedProcess:
+) -> subprocess.CompletedProcess[str]:
     """Runs a command; another exit code than these is a failure, with the first line of its messages."""
     try:
         done = subprocess.run(
@@ -209,7 +209,7 @@ def repaired(text: str, setting: Setting, folder: str, code: int) -> tuple[str, 
     return target, {name: int(counts[name]) for name in COUNTS}
 
 
-def pass_through(piece: Piece, source: str, level: str, setting: Setting) -> tuple:
+def pass_through(piece: Piece, source: str, level: str, setting: Setting) -> tuple[object, ...]:
     """Takes a piece at a level through all steps; returns the lines of C, the level, the lowered lines, the seconds, and the counts."""
     folder = f"{setting.scratch}/{piece.name}.{level}"
     shutil.rmtree(folder, ignore_errors=True)

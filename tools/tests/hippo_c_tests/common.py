@@ -2,6 +2,7 @@
 import base64
 import hashlib
 import os
+import re
 import shutil
 import subprocess
 import sys
@@ -76,16 +77,20 @@ class Case(unittest.TestCase):
         shutil.copy(os.path.join(EXAMPLES, *path), self.folder)
         return path[-1]
 
-    def command(self, *words: str, **more: Any) -> subprocess.CompletedProcess:
-        """Runs a command in the folder."""
-        return subprocess.run(
-            words,
-            stdin=subprocess.DEVNULL,
-            text=True,
-            **{"cwd": self.folder, "stdout": subprocess.PIPE, "stderr": subprocess.PIPE, **more},
-        )
+    def group_in(self, pattern: str, text: str) -> str:
+        """The first group of a pattern that a text has to have."""
+        found = re.search(pattern, text, re.S)
+        if found is None:
+            self.fail(f"{pattern} is not in: {text[:500]}")
+        return str(found[1])
 
-    def hippo_c(self, *words: str, code: int | None = None, **more: Any) -> subprocess.CompletedProcess:
+    def command(self, *words: str, **more: Any) -> subprocess.CompletedProcess[str]:
+        """Runs a command in the folder."""
+        how: dict[str, Any] = {"cwd": self.folder, "stdout": subprocess.PIPE, "stderr": subprocess.PIPE, **more}
+        ran: subprocess.CompletedProcess[str] = subprocess.run(words, stdin=subprocess.DEVNULL, text=True, **how)
+        return ran
+
+    def hippo_c(self, *words: str, code: int | None = None, **more: Any) -> subprocess.CompletedProcess[str]:
         """Runs hippo-c, which must end with the exit code if one is given."""
         ran = self.command(sys.executable, os.path.join(TOOLS, "hippo-c"), *words, **more)
         if code is not None:
@@ -99,7 +104,7 @@ class Case(unittest.TestCase):
         self.assertNotIn("Traceback", ran.stderr, words)
         self.assertIn(ran.stdout, ("", None), words)
 
-    def hippo(self, *words: str) -> subprocess.CompletedProcess:
+    def hippo(self, *words: str) -> subprocess.CompletedProcess[str]:
         """Runs hippo."""
         return self.command(hippo_program(), *words)
 
@@ -107,7 +112,7 @@ class Case(unittest.TestCase):
         """The lowered text of files, with places."""
         ran = self.command(sys.executable, os.path.join(TOOLS, "lower"), "--lines", *words)
         self.assertEqual(ran.returncode, 0, ran.stderr)
-        return ran.stdout
+        return str(ran.stdout)
 
     def program(self, *words: str) -> Program:
         """The lowered program of files."""

@@ -33,7 +33,7 @@ class BugCase(Case):
         """What the engine says; the last line is a summary."""
         ran = self.command(*engine.words(command, numbers, *options))
         self.assertEqual((ran.returncode, ran.stderr), (0, ""), options)
-        lines = ran.stdout.rstrip("\n").split("\n")
+        lines = str(ran.stdout).rstrip("\n").split("\n")
         self.assertTrue(lines[-1].startswith("summary "), lines)
         return lines
 
@@ -41,7 +41,7 @@ class BugCase(Case):
         """The number of failures that the engine finds."""
         return sum(line.startswith("failure ") for line in self.lines(engine, command, numbers, *options))
 
-    def bug(self, name: str, *words: str, code: int) -> subprocess.CompletedProcess:
+    def bug(self, name: str, *words: str, code: int) -> subprocess.CompletedProcess[str]:
         """Explores a program with its bug, from its given input."""
         return self.hippo_c(
             "explore",
@@ -59,7 +59,6 @@ class BugCase(Case):
         """The session of a program with its bug."""
         request = Request([f"{BUGS}/{name}.c"], ["-DBUG=1", "-DVALID"], inputs=[numbers_of(name)], folder=self.folder)
         session = Session(request, Progress(shown=False))
-        session.lower()
         return session
 
     def engine_in(self, session: Session) -> Engine:

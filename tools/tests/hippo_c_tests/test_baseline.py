@@ -43,7 +43,8 @@ class Baseline(Case):
     def check(self, text: str, *words: str, code: int) -> list[str]:
         """The lines that check prints for a program."""
         self.write("a.c", text)
-        return self.hippo_c("check", "a.c", "--no-source", "--no-coverage", *words, code=code).stdout.splitlines()
+        ran = self.hippo_c("check", "a.c", "--no-source", "--no-coverage", *words, code=code)
+        return str(ran.stdout).splitlines()
 
     def lines_of_warnings(self, lines: list[str]) -> list[int]:
         """The lines of C of the warnings."""

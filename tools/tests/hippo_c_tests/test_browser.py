@@ -30,8 +30,8 @@ class Browser(Case):
         self.hippo_c("check", "ring.c", "--html", "a.html", *RING_INPUT, code=1)
         self.write("a.html", with_probe(self.read("a.html"), PROBE))
         words = ["--headless", "--no-sandbox", "--disable-gpu", f'--user-data-dir={self.path("profile")}', "--dump-dom"]
-        shown = self.command(BROWSER, *words, f'file://{self.path("a.html")}', timeout=LONG).stdout
-        keys = json.loads(re.search(r"<title>(.*)</title>", shown)[1])
+        shown = self.command(str(BROWSER), *words, f'file://{self.path("a.html")}', timeout=LONG).stdout
+        keys = json.loads(self.group_in(r"<title>(.*)</title>", shown))
         first, second = keys[0], keys[1]
         self.assertEqual((first[0], first[1], first[3]), (0, False, "f0l47"))
         self.assertEqual((second[0], second[1], second[3]), (1, False, "f0l62"))

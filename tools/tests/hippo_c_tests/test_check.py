@@ -6,6 +6,7 @@ import signal
 import subprocess
 import sys
 import time
+from typing import Any
 
 from .common import EXAMPLES, LONG, RING_INPUT, TOOLS, Case
 
@@ -27,11 +28,12 @@ ring.c:86:26: note: 'take' is called here, by 'main'
 class Check(Case):
     """What check says, and its exit codes."""
 
-    def answer(self, text: str, *words: str, code: int) -> dict:
+    def answer(self, text: str, *words: str, code: int) -> dict[str, Any]:
         """The answer for a program on its one input."""
         self.write("a.c", HEAD + text)
         self.hippo_c("check", "a.c", "--json", "a.json", *words, code=code)
-        return json.loads(self.read("a.json"))["inputs"][0]
+        found: dict[str, Any] = json.loads(self.read("a.json"))["inputs"][0]
+        return found
 
     def test_the_ring_in_ten_lines(self) -> None:
         self.take("ring_buffer", "ring.c")
@@ -333,7 +335,7 @@ class Traps(Case):
         self.refused("hint: give the file that defines main, too", "check", "a.c")
 
 
-def end_group(process: subprocess.Popen) -> None:
+def end_group(process: subprocess.Popen[bytes]) -> None:
     """Ends what a test started and did not end."""
     if process.poll() is None:
         os.killpg(process.pid, signal.SIGKILL)

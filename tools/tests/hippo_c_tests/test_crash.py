@@ -93,7 +93,8 @@ class Images(Case):
         lines = CacheLines()
         lines.take(1, "STORE;0x100000000;0x1;0x8")
         lines.take(2, "STORE;0x100000040;0x1;0x8")
-        before = [lines.key(picks) for picks in ({}, {0: 1}, {0: 1, 1: 1})]
+        every: tuple[dict[int, int], ...] = ({}, {0: 1}, {0: 1, 1: 1})
+        before = [lines.key(picks) for picks in every]
         lines.take(3, "FLUSH;0x100000000;0x40")
         lines.take(4, "FENCE")
         self.assertEqual([lines.key({}), lines.key({1: 1})], before[1:])
@@ -153,7 +154,7 @@ class Crash(Case):
             ran.stdout,
         )
         self.assertRegex(ran.stdout, r"ring\.c:47:3: note: this store to 'ring\.slots\[2\]\.text\[48\]' is lost")
-        again = re.search(r"see it again: hippo-c (.*)", ran.stdout)[1].split(" ")
+        again = self.group_in(r"see it again: hippo-c ([^\n]*)", ran.stdout).split(" ")
         self.assertIn("1 crash image after 1 entry tried; 1 run failed", self.hippo_c(*again, code=1).stdout)
 
     def test_the_repaired_ring_loses_nothing(self) -> None:
@@ -236,7 +237,8 @@ class Crash(Case):
             r"0 runs failed\n",
             ran.stdout,
         )
-        self.assertTrue(found, ran.stdout)
+        if found is None:
+            self.fail(ran.stdout)
         self.assertEqual(found[2], str(len(self.trace_of("ring.c"))))
         self.assertLess(int(found[1]), int(found[2]))
 

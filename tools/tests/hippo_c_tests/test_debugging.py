@@ -39,7 +39,7 @@ class Debug(Case):
         """The words that show a failing image again."""
         ran = self.hippo_c("crash", "table.c", "--input", "5", code=1)
         line = next(line for line in ran.stdout.splitlines() if "see it again: " in line)
-        return line.partition("see it again: hippo-c ")[2].split(" ")
+        return str(line).partition("see it again: hippo-c ")[2].split(" ")
 
     def test_the_native_program_fails_as_hippo_says(self) -> None:
         words = self.failing()

@@ -1,5 +1,6 @@
 """What a program declares volatile to pmemcheck, by the requests of its header."""
 import json
+from typing import Any
 
 from .common import Case
 
@@ -21,12 +22,13 @@ HEAD = """#include <hippo.h>
 class Declared(Case):
     """Reports of bytes that requests take out."""
 
-    def answer(self, text: str, code: int, *words: str) -> dict:
+    def answer(self, text: str, code: int, *words: str) -> dict[str, Any]:
         """The answer for a program on its one input; its lines count from 1."""
         self.write("head.h", HEAD)
         self.write("a.c", f'#include "head.h"\n#line 1\n{text}')
         self.hippo_c("check", "a.c", "--json", "a.json", *words, code=code)
-        return json.loads(self.read("a.json"))["inputs"][0]
+        found: dict[str, Any] = json.loads(self.read("a.json"))["inputs"][0]
+        return found
 
     def lines(self, text: str, code: int) -> tuple[list[int], list[tuple[int, int]]]:
         """The lines of the stores that are reported, and of each request its line and how many reports it takes out."""

@@ -32,7 +32,7 @@ LONGEST = 300
 class Signals(Case):
     """A signal at any time leaves no folder and no program behind."""
 
-    def started(self, *words: str, **environment: str) -> subprocess.Popen:
+    def started(self, *words: str, **environment: str) -> subprocess.Popen[bytes]:
         """hippo-c with a folder for temporary files of its own."""
         os.makedirs(self.path("t"), exist_ok=True)
         return subprocess.Popen(
@@ -44,7 +44,7 @@ class Signals(Case):
             env={**os.environ, "TMPDIR": self.path("t"), **environment},
         )
 
-    def waits_until(self, holds: Callable[[], bool], process: subprocess.Popen) -> None:
+    def waits_until(self, holds: Callable[[], bool], process: subprocess.Popen[bytes]) -> None:
         """Waits for a state of a process that goes on."""
         until = time.monotonic() + LONGEST
         while not holds():
@@ -64,7 +64,7 @@ class Signals(Case):
                 continue
         return found
 
-    def ends(self, process: subprocess.Popen, number: int) -> None:
+    def ends(self, process: subprocess.Popen[bytes], number: int) -> None:
         """A signal ends the process with its exit code, and nothing is left."""
         process.send_signal(number)
         _, notes = process.communicate(timeout=LONGEST)
@@ -73,7 +73,7 @@ class Signals(Case):
         self.assertEqual(self.programs(), [])
         self.assertEqual(os.listdir(self.path("t")), [])
 
-    def catches(self, process: subprocess.Popen) -> bool:
+    def catches(self, process: subprocess.Popen[bytes]) -> bool:
         """Whether a process has taken over the signals."""
         with open(f"/proc/{process.pid}/status", encoding="ascii") as status:
             caught = next(line for line in status if line.startswith("SigCgt")).split()[1]

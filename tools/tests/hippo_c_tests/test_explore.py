@@ -45,7 +45,7 @@ class Images(BugCase):
 
 def all_images(entries: list[str]) -> list[tuple[int, list[str]]]:
     """Every entry of a trace with stores, with no line picked and with each line alone at each number of stores."""
-    found = []
+    found: list[tuple[int, list[str]]] = []
     counts: dict[int, int] = {}
     for number, entry in enumerate(entries, 1):
         if entry.startswith("STORE"):
@@ -83,7 +83,6 @@ class Confirming(BugCase):
     def test_a_changed_report_is_not_shown(self) -> None:
         self.take("from_c", "log.c")
         session = Session(Request([self.path("log.c")], folder=self.folder), Progress(shown=False))
-        session.lower()
         engine = Engine(session.program, self.folder)
         lines = self.lines(engine, "replay", [], "--runs", "2000", "--crashes", "0")
         for change, refused in (("", 0), ("missing=flush", 1)):
@@ -121,7 +120,7 @@ class Command(BugCase):
         )
         self.assertIn("note: the run from that image ends here", ran.stdout)
         self.assertRegex(ran.stdout, r"note: this store to 'bank\.balances\[\d+\]' is lost")
-        again = re.search(r"see it again: hippo-c (.*)", ran.stdout)[1].split(" ")
+        again = self.group_in(r"see it again: hippo-c ([^\n]*)", ran.stdout).split(" ")
         self.assertIn("after 2 power cuts the next run fails", self.hippo_c(*again, code=1).stdout)
         answer = json.loads(self.read("a.json"))
         self.assertEqual(len(answer["failures"][0]["cuts"]), 2)
@@ -277,4 +276,4 @@ class Command(BugCase):
 
 
 if __name__ == "__main__":
-    sys.exit(unittest.main())
+    unittest.main()

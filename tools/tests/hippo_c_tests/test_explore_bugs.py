@@ -28,7 +28,7 @@ FLUSH_OR_FENCE = re.compile(r"call void @pmem_(flush|drain|persist)\(")
 
 def without(text: str, function: str, number: int) -> str:
     """A lowered text without one of the flushes and fences of a function, counted from 0."""
-    start = re.search(rf"^define .*@{function}\(", text, re.M).start()
+    start = next(found.start() for found in re.finditer(rf"^define .*@{function}\(", text, re.M))
     found = list(FLUSH_OR_FENCE.finditer(text, start, text.index("\n}", start)))[number]
     first, last = text.rindex("\n", 0, found.start()), text.index("\n", found.start())
     return text[:first] + text[last:]
@@ -119,7 +119,8 @@ class Bugs(BugCase):
             "      if (TORN) { s.b += n; pmem_persist(&s.b, 8); }\n    } else print_i64(s.a * 100 + s.b);\n  }\n}\n"
         )
         self.write("a.c", text)
-        for early, torn, wanted in ((0, 0, set()), (1, 0, {"1"}), (0, 1, {"1"})):
+        every: tuple[tuple[int, int, set[str]], ...] = ((0, 0, set()), (1, 0, {"1"}), (0, 1, {"1"}))
+        for early, torn, wanted in every:
             folder = self.path(f"{early}{torn}")
             os.makedirs(folder)
             engine = Engine(self.program(self.path("a.c"), "--", f"-DEARLY={early}", f"-DTORN={torn}"), folder)

@@ -125,7 +125,7 @@ class Ends(BugCase):
 
     def test_jobs_are_seeds_one_after_another(self) -> None:
         words = (f"{BUGS}/rare_branch.c", "--input", "1", "2", "0", "--runs", "400", "--crashes", "0")
-        answers = []
+        answers: list[set[str]] = []
         for jobs, seed in (("2", "4"), ("1", "4"), ("1", "5")):
             corpus = f"corpus.{len(answers)}"
             self.hippo_c("explore", *words, "--jobs", jobs, "--seed", seed, "--corpus", corpus, code=0)

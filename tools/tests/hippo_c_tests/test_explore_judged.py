@@ -72,7 +72,6 @@ class Judged(Case):
         """The session of a program with its bug."""
         request = Request([f"{BUGS}/{name}.c"], ["-DBUG=1", "-DVALID"], inputs=[numbers_of(name)], folder=self.folder)
         session = Session(request, Progress(shown=False))
-        session.lower()
         return session
 
     def test_an_engine_with_another_trace_is_refused(self) -> None:

@@ -79,9 +79,9 @@ class Behaviours(BugCase):
             "--virtual-time-budget=5000",
             "--dump-dom",
         ]
-        shown = self.command(BROWSER, *words, f'file://{self.path("a.html")}', timeout=300).stdout
+        shown = self.command(str(BROWSER), *words, f'file://{self.path("a.html")}', timeout=300).stdout
         seen = json.loads(
-            re.search(r"<title>(.*)</title>", shown)[1].replace("&lt;", "<").replace("&gt;", ">").replace("&amp;", "&")
+            self.group_in(r"<title>(.*)</title>", shown).replace("&lt;", "<").replace("&gt;", ">").replace("&amp;", "&")
         )
         self.assertLess(seen["heights"][0], seen["heights"][1])
         self.assertLessEqual(seen["section"][1], seen["panes"] + 1)

@@ -58,7 +58,7 @@ class Pools(BugCase):
         )
         line = VERSIONS[: VERSIONS.index("// no flush")].count("\n") + 1
         self.assertRegex(ran.stdout, rf"versions\.c:{line}:\d+: warning: store of 8 bytes to")
-        again = re.search(r"see it again: hippo-c (check .*)", ran.stdout)[1].split(" ")
+        again = self.group_in(r"see it again: hippo-c (check [^\n]*)", ran.stdout).split(" ")
         self.assertIn(f'--pool=data.pool=4K,{os.path.join("found", "1.data.bin")}', again)
         self.assertIn(f"versions.c:{line}:", self.hippo_c(*again, code=1).stdout)
         self.hippo_c("check", "versions.c", *LOWERING, code=0)

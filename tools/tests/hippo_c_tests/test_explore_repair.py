@@ -1,6 +1,7 @@
 """One repair for all that explore found: explore, repair, explore ends without a new report."""
 import json
 import unittest
+from typing import Any
 
 from .explore_case import BugCase
 
@@ -77,7 +78,7 @@ int main(void) {
 class Loop(BugCase):
     """Programs with bugs that their given inputs do not show."""
 
-    def explored(self, file: str, numbers: tuple[str, ...], seed: int, *words: str, code: int) -> dict:
+    def explored(self, file: str, numbers: tuple[str, ...], seed: int, *words: str, code: int) -> dict[str, Any]:
         """The answer of explore."""
         self.hippo_c(
             "explore",
@@ -93,9 +94,10 @@ class Loop(BugCase):
             *words,
             code=code,
         )
-        return json.loads(self.read("a.json"))
+        found: dict[str, Any] = json.loads(self.read("a.json"))
+        return found
 
-    def loop(self, file: str, *numbers: str) -> tuple[dict, str]:
+    def loop(self, file: str, *numbers: str) -> tuple[dict[str, Any], str]:
         """Explores, repairs for all that was found, and explores the repaired program from another seed: what was found, and the corpus."""
         found = self.explored(file, numbers, 1, "--corpus", "corpus", code=1)
         repaired = self.hippo_c("repair", file, "--inputs", "corpus", "-o", "repaired.ll", code=0).stdout

@@ -38,13 +38,14 @@ class Words(BugCase):
     """Programs that read the words of the command line."""
 
     def test_words_and_their_numbers(self) -> None:
-        for words in (
+        every: tuple[list[str], ...] = (
             [],
             ["add", "5"],
             ["", "a"],
             ["eightbyt", "sixteen letters.", "a longer word than these"],
             ["\udcff\udc80"],
-        ):
+        )
+        for words in every:
             self.assertEqual(decoded([*encoded(words), 3, 4]), (words, [3, 4]), words)
         self.assertEqual(encoded(["set", "5"]), [7628147, 53, 0])
         self.assertEqual(decoded([7628147]), (["set"], []))

@@ -5,6 +5,7 @@ import json
 from .common import RING_INPUT, Case
 
 from hippo_c.history import History, applied
+from typing import Any
 
 REQUIRED = {  # SARIF 2.1.0: the required properties of each object that hippo-c writes.
     "log": ("version", "runs"),
@@ -33,8 +34,8 @@ class Page(html.parser.HTMLParser):
     def handle_starttag(self, tag: str, attributes: list[tuple[str, str | None]]) -> None:
         """Opens an element."""
         given = dict(attributes)
-        self.ids += [given["id"]] if "id" in given else []
-        self.outside += [given[name] for name in ("src", "href") if name in given]
+        self.ids += [value for name, value in attributes if name == "id" and value is not None]
+        self.outside += [value for name, value in attributes if name in ("src", "href") and value is not None]
         self.rows += "line" in (given.get("class") or "").split()
         if tag not in self.EMPTY:
             self.open.append(tag)
@@ -97,7 +98,7 @@ class Forms(Case):
             self.assertRegex(result["partialFingerprints"]["hippoStore/v2"], r"^[0-9a-f]{64}$")
 
     def test_fingerprints_stay_when_lines_move(self) -> None:
-        def fingerprints(name: str) -> list[dict]:
+        def fingerprints(name: str) -> list[dict[str, Any]]:
             self.hippo_c("check", name, "--sarif", "a.sarif", *RING_INPUT, code=1)
             return [result["partialFingerprints"] for result in json.loads(self.read("a.sarif"))["runs"][0]["results"]]
 

@@ -42,12 +42,12 @@ class Install(Case):
     def setUp(self) -> None:
         """Needs a built program."""
         super().setUp()
-        self.program = built_program()
-        if not self.program:
+        self.built = built_program()
+        if not self.built:
             self.skipTest("hippo is not built")
 
     def test_an_installation_runs_alone(self) -> None:
-        ran = self.command("python3", "-B", f"{TOOLS}/hippo-c", "install", "here", "--program", self.program)
+        ran = self.command("python3", "-B", f"{TOOLS}/hippo-c", "install", "here", "--program", self.built)
         self.assertEqual(ran.returncode, 0, ran.stderr)
         for name in (
             "bin/hippo",

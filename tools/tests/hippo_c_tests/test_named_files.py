@@ -49,7 +49,7 @@ class Leaks(Case):
         ran = self.hippo_c(*words, code=1, env={**os.environ, **environment}, timeout=240)
         self.assertIn("1 report in 1 group", ran.stdout)
         self.assertIn(f"{name}:2:20: warning: store of 8 bytes", ran.stdout)
-        return ran.stdout + ran.stderr + "".join(map(self.read, ("a.json", "a.sarif", "a.html")))
+        return str(ran.stdout) + str(ran.stderr) + "".join(map(self.read, ("a.json", "a.sarif", "a.html")))
 
     def test_the_environment_is_not_read(self) -> None:
         self.assertNotIn(SECRET, self.forms("/proc/self/environ", A_TOKEN=SECRET))
@@ -197,7 +197,7 @@ class Letters(Case):
             "b.html", self.read("a.html").replace("</footer>", '</footer><script>document.title = "forged"</script>')
         )
         words = ["--headless", "--no-sandbox", "--disable-gpu", f'--user-data-dir={self.path("profile")}', "--dump-dom"]
-        dom = self.command(BROWSER, *words, f'file://{self.path("b.html")}#g0').stdout
+        dom = self.command(str(BROWSER), *words, f'file://{self.path("b.html")}#g0').stdout
         self.assertIn("<ol><li>the store: ", dom, "the script of the page shows the first group")
         self.assertIn("<title>hippo-c: ", dom)
 

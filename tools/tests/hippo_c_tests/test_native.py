@@ -234,4 +234,4 @@ class Building(NativeCase):
 
 
 if __name__ == "__main__":
-    sys.exit(unittest.main())
+    unittest.main()

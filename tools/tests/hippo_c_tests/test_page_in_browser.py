@@ -8,6 +8,7 @@ import subprocess
 import sys
 import tempfile
 import unittest
+from typing import Any
 
 from .common import TOOLS, Case
 from .test_browser import BROWSER
@@ -54,7 +55,7 @@ class PageInBrowser(Case):
             with open(os.path.join(folder, "a.html"), encoding="utf-8") as file:
                 cls.page = file.read()
 
-    def shown(self, scheme: int, fragment: str = "") -> dict:
+    def shown(self, scheme: int, fragment: str = "") -> dict[str, Any]:
         """What the probe finds in a colour scheme, 0 for dark and 1 for light, at a link into the page."""
         mark = base64.b64encode(hashlib.sha256(PROBE.encode()).digest()).decode()
         text = self.page.replace("script-src ", f"script-src &#x27;sha256-{mark}&#x27; ", 1)
@@ -68,15 +69,13 @@ class PageInBrowser(Case):
             f"--blink-settings=preferredColorScheme={scheme}",
             "--dump-dom",
         ]
-        dom = self.command(BROWSER, *words, f'file://{self.path("a.html")}{fragment}').stdout
-        return json.loads(
-            re.search(r"<title>(.*?)</title>", dom, re.S)[1]
-            .replace("&lt;", "<")
-            .replace("&gt;", ">")
-            .replace("&amp;", "&")
+        dom = self.command(str(BROWSER), *words, f'file://{self.path("a.html")}{fragment}').stdout
+        found: dict[str, Any] = json.loads(
+            self.group_in(r"<title>(.*?)</title>", dom).replace("&lt;", "<").replace("&gt;", ">").replace("&amp;", "&")
         )
+        return found
 
-    def is_at(self, seen: dict, number: int) -> None:
+    def is_at(self, seen: dict[str, Any], number: int) -> None:
         """The page shows a group: it is chosen, its line is marked, and the address names it."""
         self.assertEqual(
             (seen["chosen"], seen["hidden"], seen["line"], seen["hash"]),
@@ -84,7 +83,7 @@ class PageInBrowser(Case):
         )
         self.assertIn(f"'a[{number}]'", seen["heading"])
 
-    def has_contrast(self, found: dict) -> None:
+    def has_contrast(self, found: dict[str, Any]) -> None:
         """Each text that is there can be read: a contrast of 4.5 at least."""
         there = {name: contrast for name, contrast in found["contrasts"].items() if contrast is not None}
         self.assertGreater(len(there), 10)

@@ -108,7 +108,7 @@ class Parts(Case):
             *more,
             code=0,
         )
-        printed = []
+        printed: list[list[str]] = []
         for name, source in (("native", part), ("built", "part.o")):
             built = self.command(*command, name, source, driver)
             self.assertEqual(built.returncode, 0, built.stderr)

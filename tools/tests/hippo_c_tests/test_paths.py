@@ -6,7 +6,7 @@ from unittest import mock
 from . import common  # noqa: F401
 
 from hippo_c.findings import shortened
-from hippo_c.paths import Paths
+from hippo_c.paths import Path, Paths
 from hippo_c.program import parse_site, show_site
 from hippo_c.reports import grouped
 
@@ -20,7 +20,8 @@ class Reads(unittest.TestCase):
         """Whatever comes after another: deeper and less deep calls, other ones, and the same again."""
         chance = random.Random(1)
         sites = [show_site((name, "entry", number)) for name in ("f", "g", "main") for number in range(3)]
-        paths, words, known = Paths(), [sites[0]], {}
+        paths, words = Paths(), [sites[0]]
+        known: dict[tuple[str, ...], Path] = {}
         for _ in range(4000):
             way = chance.randrange(5)
             if way == 0:

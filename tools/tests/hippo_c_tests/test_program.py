@@ -49,7 +49,8 @@ class Texts(Case):
 
     def test_addresses_are_those_of_the_trace(self) -> None:
         stores = [int(line.split(";")[1], 16) for line in self.read("a.trace").split("\n") if line.startswith("STORE")]
-        names = [(self.found.object_at(address)[0].name, self.found.object_at(address)[1]) for address in stores]
+        objects = [found for address in stores if (found := self.found.object_at(address))]
+        names = [(item.name, offset) for item, offset in objects]
         self.assertEqual(names, [("b", 8), ("c", 0), ("a", 0)])
         self.assertEqual(f"{self.found.region_size():#x}", self.read("a.trace").split("\n")[1].split(";")[2])
         self.assertIsNone(self.found.object_at(stores[2] + 1))
@@ -57,7 +58,7 @@ class Texts(Case):
     def test_sites(self) -> None:
         site = ("main", "next", 0)
         self.assertEqual(parse_site(show_site(site)), site)
-        self.assertEqual(self.found.instruction(site).text, "store i16 3, ptr @c")
+        self.assertEqual(self.found.at(site).text, "store i16 3, ptr @c")
         self.assertIsNone(self.found.instruction(("main", "next", 9)))
 
     def test_groups_come_by_their_first_entry(self) -> None:
@@ -88,7 +89,7 @@ class Texts(Case):
             original = self.found.instruction(repair.site_of(site))
             added = [item.instruction for item in repair.insertions if item.instruction is instruction]
             if not added and instruction.callee not in repair.clones:
-                self.assertEqual(instruction.text, original.text)
+                self.assertEqual(instruction.text, original.text if original else None)
 
     def test_a_fence_before_a_fence_belongs_to_its_call(self) -> None:
         repaired = Program(

@@ -38,7 +38,7 @@ class Repair(Case):
 
     def run_built(self, text: str) -> str:
         """What the executable prints for an input."""
-        return self.command("bash", "-c", f'echo "{text}" | ./built').stdout
+        return str(self.command("bash", "-c", f'echo "{text}" | ./built').stdout)
 
     def test_the_text_is_hippos(self) -> None:
         self.take("ring_buffer", "ring.c")
@@ -105,13 +105,13 @@ class Repair(Case):
         self.take("from_c", "undo.c")
         self.take("from_c", "undo.in")
         ran = self.hippo_c("repair", "undo.c", "-o", "undo.ll", "--keep", "kept", "--input-file", "undo.in", code=0)
-        found = re.search(r"(\d+) flushes before, (\d+) after; (\d+) fences before, (\d+) after", ran.stdout)
+        found = re.findall(r"(\d+) flushes before, (\d+) after; (\d+) fences before, (\d+) after", ran.stdout)
         counts = [
             len(re.findall(rf"^(?:{word}|PERSIST)", self.read(f"kept/{name}"), re.M))
             for word in ("FLUSH", "FENCE")
             for name in ("program.1.trace", "repaired.1.trace")
         ]
-        self.assertEqual(list(map(int, found.groups())), counts)
+        self.assertEqual([list(map(int, one)) for one in found], [counts])
 
     def test_an_object_file_prints_the_same_and_knows_its_lines(self) -> None:
         name = self.take("ring_buffer", "ring.c")
@@ -145,7 +145,7 @@ class Repair(Case):
         )
         self.build("a.o")
         symbols = self.command("llvm-nm-19", "built").stdout
-        start = int(re.search(r"(\w+) T twice", symbols)[1], 16)
+        start = int(self.group_in(r"(\w+) T twice", symbols), 16)
         found = self.command("llvm-symbolizer-19", "-e", "built", *(hex(start + byte) for byte in range(24))).stdout
         self.assertRegex(found, r"set\n\S*set\.h:2:\d+\ntwice\n\S*a\.c:5:\d+\n")
 

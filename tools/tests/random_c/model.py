@@ -9,7 +9,7 @@ LINE = 64
 DURABLE, NO_FLUSH, NO_FENCE, NEITHER = "", "flush", "fence", "both"
 ALL = (DURABLE, NO_FLUSH, NO_FENCE, NEITHER)
 # The possible states of a byte: a compiler may have stored it or not.
-States = frozenset
+States = frozenset[str]
 ONLY_DURABLE, ONLY_NEITHER = frozenset([DURABLE]), frozenset([NEITHER])
 
 

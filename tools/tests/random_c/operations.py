@@ -91,7 +91,8 @@ class Operations:
     def any(self, variables: str) -> Operation:
         """A random operation."""
         forms, weights = zip(*self.forms)
-        return self.chance.choices(forms, weights=weights)[0](variables)
+        chosen: Callable[[str], Operation] = self.chance.choices(forms, weights=weights)[0]
+        return chosen(variables)
 
     def assign(self, variables: str) -> Operation:
         """A store of a scalar."""

@@ -132,7 +132,7 @@ void *$name(void *p) { return ${name}_v($words); }"""
         kept=KEPT,
         name=name,
         skip=" ".join(f"(void)va_arg(a, {type_});" for type_ in before),
-        words=", ".join(["1", *map(given.get, before), "p", "7"]),
+        words=", ".join(["1", *(given[type_] for type_ in before), "p", "7"]),
     )
 
 

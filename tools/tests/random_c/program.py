@@ -123,7 +123,7 @@ class Writer:
 
     def statement(self, variables: str, depth: int) -> Operation:
         """An operation, or a form around several."""
-        forms = [self.loop, self.branch, self.choice] if depth else []
+        forms: list[Callable[[str, int], Operation]] = [self.loop, self.branch, self.choice] if depth else []
         if self.functions and "i" not in variables:
             forms += [self.call, self.call_by_pointer]
         if self.catching:

@@ -8,7 +8,7 @@ import shutil
 import subprocess
 import sys
 from collections.abc import Iterator
-from typing import NamedTuple
+from typing import Any, NamedTuple
 
 from .judge import Addresses, Judge
 from .program import File, make_program
@@ -33,12 +33,12 @@ class Found(NamedTuple):
     text: str
 
 
-def output_of(command: list[str], **more: object) -> str:
+def output_of(command: list[str], **more: Any) -> str:
     """What a command writes; it must end with 0."""
     done = subprocess.run(command, capture_output=True, encoding="latin-1", check=False, **more)
     if done.returncode:
         raise RuntimeError(f'{" ".join(command[:4])} .. ended with {done.returncode}: {done.stderr[-2000:]}')
-    return done.stdout
+    return str(done.stdout)
 
 
 class Bundle:

@@ -47,13 +47,13 @@ class Bugs:
     def __init__(self, work: Work, text: str = "") -> None:
         self.work, self.folder, self.hippo = work, work.folder, work.setting.hippo
         self.text = text or work.lowered(PIECES[0], "--lines")
-        self.clean: dict[tuple[str, int], tuple[Counter, str]] = {}
+        self.clean: dict[tuple[str, int], tuple[Counter[tuple[str, tuple[str, ...]]], str]] = {}
 
     def with_checks(self, text: str, check: str) -> str:
         """A text with the checks of one kind."""
         return boundaries.Placing(text, CHECKS[check]).placed() if CHECKS[check] else text
 
-    def reports(self, name: str, text: str, kind: int) -> tuple[Counter, str, str]:
+    def reports(self, name: str, text: str, kind: int) -> tuple[Counter[tuple[str, tuple[str, ...]]], str, str]:
         """The kinds and places of the reports of a run, its trace's file, and how it ends."""
         path, trace = f"{self.folder}/{name}.ll", f"{self.folder}/{name}.trace"
         with open(path, "w", encoding="latin-1") as file:
@@ -64,13 +64,13 @@ class Bugs:
             )
             file.write(done.stdout)
         places = Places(Program(text))
-        found: Counter = Counter()
+        found: Counter[tuple[str, tuple[str, ...]]] = Counter()
         for line in run([self.hippo, "check", path, trace], self.folder).stdout.splitlines():
             kind_of, path_of = line.split(" ")[1], line.rpartition("path ")[2]
             found[kind_of, tuple(map(str, places.along(tuple(map(parse_site, path_of.split(" "))))))] += 1
         return found, trace, done.stderr.strip().splitlines()[-1]
 
-    def without_bug(self, check: str, kind: int) -> tuple[Counter, str]:
+    def without_bug(self, check: str, kind: int) -> tuple[Counter[tuple[str, tuple[str, ...]]], str]:
         """The reports of the program without a bug, and its trace."""
         if (check, kind) not in self.clean:
             found, trace, _ = self.reports(f"clean.{check}.{kind}", self.with_checks(self.text, check), kind)

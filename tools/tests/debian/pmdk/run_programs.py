@@ -68,7 +68,8 @@ class Piece:
 
 def map_input(kind: int, count: int = OPERATIONS, seed: int = 1) -> list[int]:
     """The numbers for a map: insertions of new keys, and removals of keys that are there."""
-    chosen, keys, numbers = random.Random(seed), set(), [kind]
+    chosen, numbers = random.Random(seed), [kind]
+    keys: set[int] = set()
     for _ in range(count):
         if keys and chosen.random() > 0.65:
             key = chosen.choice(sorted(keys))
@@ -261,7 +262,7 @@ def processor_seconds() -> float:
     return used.children_user + used.children_system
 
 
-def rows_of(work: Work, piece: Piece) -> list[tuple]:
+def rows_of(work: Work, piece: Piece) -> list[tuple[object, ...]]:
     """The rows of a piece, one for each input."""
     begin = processor_seconds()
     text = f"{work.folder}/{piece.name}.ll"
@@ -270,7 +271,7 @@ def rows_of(work: Work, piece: Piece) -> list[tuple]:
     seconds = processor_seconds() - begin
     program, declared = work.native(piece), work.declared(piece)
     counted = [*(f"{work.library.source}/{EXAMPLE}/{name}" for name in piece.counted), *work.files_of(piece)[1:]]
-    rows = []
+    rows: list[tuple[object, ...]] = []
     for (name, numbers), (quiet, loud) in zip((piece.inputs or {piece.name: []}).items(), declared):
         found = work.try_input(name, text, program, numbers)
         if loud:
@@ -297,7 +298,7 @@ def rows_of(work: Work, piece: Piece) -> list[tuple]:
 def source_of(options: argparse.Namespace) -> str:
     """The folder of PMDK's source."""
     if options.source:
-        return options.source
+        return str(options.source)
     found = Packages(options.folder, SUITE).source("pmdk")
     if not found:
         sys.exit("the source of pmdk could not be fetched")
@@ -336,7 +337,9 @@ def main() -> int:
             try:
                 for row in rows_of(work, piece):
                     print(
-                        "| " + " | ".join(f"{value:,}" if isinstance(value, int) else value for value in row) + " |",
+                        "| "
+                        + " | ".join(f"{value:,}" if isinstance(value, int) else str(value) for value in row)
+                        + " |",
                         flush=True,
                     )
             except Differs as difference:

@@ -161,7 +161,7 @@ class Tests:
             file.write(done.stdout)
         return text
 
-    def row(self, test: Test) -> tuple[bool, tuple]:
+    def row(self, test: Test) -> tuple[bool, tuple[object, ...]]:
         """Whether a test prints the same in hippo, and its row."""
         try:
             expected = self.native(test)
@@ -228,7 +228,7 @@ def main() -> int:
             for is_same, row in workers.map(tests.row, chosen):
                 same += is_same
                 print(
-                    "| " + " | ".join(f"{value:,}" if isinstance(value, int) else value for value in row) + " |",
+                    "| " + " | ".join(f"{value:,}" if isinstance(value, int) else str(value) for value in row) + " |",
                     flush=True,
                 )
     print(f"{same} of {len(chosen)} tests print the same")

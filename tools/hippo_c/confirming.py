@@ -9,7 +9,7 @@ from dataclasses import dataclass, field
 from . import running
 from .crash_answers import with_image
 from .debuginfo import plain
-from .findings import Behaviour, Cut, Failure, Found, Key, Outputs, Refused, Report, shortened
+from .findings import Behaviour, Failure, Found, Key, Outputs, Refused, Report, shortened
 from .following import ENDED, Crash, Following, image_of_trace
 from .pool_starts import Start
 from .program import Site, parse_site

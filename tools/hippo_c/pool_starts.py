@@ -3,7 +3,6 @@ from __future__ import annotations
 
 import os
 
-from . import running
 from .program import REGION_BASE
 from .session import Session
 from .trouble import Trouble

@@ -3,7 +3,6 @@
 from __future__ import annotations
 
 import os
-import re
 import shutil
 import signal
 import subprocess
@@ -12,7 +11,7 @@ import time
 import unittest
 from typing import Any, Callable
 
-from launcher_repository import LONG, RT, TOP, Repository, small_files
+from launcher_repository import LONG, RT, Repository, small_files
 
 
 def next_line(process: subprocess.Popen[str]) -> str:

@@ -14,6 +14,7 @@ import unittest
 from typing import Any
 
 from clang_case import TOOLS, ClangCase
+from processes import hears, lines_of, runs_in
 
 LOWER = os.path.join(TOOLS, "lower")
 GOOD = "#include <hippo.h>\nPERSISTENT long x;\nint main(void) { x = 1; _mm_clwb(&x); _mm_sfence(); return 0; }\n"
@@ -273,36 +274,6 @@ class Ends(ClangCase):
         )
         self.assertEqual(done.returncode, 70)
         self.assertRegex(done.stderr, r'lower:   File ".*/lowering/command.py", line \d+, in lower\n')
-
-
-def lines_of(file: str) -> list[str]:
-    """The lines of a file."""
-    with open(file, encoding="utf-8") as text:
-        return text.read().split()
-
-
-def hears(process: int) -> bool:
-    """Whether a process has a handler of its own for SIGTERM, which Python alone has not."""
-    try:
-        with open(f"/proc/{process}/status", encoding="ascii") as file:
-            caught = next(line for line in file if line.startswith("SigCgt:"))
-    except (OSError, StopIteration):
-        return False
-    return bool(int(caught.split()[1], 16) >> (signal.SIGTERM - 1) & 1)
-
-
-def runs_in(session: int) -> bool:
-    """Whether a process of a session still runs."""
-    for name in os.listdir("/proc"):
-        if name.isdecimal():
-            try:
-                with open(f"/proc/{name}/stat", encoding="latin-1") as text:
-                    state, _, _, found = text.read().rpartition(")")[2].split()[:4]
-            except OSError:
-                continue
-            if int(found) == session and state != "Z":
-                return True
-    return False
 
 
 if __name__ == "__main__":

@@ -2,7 +2,6 @@
 """Each C program in `lowering/` prints, lowered at each level, what clang's own build of it prints (`comparing.py`)."""
 import glob
 import os
-import sys
 import unittest
 
 from clang_case import HIPPO, TESTS, TOOLS

@@ -113,7 +113,12 @@ class Boundaries(Case):
     def test_a_jump_and_an_exit_are_no_return(self) -> None:
         """Only a return of `put` is a check: not a jump through it, nor an exit in it."""
         self.write("jump.c", JUMP)
-        for number, places in ((1, ["when 'put' returns"]), (2, []), (3, ["at the end of the run"])):
+        every: tuple[tuple[int, list[str]], ...] = (
+            (1, ["when 'put' returns"]),
+            (2, []),
+            (3, ["at the end of the run"]),
+        )
+        for number, places in every:
             found = self.messages("jump.c", "--no-coverage", "--check-return", "put", "--input", str(number))
             self.assertEqual(len(found), len(places), found)
             for message, place in zip(found, places):

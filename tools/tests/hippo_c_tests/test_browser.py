@@ -1,6 +1,5 @@
 """The page in a browser: its keys, its filter and the picture of a cache line."""
 import json
-import re
 import shutil
 import unittest
 

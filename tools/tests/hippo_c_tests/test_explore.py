@@ -1,8 +1,6 @@
 """The command explore: what it shows, and that hippo confirms it."""
 import json
-import os
 import re
-import sys
 import unittest
 
 from .common import EXAMPLES

@@ -1,6 +1,5 @@
 """The behaviours of crash points: as data, on the page, and what hippo does not confirm."""
 import json
-import re
 import unittest
 
 from .common import with_probe

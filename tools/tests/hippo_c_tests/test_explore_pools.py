@@ -1,6 +1,5 @@
 """The bytes of the files of pools in the search of explore."""
 import os
-import re
 import unittest
 
 from .explore_case import BugCase

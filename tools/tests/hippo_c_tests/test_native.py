@@ -1,7 +1,6 @@
 """The native recorder: traces and reports of the engine equal hippo's, byte by byte."""
 import os
 import subprocess
-import sys
 import unittest.mock
 
 from .common import EXAMPLES, TOOLS, Case

@@ -7,6 +7,8 @@ import sys
 import traceback
 from typing import IO
 
+from lowering import options as lowering_options
+
 from . import (
     about,
     boundaries,
@@ -31,25 +33,6 @@ from .session import Request
 from .trouble import Trouble
 from .outputs import check_outputs
 
-LOWER_FLAGS = (
-    "mem2reg",
-    "ignore-output",
-    "print-numbers",
-    "time-from-input",
-    "file-calls",
-    "single-thread",
-    "unaligned",
-    "args-from-input",
-    "non-temporal",
-)
-LOWER_VALUES = {
-    "heap": "SIZE",
-    "pool": "NAME=SIZE[,FILE]",
-    "environment": "NAME=VALUE",
-    "wrap": "NAME",
-    "cache": "FOLDER",
-    "array-bound": "SIZE",
-}
 DESCRIPTION = """Durability of C programs, by lines of C.
 
 What hippo-c says about durability is an answer of hippo, in another form; hippo-c itself is not proved."""
@@ -117,16 +100,8 @@ def add_program(command: argparse.ArgumentParser) -> None:
         help=".c, .cpp, or .ll in hippo's subset or of clang 19; without one, those of hippo.toml",
     )
     command.add_argument("-O", dest="level", choices=list("0123s"), help="the level of clang (1)")
-    for name, metavar in LOWER_VALUES.items():
-        command.add_argument(f"--{name}", action="append", metavar=metavar, help="as for lower")
-    for name in LOWER_FLAGS:
-        command.add_argument(f"--{name}", action="store_true", help="as for lower")
+    lowering_options.add_options(command, as_text=True)
     boundaries.add_options(command)
-    command.add_argument(
-        "--compile-commands",
-        metavar="FILE",
-        help="a compile_commands.json, which has the arguments of clang for each .c",
-    )
     command.add_argument("--input", nargs="*", metavar="N", default=None, help="the numbers that the program reads")
     command.add_argument("--input-file", metavar="FILE", help="a file with these numbers")
     command.add_argument(
@@ -160,12 +135,7 @@ def inputs_of(options: argparse.Namespace) -> tuple[list[list[int]], list[Crashe
 
 def lower_words(options: argparse.Namespace) -> list[str]:
     """The options that are passed on to tools/lower."""
-    words = [f"-O{options.level}"] if options.level else []
-    given = vars(options)
-    words += [f"--{name}" for name in LOWER_FLAGS if given[name.replace("-", "_")]]
-    for name in LOWER_VALUES:
-        words += [f"--{name}={value}" for value in given[name.replace("-", "_")] or []]
-    return words + ([f"--compile-commands={options.compile_commands}"] if options.compile_commands else [])
+    return [*([f"-O{options.level}"] if options.level else []), *lowering_options.words_of(options)]
 
 
 def request_of(options: argparse.Namespace, clang: list[str], arguments: list[str]) -> Request:

@@ -5,7 +5,7 @@ import argparse
 import os
 import re
 from dataclasses import dataclass, field
-from typing import IO, Any, NoReturn
+from typing import IO, Any, NamedTuple, NoReturn
 
 from .commands import USAGE, Failure
 
@@ -111,58 +111,7 @@ def build_parser(description: str) -> Parser:
         prog="lower", usage=USAGE_LINE, description=description, formatter_class=argparse.RawDescriptionHelpFormatter
     )
     parser.add_argument("--version", action=ShowVersion)
-    parser.add_argument("--mem2reg", action="store_true", help="keep locals in registers, after -O0")
-    parser.add_argument("--heap", type=size, metavar="SIZE", help="the size of the heap of malloc")
-    parser.add_argument(
-        "--pool",
-        dest="pools",
-        type=pool,
-        action="append",
-        default=[],
-        metavar="NAME=SIZE[,FILE]",
-        help="a file of persistent memory for pmem_map_file and similar calls; FILE has its initial bytes",
-    )
-    parser.add_argument(
-        "--environment",
-        type=variable,
-        action="append",
-        default=[],
-        metavar="NAME=VALUE",
-        help="a variable of the environment, for getenv and the third parameter of main",
-    )
-    parser.add_argument(
-        "--ignore-output",
-        dest="output",
-        action="store_const",
-        const="ignore",
-        default="",
-        help="calls of text output return their result, and write nothing",
-    )
-    parser.add_argument(
-        "--print-numbers",
-        dest="output",
-        action="store_const",
-        const="print",
-        default="",
-        help="calls of text output print their integers by print_i64, and nothing else",
-    )
-    parser.add_argument(
-        "--time-from-input", action="store_true", help="calls for the time read the next number of the input"
-    )
-    parser.add_argument(
-        "--file-calls", action="store_true", help="open, mmap, msync and similar calls work on the pools"
-    )
-    parser.add_argument("--single-thread", action="store_true", help="assume that one thread makes all atomic accesses")
-    parser.add_argument("--unaligned", action="store_true", help="allow accesses at any address, as x86-64 does")
-    parser.add_argument(
-        "--args-from-input",
-        action="store_true",
-        help="the words of the command line are the first numbers of the input, with eight bytes in each, and a 0 after them",
-    )
-    parser.add_argument(
-        "--non-temporal", action="store_true", help="lower a non-temporal store to a store and a flush after it"
-    )
-    parser.add_argument("--array-bound", type=size, metavar="SIZE", help="the size of an array of variable length")
+    add_options(parser)
     parser.add_argument(
         "-o", dest="target", metavar="FILE", default="", help="write the text to FILE, and not to standard output"
     )
@@ -171,22 +120,6 @@ def build_parser(description: str) -> Parser:
         metavar="FILE",
         default="",
         help="write the names that other object files may use, for opt's -internalize-public-api-file",
-    )
-    parser.add_argument(
-        "--compile-commands",
-        metavar="FILE",
-        default="",
-        help="a compile_commands.json, which has the arguments of clang for each C file",
-    )
-    parser.add_argument(
-        "--cache", metavar="FOLDER", default="", help="keep the modules of C files in a folder, for the next command"
-    )
-    parser.add_argument(
-        "--wrap",
-        metavar="NAME",
-        action="append",
-        default=[],
-        help="a file that does not define the function NAME calls __wrap_NAME in its place, and __real_NAME is NAME",
     )
     parser.add_argument(
         "--requests",
@@ -199,6 +132,35 @@ def build_parser(description: str) -> Parser:
     )
     parser.add_argument("files", nargs="+", metavar="FILE")
     return parser
+
+
+def add_options(parser: argparse.ArgumentParser, as_text: bool = False) -> None:
+    """The options that say what a program becomes. As text they are only taken, to be handed on by `words_of`."""
+    for option in OPTIONS:
+        how: dict[str, Any] = {"help": option.help}
+        if option.metavar:
+            how["metavar"] = option.metavar
+        elif as_text or not option.const:
+            how["action"] = "store_true"
+        if option.is_list:
+            how["action"] = "append"
+        if not as_text:
+            how.update(option.read)
+            if option.const:
+                how.update(action="store_const", const=option.const)
+        parser.add_argument(f"--{option.name}", **how)
+
+
+def words_of(given: argparse.Namespace) -> list[str]:
+    """The words that give the options again that were taken as text."""
+    found: list[str] = []
+    for option in OPTIONS:
+        value = getattr(given, option.name.replace("-", "_"))
+        if not option.metavar:
+            found += [f"--{option.name}"] * bool(value)
+        elif value is not None:
+            found += [f"--{option.name}={text}" for text in (value if option.is_list else [value])]
+    return found
 
 
 def size(text: str) -> int:
@@ -222,3 +184,70 @@ def pool(text: str) -> Pool:
     if not (name and mark):
         raise argparse.ArgumentTypeError(f"{text!r} is not a pool, such as data.pool=1M")
     return Pool(name, size(bytes_), content)
+
+
+class Option(NamedTuple):
+    """An option that says what a program becomes: a flag, or an option with a value. `read` is how its value is read."""
+
+    name: str
+    help: str
+    metavar: str = ""
+    is_list: bool = False
+    const: str = ""
+    read: dict[str, Any] = {}
+
+
+OPTIONS = (
+    Option("mem2reg", "keep locals in registers, after -O0"),
+    Option("heap", "the size of the heap of malloc", "SIZE", read={"type": size}),
+    Option(
+        "pool",
+        "a file of persistent memory for pmem_map_file and similar calls; FILE has its initial bytes",
+        "NAME=SIZE[,FILE]",
+        True,
+        read={"dest": "pools", "type": pool, "default": []},
+    ),
+    Option(
+        "environment",
+        "a variable of the environment, for getenv and the third parameter of main",
+        "NAME=VALUE",
+        True,
+        read={"type": variable, "default": []},
+    ),
+    Option(
+        "ignore-output",
+        "calls of text output return their result, and write nothing",
+        const="ignore",
+        read={"dest": "output", "default": ""},
+    ),
+    Option(
+        "print-numbers",
+        "calls of text output print their integers by print_i64, and nothing else",
+        const="print",
+        read={"dest": "output", "default": ""},
+    ),
+    Option("time-from-input", "calls for the time read the next number of the input"),
+    Option("file-calls", "open, mmap, msync and similar calls work on the pools"),
+    Option("single-thread", "assume that one thread makes all atomic accesses"),
+    Option("unaligned", "allow accesses at any address, as x86-64 does"),
+    Option(
+        "args-from-input",
+        "the words of the command line are the first numbers of the input, with eight bytes in each, and a 0 after them",
+    ),
+    Option("non-temporal", "lower a non-temporal store to a store and a flush after it"),
+    Option("array-bound", "the size of an array of variable length", "SIZE", read={"type": size}),
+    Option(
+        "compile-commands",
+        "a compile_commands.json, which has the arguments of clang for each C file",
+        "FILE",
+        read={"default": ""},
+    ),
+    Option("cache", "keep the modules of C files in a folder, for the next command", "FOLDER", read={"default": ""}),
+    Option(
+        "wrap",
+        "a file that does not define the function NAME calls __wrap_NAME in its place, and __real_NAME is NAME",
+        "NAME",
+        True,
+        read={"default": []},
+    ),
+)

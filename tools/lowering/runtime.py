@@ -4,6 +4,7 @@ import os
 import re
 from collections.abc import Callable
 from concurrent.futures import ThreadPoolExecutor
+from functools import partial
 
 from .commands import READ_FAULT, Failure, output_of
 from .externs import EXTERNS
@@ -13,6 +14,7 @@ from .languages import compiler, is_cpp
 from .library import refused_in_library
 from .options import Options, Pool
 from .refusals import Refused
+from .runtime_cache import files_of_rule, kept
 from .start import WORDS_FROM_INPUT
 from .throws import without_throws
 
@@ -22,6 +24,8 @@ IN_PLACE = (JUMP[1:], *SETJMP)
 # Calls that register what runs after main.
 AT_END = {"atexit", "__cxa_atexit", "__cxa_thread_atexit"}
 RUNTIME_FLAGS = ["-O1", "-D_GNU_SOURCE", "-ffreestanding", "-fno-builtin", "-mno-implicit-float", "-w"]
+# The places in a module do not depend on the folder in which the command runs.
+ANYWHERE = "-fdebug-compilation-dir=/"
 # The C++ files make what the headers declare of templates, as those of the user's build.
 OF_CPP = ["-O1", "-std=c++20", "-w"]
 # Files that only an option links: each depends on an assumption that the user must make.
@@ -129,22 +133,30 @@ class Runtime:
 
     def compile_all(self, files: list[str]) -> list[str]:
         """The names of the modules of files of the runtime, which are compiled side by side."""
-        flags = [*self.flags, *macros(self.options), f"-I{RUNTIME}"]
+        flags = [*self.flags, ANYWHERE, *macros(self.options), f"-I{RUNTIME}"]
         if self.has_floats:
             flags.append("-DHIPPO_FLOATS")
         if self.has_new:
             flags.append("-DHIPPO_OWN_NEW")
 
         def one(file: str) -> str:
-            target = f"{self.folder}/{os.path.basename(file)}.ll"
-            more = OF_CPP if is_cpp(file) else RUNTIME_FLAGS
-            text = output_of([*compiler(file), *flags, *more, "-o", "-", file])
-            with open(target, "w", encoding="latin-1") as out:
-                out.write(without_throws(text)[0])
+            target, rule = (f"{self.folder}/{os.path.basename(file)}.{end}" for end in ("ll", "d"))
+            command = [*compiler(file), *flags, *(OF_CPP if is_cpp(file) else RUNTIME_FLAGS), "-o", "-", file]
+            make = partial(made_module, [*command, "-MD", "-MF", rule])
+            if os.path.dirname(file) == RUNTIME:
+                kept(command, make, lambda: files_of_rule(read(rule)), target)
+            else:
+                with open(target, "w", encoding="latin-1") as out:
+                    out.write(make())
             return target
 
         with ThreadPoolExecutor(os.cpu_count()) as workers:
             return list(workers.map(one, files))
+
+
+def made_module(command: list[str]) -> str:
+    """The text of a module of the runtime."""
+    return without_throws(output_of(command))[0]
 
 
 def provides(file: str, needed: set[str]) -> bool:

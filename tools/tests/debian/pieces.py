@@ -1,4 +1,4 @@
-"""The pieces of C that are taken from Debian's source packages, each with the driver that runs it."""
+"""The pieces of C that are taken from Debian's source packages, each with the driver that runs it. `cpp_pieces.py` has those of C++."""
 from dataclasses import dataclass, field
 
 
@@ -22,6 +22,8 @@ class Piece:
         default_factory=dict
     )  # headers that configure makes: NAME.in, by its words
     needs_libpmem: bool = False
+    language: str = "c"  # also the end of the driver's name
+    is_built: bool = False  # the package is a built one, whose headers are enough
 
 
 HEAP = ["persistent_heap.c"]

@@ -1,5 +1,5 @@
 #!/usr/bin/env python3
-"""Real C, unchanged, through tools/lower and hippo.
+"""Real C and C++, unchanged, through tools/lower and hippo.
 
 Sources are fetched from Debian's packages into a folder; nothing of them is part of this repository. Each piece is compiled
 with a driver of this folder. At each level the native build must print what `hippo run` prints; the run is recorded and
@@ -13,6 +13,7 @@ import tempfile
 from concurrent.futures import ThreadPoolExecutor
 
 sys.dont_write_bytecode = True
+from cpp_pieces import CPP_PIECES  # noqa: E402
 from packages import Packages  # noqa: E402
 from pieces import PIECES, Piece  # noqa: E402
 from steps import LEVELS, Differs, Setting, pass_through  # noqa: E402
@@ -55,8 +56,8 @@ def parse() -> argparse.Namespace:
 def sources_of(packages: Packages, pieces: list[Piece]) -> dict[str, str]:
     """The folder of each package that could be fetched; prints the name of each other one."""
     found = {}
-    for package in dict.fromkeys(piece.package for piece in pieces):
-        folder = packages.source(package)
+    for package, is_built in dict.fromkeys((piece.package, piece.is_built) for piece in pieces):
+        folder = packages.binaries(package.split()) if is_built else packages.source(package)
         if folder:
             found[package] = folder
         else:
@@ -76,7 +77,7 @@ def attempt(piece: Piece, source: str, level: str, setting: Setting) -> tuple[bo
 def main() -> int:
     """Tries each piece at each level; returns 0 if all of them pass."""
     options = parse()
-    pieces = [piece for piece in PIECES if not options.names or piece.name in options.names]
+    pieces = [piece for piece in [*PIECES, *CPP_PIECES] if not options.names or piece.name in options.names]
     packages = Packages(options.folder)
     sources = sources_of(packages, pieces)
     libpmem = packages.binaries(PMEM) if any(piece.needs_libpmem for piece in pieces) else None

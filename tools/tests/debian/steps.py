@@ -1,4 +1,4 @@
-"""One piece of C at one level: built natively, lowered, run, recorded, repaired, and built again."""
+"""One piece of C or C++ at one level: built natively, lowered, run, recorded, repaired, and built again."""
 import os
 import re
 import shutil
@@ -52,8 +52,9 @@ def run(
 
 
 def source_files(piece: Piece, source: str) -> list[str]:
-    """All C files of a piece, its driver first."""
-    driver = [] if piece.driver == "-" else [f"{HERE}/{piece.driver or piece.name}.c"]
+    """All files of a piece, its driver first."""
+    folder = HERE if piece.language == "c" else f"{HERE}/{piece.language}"
+    driver = [] if piece.driver == "-" else [f"{folder}/{piece.driver or piece.name}.{piece.language}"]
     return driver + [f"{HERE}/{name}" for name in piece.own] + [f"{source}/{name}" for name in piece.sources]
 
 
@@ -83,7 +84,12 @@ def make_files(piece: Piece, folder: str) -> None:
 def native(piece: Piece, source: str, level: str, setting: Setting, folder: str) -> tuple[str, int]:
     """What the native build prints, and its exit code."""
     program = f"{folder}/native"
-    more = [f"{setting.top}/tools/external_functions.c", "-lpthread"]
+    externals = f"{folder}/external_functions.o"
+    run(
+        ["clang-19", "-c", f"-I{setting.top}/tools", "-o", externals, f"{setting.top}/tools/external_functions.c"],
+        folder,
+    )
+    more = [externals, "-lpthread", "-lm"]
     environment = {}
     if piece.needs_libpmem:
         library = f"{setting.libpmem}/usr/lib/x86_64-linux-gnu"
@@ -102,6 +108,7 @@ def native(piece: Piece, source: str, level: str, setting: Setting, folder: str)
         [
             "clang-19",
             f"-{level}",
+            *(["-lstdc++"] if piece.language == "cpp" else []),
             "-mclwb",
             "-mclflushopt",
             "-ffunction-sections",
@@ -223,12 +230,22 @@ def pass_through(piece: Piece, source: str, level: str, setting: Setting) -> tup
     hippo_run("the repaired text", mended, setting, folder, expected)
     done = run([build(mended, setting, folder)], folder, codes=tuple(range(128)))
     is_same("the repaired build", done.stdout, done.returncode, expected)
-    return (lines_of(source_of_lines(piece, source)), level, lines_of([text]), f"{seconds:.1f}", *counts.values())
+    return (
+        lines_of(source_of_lines(piece, source, folder)),
+        level,
+        lines_of([text]),
+        f"{seconds:.1f}",
+        *counts.values(),
+    )
 
 
-def source_of_lines(piece: Piece, source: str) -> list[str]:
-    """The files of the package whose lines are counted."""
-    return [f"{source}/{name}" for name in piece.sources + piece.headers]
+def source_of_lines(piece: Piece, source: str, folder: str) -> list[str]:
+    """The files of the package whose lines are counted; of C++ these are all that clang reads."""
+    if piece.language == "c":
+        return [f"{source}/{name}" for name in piece.sources + piece.headers]
+    words = [*clang_flags(piece, source, folder), f"-I{os.path.dirname(os.path.dirname(os.path.dirname(HERE)))}/tools"]
+    read = run(["clang++-19", "-M", "-mclwb", *words, *source_files(piece, source)], folder).stdout
+    return sorted({name for name in read.split() if os.path.realpath(name).startswith(os.path.realpath(source) + "/")})
 
 
 def lines_of(names: list[str]) -> int:

@@ -118,7 +118,7 @@ def module_of(file: str, options: Options, target: str) -> tuple[str, Facts]:
     if text.startswith(BITCODE):
         raise Failure(f"{file}: this is bitcode: give the text form that llvm-dis-19 makes of it", REFUSED)
     if is_source(file):
-        text, facts = module_of_source(file, options)
+        text, facts = module_of_source(file, options, "setjmp" in text)
     else:
         check_places(file, text)
         given = text
@@ -131,11 +131,11 @@ def module_of(file: str, options: Options, target: str) -> tuple[str, Facts]:
     return target if target == file else write(target, text), facts
 
 
-def module_of_source(file: str, options: Options) -> tuple[str, Facts]:
-    """The module of a source file, which a folder may keep, and its facts."""
+def module_of_source(file: str, options: Options, may_jump: bool) -> tuple[str, Facts]:
+    """The module of a source file, which a folder may keep, and its facts. A C file that does not say `setjmp` may still call it by a header."""
 
     def make() -> tuple[str, Facts]:
-        if is_cpp(file):
+        if may_jump or is_cpp(file):
             return compile_in_two_steps(file, options)
         text = compiled(file, options)
         return compile_in_two_steps(file, options) if calls_setjmp(text) else (text, Facts())

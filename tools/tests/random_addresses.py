@@ -10,11 +10,12 @@ import argparse
 import os
 import sys
 import tempfile
-from concurrent.futures import ThreadPoolExecutor
+from concurrent.futures import ProcessPoolExecutor
+from functools import partial
 
 sys.dont_write_bytecode = True
 from clang_case import HIPPO  # noqa: E402
-from random_c.runs import LEVELS, Found, try_bundle  # noqa: E402
+from random_c.runs import LEVELS, try_bundle  # noqa: E402
 
 
 def parse() -> argparse.Namespace:
@@ -43,15 +44,16 @@ def main() -> int:
     bundles = [seeds[at : at + given.together] for at in range(0, len(seeds), given.together)]
     differ: set[tuple[int, str]] = set()
     tried = 0
-    with tempfile.TemporaryDirectory() as scratch, ThreadPoolExecutor(given.jobs) as workers:
+    with tempfile.TemporaryDirectory() as scratch, ProcessPoolExecutor(given.jobs) as workers:
         os.environ["XDG_CACHE_HOME"] = scratch
-
-        def attempt(bundle: list[int]) -> list[Found]:
-            """What differs in a file of programs."""
-            return try_bundle(
-                bundle, levels, given.keep or scratch, os.path.abspath(given.hippo), bool(given.keep), given.engine
-            )
-
+        attempt = partial(
+            try_bundle,
+            levels=levels,
+            folder=given.keep or scratch,
+            hippo=os.path.abspath(given.hippo),
+            keeps=bool(given.keep),
+            with_engine=given.engine,
+        )
         for bundle, found in zip(bundles, workers.map(attempt, bundles)):
             tried += len(bundle)
             for one in found:

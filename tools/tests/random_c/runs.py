@@ -10,6 +10,7 @@ import sys
 from collections.abc import Iterator
 from typing import Any, NamedTuple
 
+from .in_process import Lowering
 from .judge import Addresses, Judge
 from .program import File, make_program
 
@@ -21,7 +22,8 @@ from hippo_c.trouble import Trouble  # noqa: E402
 
 LEVELS = ["-O0", "-O1", "-O2", "-O3"]
 NATIVE = ["clang-19", "-w", "-fwrapv", "-fno-strict-aliasing", "-DNATIVE", f"-I{TOOLS}"]
-LOWER = [f"{TOOLS}/lower", "--single-thread", "--non-temporal", "--array-bound", "1K"]
+LOWER = ["--single-thread", "--non-temporal", "--array-bound", "1K"]
+LOWERING = Lowering()
 NATIVE_FILES = [f"{TOOLS}/external_functions.c", f"{TOOLS}/tests/random_c/libpmem_copies.c"]
 
 
@@ -56,9 +58,13 @@ class Bundle:
         output_of([*NATIVE, level, "-o", f"{self.stem}.native", f"{self.stem}.c", *NATIVE_FILES, "-lm"])
         return output_of([f"{self.stem}.native"], input="\n".join(self.numbers))
 
+    def words(self, level: str) -> list[str]:
+        """The words for tools/lower."""
+        return [*LOWER, level, f"{self.stem}.c", "--", "-w"]
+
     def lowered(self, level: str) -> str:
         """The file of the lowered text."""
-        text = output_of([*LOWER, level, f"{self.stem}.c", "--", "-w"])
+        text = LOWERING.text(self.words(level))
         with open(f"{self.stem}{level}.ll", "w", encoding="latin-1") as file:
             file.write(text)
         self.addresses = Addresses(text, self.file.objects)
@@ -121,6 +127,7 @@ def try_bundle(
         found = [one for level in levels for one in bundle.differences(level, output, with_engine)]
     except RuntimeError as error:
         found = [Found(seeds[0], "native", str(error))]
+    LOWERING.forget(f"{bundle.stem}.c")
     if not keeps:
         for end in (".c", ".native"):
             with contextlib.suppress(FileNotFoundError):

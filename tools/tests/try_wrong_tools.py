@@ -17,7 +17,7 @@ sys.dont_write_bytecode = True
 sys.path.append(str(Path(__file__).resolve().parents[2] / ".ci"))
 from tools_tests import as_in_the_foreground  # noqa: E402
 from wrong_tools import EDITS, Edit  # noqa: E402
-from wrong_tools.copies import make_copy, run_test, with_edit  # noqa: E402
+from wrong_tools.copies import fault_of, make_copy, run_test, with_edit  # noqa: E402
 from wrong_tools.page import NOT_SEEN, seen_by, write_page  # noqa: E402
 
 
@@ -69,11 +69,25 @@ class Trial:
         )
 
 
+def print_faults(edits: list[Edit]) -> int:
+    """Prints the edits that do not apply; returns 0 if there is none."""
+    faults = {edit.name: fault for edit in edits if (fault := fault_of(edit))}
+    for name, fault in faults.items():
+        print(f"{name}: {fault}")
+    print(f"{len(edits)} edits, {len(edits) - len(faults)} apply")
+    return 1 if faults else 0
+
+
 def main() -> int:
     """Tries the edits, all or those that are named."""
     words = argparse.ArgumentParser(description=__doc__, formatter_class=argparse.RawDescriptionHelpFormatter)
     words.add_argument("--jobs", type=int, default=2, help="the number of edits that are tried in parallel")
     words.add_argument("--only-with", action="store_true", help="leave out the runs without an edit")
+    words.add_argument(
+        "--applies",
+        action="store_true",
+        help="run no test: say which edits do not change exactly one place of today's text, or make a text that does not compile",
+    )
     words.add_argument("names", nargs="*", help="edits, in their order; without names, all of them")
     given = words.parse_args()
     if unknown := set(given.names) - {edit.name for edit in EDITS}:
@@ -81,6 +95,8 @@ def main() -> int:
     as_in_the_foreground()
     by_name = {edit.name: edit for edit in EDITS}
     edits = [by_name[name] for name in given.names or by_name]
+    if given.applies:
+        return print_faults(edits)
     with tempfile.TemporaryDirectory(prefix="wrong-tools-") as folder:
         trial = Trial(Path(folder))
         with ThreadPoolExecutor(given.jobs) as workers:

@@ -14,8 +14,8 @@ hippo is proved; `tools/lower`, its runtime, `hippo-c` and the launcher are not.
 false, or hide one, and for each the test that must see it. `python3 tools/tests/try_wrong_tools.py` runs each test without an edit, where it must
 pass, then applies each edit to a copy of the repository and runs its test, which must fail. Then it writes this page; names of edits select
 some. The gate does not run it, since it runs hundreds of compilations. The gate runs `tools/tests/test_wrong_tools.py`, which compares this
-page with the table of edits in `tools/tests/wrong_tools/` and looks up the text that each edit replaces. An edit that is new or does something
-else is not tried yet.
+page with the table of edits in `tools/tests/wrong_tools/` and applies each edit: it must change one place of today's text, and what it
+makes must compile. `--applies` does the same alone. An edit that is new or does something else is not tried yet.
 
 """
 TABLE = "| edit | what the tool then does | file | the test that fails |\n|---|---|---|---|\n"

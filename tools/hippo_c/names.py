@@ -7,10 +7,10 @@ from functools import cache
 from lowering.languages import is_source
 from lowering.names import demangled
 
+from . import kept_texts
 from .clang import emit_text
 from .program import Program
 from .reading import compiled_files
-from .running import tool
 
 NODE = re.compile(r"^!(\d+) = (?:distinct )?!(DI\w+|)(?:\((.*)\)|\{(.*)\})$", re.M)
 VARIABLE = re.compile(r'^@("[^"]*"|[-\w$.]+) = .*!dbg !(\d+)', re.M | re.ASCII)
@@ -156,4 +156,4 @@ class Names:
             with open(file, encoding="latin-1") as text:
                 return text.read()
         command = emit_text(self.include, self.clang_of(file), file, "-g", "-gdwarf-5")
-        return tool(command).stdout.decode("latin-1")
+        return kept_texts.output_of(command).decode("latin-1")

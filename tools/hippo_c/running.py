@@ -1,6 +1,8 @@
 """Runs hippo and tools/lower. Their output goes to files that appear only when they are complete; a refusal becomes a Trouble."""
 from __future__ import annotations
 
+import contextlib
+import json
 import os
 import re
 import signal
@@ -10,7 +12,9 @@ import time
 from collections.abc import Callable, Iterator
 from typing import IO, TYPE_CHECKING, Any
 
-from . import ends
+from lowering.up_to_date import State
+
+from . import ends, kept_texts
 from .trouble import Trouble
 from .writing import whole_file
 
@@ -196,22 +200,41 @@ def lines_of(words: list[str], accepted: tuple[int, ...] = (0,)) -> Iterator[str
 def lower(request: Request, path: str, requests: str = "") -> str:
     """Lowers the files of a request into one text with places, and returns the notes of tools/lower.
 
-    If the program has requests to Valgrind, the file `requests` gets the text in which they are noted."""
+    If the program has requests to Valgrind, the file `requests` gets the text in which they are noted. A text that is kept is taken.
+    """
     clang = ["--", *request.clang] if request.clang else []
+    words = ["--lines", *request.lower, *request.files, *request.arguments, *clang]
+    place = kept_texts.path_of([*words, "--requests" if requests else ""])
+    if found := kept_texts.find(place):
+        for target, text in zip((path, requests), found.texts):
+            with whole_file(target) as file:
+                file.write(text)
+        return found.notes
+    reads = f"{path}.reads"
     second = ["--requests", requests] if requests else []
-    command = [
-        sys.executable,
-        os.path.join(TOOLS, "lower"),
-        "--lines",
-        *second,
-        *request.lower,
-        *request.files,
-        *request.arguments,
-        *clang,
-    ]
-    with whole_file(path) as file:
-        ended = finish(start(command, stdout=file))
-        if ended.code:
-            interrupted_with(ended.code)
-            raise Trouble(f"not lowered:\n{ended.notes.rstrip()}", hint_for(ended.notes), "lowering")
+    command = [sys.executable, os.path.join(TOOLS, "lower"), *second, *(["--reads", reads] if place else []), *words]
+    try:
+        with whole_file(path) as file:
+            ended = finish(start(command, stdout=file))
+            if ended.code:
+                interrupted_with(ended.code)
+                raise Trouble(f"not lowered:\n{ended.notes.rstrip()}", hint_for(ended.notes), "lowering")
+        if place:
+            texts = [read(name) for name in (path, requests) if name and os.path.exists(name)]
+            kept_texts.keep(place, states_of(reads), kept_texts.Kept(texts, ended.notes))
+    finally:
+        with contextlib.suppress(FileNotFoundError):
+            os.unlink(reads)
     return ended.notes
+
+
+def read(path: str) -> bytes:
+    """The bytes of a file."""
+    with open(path, "rb") as file:
+        return file.read()
+
+
+def states_of(path: str) -> list[State] | None:
+    """The states that tools/lower wrote."""
+    states = json.loads(read(path))
+    return None if states is None else [State(*state) for state in states]

@@ -1,6 +1,7 @@
 """The command `lower`: from the words of the command line to the lowered text."""
 from __future__ import annotations
 
+import json
 import os
 import sys
 import traceback
@@ -11,6 +12,7 @@ from .front_end import program_of
 from .module import Module
 from .names import with_names_of_source
 from .options import Help, Options, parse
+from .reads import READS
 from .outputs import check_outputs, write_whole
 
 # Names the variable that adds Python's traceback to the line of a defect.
@@ -69,6 +71,8 @@ def defect(error: Exception) -> int:
 
 def lower(options: Options) -> int:
     """Lowers a program and writes its text, or what is refused; the exit code."""
+    if options.reads:
+        READS.begin(WORK.folder())
     program = program_of(options)
     try:
         module = Module(program, options)
@@ -88,6 +92,8 @@ def lower(options: Options) -> int:
         write_public(options.public, program.public_names, module)
     if options.requests and module.has_requests:
         write_whole(options.requests, Module(program, options, marks_requests=True).text().encode("latin-1"))
+    if options.reads:
+        write_whole(options.reads, json.dumps(READS.states(options)).encode("ascii"))
     if options.target:
         write_whole(options.target, text.encode("latin-1"))
         return DONE

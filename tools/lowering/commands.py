@@ -2,6 +2,7 @@
 import subprocess
 
 from .ends import WORK
+from .reads import READS
 
 # The scheme of hippo's own exit codes, and beyond it those of sysexits.h. A signal adds its number to the last.
 DONE, USAGE, NO_FILE, READ_FAULT, WRITE_FAULT, REFUSED = 0, 1, 2, 3, 4, 5
@@ -22,7 +23,7 @@ def output_of(command: list[str], text: str | None = None, seconds: float = SECO
     """What a command writes to standard output; its messages go to standard error."""
     given = subprocess.DEVNULL if text is None else subprocess.PIPE
     try:
-        process = WORK.start(command, stdin=given, stdout=subprocess.PIPE, encoding="latin-1")
+        process = WORK.start(READS.noting(command), stdin=given, stdout=subprocess.PIPE, encoding="latin-1")
     except FileNotFoundError:
         raise Failure(
             f"{command[0]} is not installed (Debian: apt-get install clang-19 llvm-19)", NOT_INSTALLED

@@ -16,6 +16,7 @@ from .languages import FLAGS, command_for, compiler, is_cpp, is_source
 from .names import LOOKS_PERSISTENT, PERSISTENT, unescaped
 from .options import Options
 from .places import Places, has_circle
+from .reads import OF_TEXT
 from .runtime import Runtime, undefined
 from .setjmp import calls_setjmp, with_passes, without_passes
 from .vectors import USED as VECTORS
@@ -156,7 +157,7 @@ def compile_in_two_steps(file: str, options: Options) -> tuple[str, Facts]:
     `setjmp`."""
     before, facts = changed(compiled(file, options, *UNOPTIMISED))
     name, *flags = compiler(file)
-    optimise = [name, options.level, *FLAGS, *flags, "-w", "-x", "ir", "-o", "-", "-"]
+    optimise = [name, options.level, *FLAGS, *flags, "-w", *OF_TEXT]
     if calls_setjmp(before):
         return with_passes(output_of(optimise, without_passes(before))), facts
     return output_of(optimise, before), facts

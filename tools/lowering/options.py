@@ -42,6 +42,7 @@ class Options:
     target: str = ""
     public: str = ""
     requests: str = ""
+    reads: str = ""
     compile_commands: str = ""
     cache: str = ""
     wrap: list[str] = field(default_factory=list)
@@ -126,6 +127,12 @@ def build_parser(description: str) -> Parser:
         metavar="FILE",
         default="",
         help="if the program has requests to Valgrind, write a second text in which those of pmemcheck are noted",
+    )
+    parser.add_argument(
+        "--reads",
+        metavar="FILE",
+        default="",
+        help="write what the text was made from, by which hippo-c knows whether a kept text is that of the same files",
     )
     parser.add_argument(
         "--lines", action="store_true", help="add a comment after each instruction, with its place in C"

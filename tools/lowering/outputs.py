@@ -30,6 +30,7 @@ def check_outputs(options: Options) -> None:
         check_output("-o", options.target, inputs, OF_SOURCES)
     for option, file, of_sources in (
         ("--requests", options.requests, OF_SOURCES),
+        ("--reads", options.reads, OF_SOURCES),
         ("--public", options.public, (*OF_SOURCES, ".ll")),
     ):
         if file:

@@ -5,7 +5,8 @@ import re
 import signal
 import sys
 import traceback
-from typing import IO
+from collections.abc import Callable
+from typing import IO, NamedTuple
 
 from lowering import options as lowering_options
 
@@ -40,6 +41,43 @@ EPILOG = """Arguments for clang stand after "--". Exit codes: 0 nothing found, 1
 2 the command failed, or a run trapped or was cut. docs/HIPPO_C.md has the whole manual."""
 
 
+class OfProgram(NamedTuple):
+    """A command that runs a program: its name, what it does, its own options, and the function that carries it out."""
+
+    name: str
+    what: str
+    add_options: Callable[[argparse.ArgumentParser], None] | None
+    carry_out: Callable[[argparse.Namespace, Request, Progress], int]
+
+
+OF_PROGRAMS = (
+    OfProgram(
+        "check",
+        "run the program, and report each store that is not durable where it has to be",
+        checking.add_options,
+        checking.check,
+    ),
+    OfProgram("run", "run the program, and show what it prints and where it traps", None, checking.run),
+    OfProgram("repair", "write a repaired program, and show what was added", repairing.add_options, repairing.repair),
+    OfProgram(
+        "crash",
+        "run the program from what a power cut may leave, at many places",
+        crashing.add_options,
+        crashing.crash,
+    ),
+    OfProgram(
+        "explore",
+        "search inputs and power cuts that show durability bugs",
+        explore_options.add_options,
+        exploring.explore,
+    ),
+    OfProgram(
+        "pool", "write the bytes of a pool that a run leaves, or a power cut in it", pools.add_options, pools.pool
+    ),
+    OfProgram("suggest-commits", "list stores that look like commit points, for --commit", None, candidates.suggest),
+)
+
+
 class Parser(argparse.ArgumentParser):
     """A parser that fails where its help cannot be written."""
 
@@ -55,35 +93,13 @@ def parser() -> argparse.ArgumentParser:
     top = Parser("hippo-c", description=DESCRIPTION, epilog=EPILOG, formatter_class=form)
     top.add_argument("--version", action=about.ShowVersion)
     commands = top.add_subparsers(dest="command", metavar="COMMAND", required=True)
-    check = commands.add_parser(
-        "check", help="run the program, and report each store that is not durable where it has to be"
-    )
-    add_program(check)
-    checking.add_options(check)
-    check.set_defaults(carry_out=checking.check)
-    run = commands.add_parser("run", help="run the program, and show what it prints and where it traps")
-    add_program(run)
-    run.set_defaults(carry_out=checking.run)
-    repair = commands.add_parser("repair", help="write a repaired program, and show what was added")
-    add_program(repair)
-    repairing.add_options(repair)
-    repair.set_defaults(carry_out=repairing.repair)
-    crash = commands.add_parser("crash", help="run the program from what a power cut may leave, at many places")
-    add_program(crash)
-    crashing.add_options(crash)
-    crash.set_defaults(carry_out=crashing.crash)
-    search = commands.add_parser("explore", help="search inputs and power cuts that show durability bugs")
-    add_program(search)
-    explore_options.add_options(search)
-    search.set_defaults(carry_out=exploring.explore)
-    pool = commands.add_parser("pool", help="write the bytes of a pool that a run leaves, or a power cut in it")
-    add_program(pool)
-    pools.add_options(pool)
-    pool.set_defaults(carry_out=pools.pool)
+    for one in OF_PROGRAMS:
+        command = commands.add_parser(one.name, help=one.what)
+        add_program(command)
+        if one.add_options:
+            one.add_options(command)
+        command.set_defaults(carry_out=one.carry_out)
     commands.add_parser("doctor", help="say what hippo-c needs and what is missing, and make a first check")
-    suggest = commands.add_parser("suggest-commits", help="list stores that look like commit points, for --commit")
-    add_program(suggest)
-    suggest.set_defaults(carry_out=candidates.suggest)
     put = commands.add_parser(
         "install", help="copy hippo, hippo-c, the header, manual pages and completions into a folder"
     )

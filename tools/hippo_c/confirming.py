@@ -51,7 +51,7 @@ class ShownOutputs:
 
 @dataclass
 class Confirmed:
-    """What hippo confirmed, and how many findings it did not."""
+    """What hippo confirmed, and how many findings it did not; whether an interrupt ended it."""
 
     groups: list[ShownGroup] = field(default_factory=list)
     failures: list[ShownFailure] = field(default_factory=list)
@@ -62,6 +62,7 @@ class Confirmed:
     refusing: Refused | None = None
     checked: int = 0
     refused: int = 0
+    interrupted: bool = False
 
 
 def keys_of(group: Group) -> Iterable[Key]:
@@ -103,13 +104,13 @@ class Confirming:
         self.find_examples(found)
         return self.answer
 
-    def is_interrupted(self, found: Found, given: list[list[int]]) -> bool:
-        """Confirms findings until an interrupt; whether one came. The answer has what was confirmed."""
+    def answer_for(self, found: Found, given: list[list[int]]) -> Confirmed:
+        """Confirms findings until an interrupt. The answer has what was confirmed."""
         try:
             self.confirm(found, given)
         except KeyboardInterrupt:
-            return True
-        return False
+            self.answer.interrupted = True
+        return self.answer
 
     def at(self, start: Start) -> Session:
         """The session of the program with other bytes of its pools before a run."""

@@ -29,15 +29,13 @@ def try_images(options: argparse.Namespace, session: Session, printer: Printer) 
     found, interrupted = run_engine(session, engine, [numbers], words, options)
     session.progress.say("confirming")
     found.reports = {}
-    confirming = Confirming(session)
-    interrupted |= confirming.is_interrupted(found, [])
-    confirmed = confirming.answer
+    confirmed = Confirming(session).answer_for(found, [])
     session.progress.wipe()
     again = Again(options, session)
     for failure in confirmed.failures:
         print_failure(printer, session, failure, again)
     print_verdict(printer, found, confirmed)
-    if interrupted:
+    if interrupted or confirmed.interrupted:
         return 130
     if confirmed.failures:
         return 1

@@ -52,6 +52,13 @@ class Exploration:
 
 def add_options(command: argparse.ArgumentParser) -> None:
     """The options of crash that other commands do not have."""
+    add_images(command)
+    add_recoveries(command)
+    debugging.add_options(command)
+
+
+def add_images(command: argparse.ArgumentParser) -> None:
+    """The options that choose images."""
     command.add_argument("--entries", metavar="A-B", help="the entries of the trace after which the power is cut")
     command.add_argument(
         "--sample",
@@ -76,6 +83,10 @@ def add_options(command: argparse.ArgumentParser) -> None:
         metavar="LINE:UPTO",
         help="try only this image, after the one entry of --entries",
     )
+
+
+def add_recoveries(command: argparse.ArgumentParser) -> None:
+    """The options of the runs from images."""
     command.add_argument(
         "--status",
         action="store_true",
@@ -105,7 +116,6 @@ def add_options(command: argparse.ArgumentParser) -> None:
         metavar="WORD",
         help="another power cut, in the run after that of --pick: ENTRY LINE:UPTO...; may be given again",
     )
-    debugging.add_options(command)
     command.add_argument(
         "--prints",
         type=from_to(0, 1 << 62),
@@ -134,12 +144,7 @@ def crash(options: argparse.Namespace, request: Request, progress: Progress) -> 
         chosen = (options.sample, options.images, options.picks, options.entries)
         if chosen == (None,) * 4 and recorded.startswith("stop"):
             return try_images(options, session, printer)
-        if options.picks is not None:
-            choice = Choice(first, last, 0, 0, entries=1)
-            points = iter([[single_point(options, first, last)]])
-        else:
-            choice = Choice(first, last, options.seed, 2 if options.sample is None else options.sample, options.images)
-            points = images.points_of(path, choice, options.time is not None)
+        choice, points = points_to_try(options, path, first, last)
         fails = failing_test(recorded, options.status)
         found = explore(session, path, points, fails, options)
         found.all_entries = choice.entries
@@ -155,6 +160,16 @@ def crash(options: argparse.Namespace, request: Request, progress: Progress) -> 
                 options, session, image_of(session, path, single_point(options, first, last)), printer
             )
     return 1 if found.failing else 0
+
+
+def points_to_try(
+    options: argparse.Namespace, path: str, first: int, last: int
+) -> tuple[Choice, Iterator[list[Point]]]:
+    """What is chosen, and the images of each crash point: the one of --pick, or random ones."""
+    if options.picks is not None:
+        return Choice(first, last, 0, 0, entries=1), iter([[single_point(options, first, last)]])
+    choice = Choice(first, last, options.seed, 2 if options.sample is None else options.sample, options.images)
+    return choice, images.points_of(path, choice, options.time is not None)
 
 
 def entries_of(text: str | None) -> tuple[int, int]:

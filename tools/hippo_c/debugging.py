@@ -50,6 +50,15 @@ class Part(NamedTuple):
     address: int
 
 
+class Native(NamedTuple):
+    """The native program, the file of its input, the script for gdb, and the words of its command line."""
+
+    program: str
+    numbers: str
+    script: str
+    arguments: str
+
+
 def add_options(command: argparse.ArgumentParser) -> None:
     """The options that make a native program."""
     command.add_argument(
@@ -91,15 +100,8 @@ def write_native(options: argparse.Namespace, session: Session, image: bytearray
     write(loader, loader_text(found, path).encode("utf-8", "surrogateescape"))
     build(session, program, [loader])
     session.progress.wipe()
-    say(
-        options,
-        printer,
-        [part for part in found if part.address != part.item.address],
-        program,
-        numbers,
-        script,
-        arguments,
-    )
+    warn_of_moved(printer, found)
+    say(options, printer, Native(program, numbers, script, arguments))
 
 
 def write(path: str, content: bytes) -> None:
@@ -171,30 +173,28 @@ def loader_text(parts: list[Part], path: str) -> str:
     return LOADER.replace("PARTS", rows or "{0, 0, 0}").replace("PATH", f'"{quoted}"')
 
 
-def say(
-    options: argparse.Namespace,
-    printer: Printer,
-    moved: list[Part],
-    program: str,
-    numbers: str,
-    script: str,
-    arguments: str,
-) -> None:
+def warn_of_moved(printer: Printer, parts: list[Part]) -> None:
+    """A warning for each global that does not lie where hippo has it."""
+    for part in parts:
+        if part.address != part.item.address:
+            printer.diagnostic(
+                None,
+                "warning",
+                f"'{part.item.name}' lies at {part.address:#x} natively and at {part.item.address:#x} in hippo: "
+                "pointers to it in the image are wrong",
+            )
+
+
+def say(options: argparse.Namespace, printer: Printer, native: Native) -> None:
     """How to run and to debug what was written; with `--rr`, records it."""
-    for part in moved:
-        printer.diagnostic(
-            None,
-            "warning",
-            f"'{part.item.name}' lies at {part.address:#x} natively and at {part.item.address:#x} in hippo: "
-            "pointers to it in the image are wrong",
-        )
-    words = " ".join(filter(None, [shlex.quote(program), arguments, f"<{shlex.quote(numbers)}"]))
+    words = " ".join(filter(None, [shlex.quote(native.program), native.arguments, f"<{shlex.quote(native.numbers)}"]))
     printer.line(f"written: {options.debug}, a native program that starts from this image")
     printer.line(f"  run it:   {words}")
-    printer.line(f'  debug it: {shlex.join(["gdb", "-q", "-x", script, program])}')
+    printer.line(f'  debug it: {shlex.join(["gdb", "-q", "-x", native.script, native.program])}')
     if options.rr:
-        trace = os.path.join(os.path.dirname(program), "rr")
+        trace = os.path.join(os.path.dirname(native.program), "rr")
         printer.line(f'  replay it: {shlex.join(["rr", "replay", trace])}')
         printer.stream.flush()
-        with open(numbers, "rb") as given:
-            ends.started(["rr", "record", "-o", trace, program, *shlex.split(arguments)], stdin=given).wait()
+        with open(native.numbers, "rb") as given:
+            command = ["rr", "record", "-o", trace, native.program, *shlex.split(native.arguments)]
+            ends.started(command, stdin=given).wait()

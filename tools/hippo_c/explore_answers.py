@@ -28,7 +28,6 @@ def print_answer(
     options: argparse.Namespace,
     found: Found,
     confirmed: Confirmed,
-    interrupted: bool,
     again: Again,
 ) -> None:
     """The whole answer as text."""
@@ -52,7 +51,7 @@ def print_answer(
         )
         printer.line(f"  see that run: {again.crash(report, crashes, report.limit)}")
     print_counts(printer, session, options, found, confirmed, again)
-    if interrupted:
+    if confirmed.interrupted:
         printer.line("interrupted: the answer has what was found and confirmed until then")
     if options.show_missed:
         print_missed(printer, session, found)

@@ -13,6 +13,13 @@ RANGE = re.compile(r"(-?[0-9]{1,18})-(-?[0-9]{1,18})")
 
 def add_options(command: argparse.ArgumentParser) -> None:
     """The options of explore that other commands do not have."""
+    add_search(command)
+    add_power_cuts(command)
+    add_answers(command)
+
+
+def add_search(command: argparse.ArgumentParser) -> None:
+    """The options of the search for inputs."""
     command.add_argument(
         "--inputs", metavar="FILE", help="a file with an input in each line, from which the search begins"
     )
@@ -28,6 +35,28 @@ def add_options(command: argparse.ArgumentParser) -> None:
     command.add_argument(
         "--numbers", type=from_to(1, 100_000), default=200, metavar="N", help="the greatest length of an input (200)"
     )
+    command.add_argument(
+        "--corpus",
+        metavar="FILE",
+        help="begin with the inputs of this file too, and write those that were found into it",
+    )
+    command.add_argument(
+        "--pools", metavar="FOLDER", help="write the files of pools whose other bytes show a finding into this folder"
+    )
+    command.add_argument(
+        "--merge", nargs="+", metavar="CORPUS", help="only unite these files, and show what their inputs show"
+    )
+    command.add_argument(
+        "--jobs",
+        type=from_to(1, 64),
+        default=1,
+        metavar="N",
+        help="the number of searches side by side, with seeds one after another (1)",
+    )
+
+
+def add_power_cuts(command: argparse.ArgumentParser) -> None:
+    """The options of power cuts and of the runs after them."""
     command.add_argument(
         "--crashes",
         type=from_to(0, 4),
@@ -50,24 +79,10 @@ def add_options(command: argparse.ArgumentParser) -> None:
         action="store_true",
         help="each command that the program reads must be done or not done after a power cut",
     )
-    command.add_argument(
-        "--corpus",
-        metavar="FILE",
-        help="begin with the inputs of this file too, and write those that were found into it",
-    )
-    command.add_argument(
-        "--pools", metavar="FOLDER", help="write the files of pools whose other bytes show a finding into this folder"
-    )
-    command.add_argument(
-        "--merge", nargs="+", metavar="CORPUS", help="only unite these files, and show what their inputs show"
-    )
-    command.add_argument(
-        "--jobs",
-        type=from_to(1, 64),
-        default=1,
-        metavar="N",
-        help="the number of searches side by side, with seeds one after another (1)",
-    )
+
+
+def add_answers(command: argparse.ArgumentParser) -> None:
+    """The options of the answer's forms."""
     command.add_argument(
         "--groups", type=from_to(0), default=50, metavar="N", help="show at most N groups, 0 for all (50)"
     )

@@ -50,16 +50,15 @@ def explore(options: argparse.Namespace, request: Request, progress: Progress) -
             said += ["--behaviours", str(options.behaviours)]
         found, interrupted = run_engine(session, engine, seeds, said, options)
         progress.say("confirming")
-        confirming = Confirming(session)
-        interrupted |= confirming.is_interrupted(found, given)
-        confirmed = confirming.answer
+        confirmed = Confirming(session).answer_for(found, given)
+        confirmed.interrupted |= interrupted
         if options.corpus:
             write_corpus(options.corpus, given, confirmed, found)
         write_forms(options, session, found, confirmed, printer, Again(options, session, pools))
         progress.wipe()
         if "-" not in (options.json, options.sarif):
-            print_answer(printer, session, options, found, confirmed, interrupted, Again(options, session, pools))
-    if interrupted:
+            print_answer(printer, session, options, found, confirmed, Again(options, session, pools))
+    if confirmed.interrupted:
         return 130
     if confirmed.groups or confirmed.failures or confirmed.outputs or confirmed.after_crashes:
         return 1

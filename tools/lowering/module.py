@@ -53,10 +53,8 @@ class Module:
         self.persistent: list[tuple[str, int]] = []
         self.sections_by_pragma: dict[str, str] = {}
         self.helpers: dict[str, tuple[str, str]] = {}
-        self.in_runtime = False
         self.notes: set[str] = set()
-        self.has_padded_blocks = False
-        self.no_arguments = ""
+        self.in_runtime, self.has_padded_blocks, self.no_arguments = False, False, ""
         self.refusals = Refusals()
         self.global_places: dict[str, str] | None = None
         self.places = Places(program.text)
@@ -71,13 +69,17 @@ class Module:
         self.users: Callable[[], Users] = lambda: self.users_of(globals_, found)
         self.signatures: dict[str, Signature] = {function.written_name: function.signature for function in found}
         self.globals = [self.lower_global(line) for line in globals_]
-        for function in found:
+        self.functions = self.lowered(found)
+
+    def lowered(self, functions: list[Function]) -> list[str]:
+        """The texts of all functions; notes what is missing in a program."""
+        for function in functions:
             self.lower_function(function)
         self.in_runtime = False
         if not self.persistent and "@main" in self.signatures:
             self.note("nothing_persistent")
-        self.jumps.find(found)
-        self.functions = [function.text() for function in found]
+        self.jumps.find(functions)
+        return [function.text() for function in functions]
 
     def items(self, text: str) -> tuple[list[str], list[tuple[str, list[str]]]]:
         """The lines of globals, and heads and bodies of functions."""

@@ -77,7 +77,7 @@ def digest_of(path: str) -> str:
 def identity_of_tools() -> str:
     """What identifies LLVM's tools, their libraries, their settings and the environment."""
     parts = [f"{name}={value}" for name, value in sorted(os.environ.items()) if not OF_TERMINAL.fullmatch(name)]
-    paths = [os.path.realpath(path) for path in map(shutil.which, TOOLS_OF_LLVM) if path]
+    paths = [os.path.realpath(path) for name in TOOLS_OF_LLVM if (path := shutil.which(name))]
     folders = sorted({os.path.dirname(path) for path in paths})
     for folder in folders:
         paths += sorted([*glob.glob(f"{folder}/*.cfg"), *glob.glob(f"{os.path.dirname(folder)}/lib/lib*.so*")])

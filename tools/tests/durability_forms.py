@@ -218,6 +218,12 @@ def files() -> list[Form]:
         Form("pread(file, local, 16, 0); read(file, local, 4);", ""),
         Form('close(open("data.pool", O_RDWR | O_SYNC));', ""),
     ]
+    return forms + mappings()
+
+
+def mappings() -> list[Form]:
+    """Stores through mappings of the file: shared ones are persistent, private ones are not."""
+    forms = []
     shared = "mmap(0, 8192, PROT_READ | PROT_WRITE, {}, file, 0)"
     for flags in ("MAP_SHARED", "MAP_SHARED_VALIDATE", "MAP_SHARED_VALIDATE | MAP_SYNC", "MAP_SHARED | MAP_POPULATE"):
         at = f"*(volatile long long *){shared.format(flags)} = 3;"

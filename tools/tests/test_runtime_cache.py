@@ -6,6 +6,7 @@ import os
 import subprocess
 import sys
 import unittest
+from typing import Any
 
 from clang_case import TOOLS, ClangCase
 
@@ -36,7 +37,7 @@ class Cache(ClangCase):
         self.assertEqual(done.returncode, 0, done.stderr)
         return done.stdout
 
-    def entry(self) -> tuple[str, dict, str]:
+    def entry(self) -> tuple[str, dict[str, Any], str]:
         """The path, the head and the text of the entry of the function."""
         for path in glob.glob(f"{self.home}/hippo-c/runtime/*"):
             with open(path, encoding="latin-1") as file:
@@ -45,7 +46,7 @@ class Cache(ClangCase):
                 return path, json.loads(head), text
         raise AssertionError("the cache has no entry of the function")
 
-    def write(self, path: str, head: dict, text: str) -> None:
+    def write(self, path: str, head: dict[str, Any], text: str) -> None:
         """Writes an entry."""
         with open(path, "w", encoding="latin-1") as file:
             file.write(json.dumps({**head, "digest": digest(text)}) + "\n" + text)
@@ -86,4 +87,4 @@ class Cache(ClangCase):
 
 
 if __name__ == "__main__":
-    sys.exit(unittest.main())
+    unittest.main()

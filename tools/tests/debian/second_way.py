@@ -147,19 +147,8 @@ def compare(piece: Piece, source: str, level: str, most: int, folder: str) -> tu
     make_files(piece, folder)
     files = source_files(piece, source)
     flags = clang_flags(piece, source, folder)
-    native = [
-        "clang-19",
-        f"-{level}",
-        *NATIVE,
-        f"-I{TOOLS}",
-        *flags,
-        "-o",
-        f"{folder}/native",
-        *files,
-        f"{TOOLS}/external_functions.c",
-        f"{HERE}/store_tracer.c",
-        "-lpthread",
-    ]
+    native = ["clang-19", f"-{level}", *NATIVE, f"-I{TOOLS}", *flags, "-o", f"{folder}/native", *files]
+    native += [f"{TOOLS}/external_functions.c", f"{HERE}/store_tracer.c", "-lpthread"]
     subprocess.run(native, check=True, stderr=subprocess.DEVNULL)
     ran = Native(f"{folder}/native", folder, piece.arguments)
     arguments = ["--args", *piece.arguments] if piece.arguments else []

@@ -11,6 +11,7 @@ from pieces import Piece
 HERE = os.path.dirname(os.path.abspath(__file__))
 LEVELS = ["O0", "O1", "O2"]
 COUNTS = ("reports", "flushes", "fences", "clones")
+LINE_FLUSHES = ("-mclwb", "-mclflushopt")
 LIMIT = 1800  # seconds of one step
 PRINT_I64 = '#include <stdio.h>\nvoid print_i64(long long n) { printf("%lld\\n", n); }\n'
 
@@ -95,33 +96,13 @@ def native(piece: Piece, source: str, level: str, setting: Setting, folder: str)
         library = f"{setting.libpmem}/usr/lib/x86_64-linux-gnu"
         with open(f"{folder}/print.c", "w", encoding="ascii") as file:
             file.write(PRINT_I64)
-        more = [
-            f"{folder}/print.c",
-            f"-I{setting.libpmem}/usr/include",
-            f"-L{library}",
-            f"-Wl,-rpath-link,{library}",
-            "-lpmem2",
-            "-lpmem",
-        ]
+        more = [f"{folder}/print.c", f"-I{setting.libpmem}/usr/include", f"-L{library}"]
+        more += [f"-Wl,-rpath-link,{library}", "-lpmem2", "-lpmem"]
         environment = {"LD_LIBRARY_PATH": library, "PMEM2_FORCE_GRANULARITY": "CACHE_LINE", "PMEM_IS_PMEM_FORCE": "1"}
-    run(
-        [
-            "clang-19",
-            f"-{level}",
-            *(["-lstdc++"] if piece.language == "cpp" else []),
-            "-mclwb",
-            "-mclflushopt",
-            "-ffunction-sections",
-            "-Wl,--gc-sections",
-            f"-I{setting.top}/tools",
-            *clang_flags(piece, source, folder),
-            "-o",
-            program,
-            *source_files(piece, source),
-            *more,
-        ],
-        folder,
-    )
+    command = ["clang-19", f"-{level}", *(["-lstdc++"] if piece.language == "cpp" else []), *LINE_FLUSHES]
+    command += ["-ffunction-sections", "-Wl,--gc-sections", f"-I{setting.top}/tools"]
+    command += [*clang_flags(piece, source, folder), "-o", program, *source_files(piece, source), *more]
+    run(command, folder)
     done = run([program, *piece.arguments], folder, environment, tuple(range(128)))
     return done.stdout, done.returncode
 

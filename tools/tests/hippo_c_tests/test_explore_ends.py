@@ -109,9 +109,10 @@ class Ends(BugCase):
             reader.take(line)
         confirming = Confirming(session)
         with unittest.mock.patch.object(confirming, "find_examples", side_effect=KeyboardInterrupt):
-            self.assertTrue(confirming.is_interrupted(reader.found, [[5, 1, 9, 0]]))
-        self.assertTrue(confirming.answer.failures)
-        self.assertFalse(Confirming(session).is_interrupted(reader.found, []))
+            answer = confirming.answer_for(reader.found, [[5, 1, 9, 0]])
+        self.assertTrue(answer.interrupted)
+        self.assertTrue(answer.failures)
+        self.assertFalse(Confirming(session).answer_for(reader.found, []).interrupted)
 
     def seeds_in(self, room: str) -> bool:
         """Whether the engine has its inputs, so that it begins."""

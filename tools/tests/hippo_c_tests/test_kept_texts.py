@@ -203,11 +203,11 @@ class NotKept(Texts):
         self.set("a.c", "int n = 1;\n")
         good = self.is_kept()
         (path,) = glob.glob(self.path("cache/hippo-c/texts/*"))
-        for edit in (lambda text: text[:-3], lambda text: text.replace(b"i32 1", b"i32 2"), lambda text: b"{}\n"):
+        for number in range(3):
             with open(path, "rb") as file:
                 content = file.read()
             with open(path, "wb") as file:
-                file.write(edit(content))
+                file.write((content[:-3], content.replace(b"i32 1", b"i32 2"), b"{}\n")[number])
             self.assertEqual(self.is_made_anew(), good)
         os.chmod(os.path.dirname(path), 0o777)
         self.is_made_anew()

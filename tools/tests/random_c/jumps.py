@@ -5,22 +5,7 @@ import random
 from string import Template
 
 KEPT = "__attribute__((noinline)) "
-
-
-def through_jump(chance: random.Random, name: str) -> str:
-    """A jump out of some calls; its value is the number."""
-    jump, set_, type_ = chance.choice(
-        [("longjmp", "setjmp(%s)", "jmp_buf"), ("siglongjmp", "sigsetjmp(%s, 1)", "sigjmp_buf")]
-    )
-    static, local, at = chance.choice(
-        [
-            (f"static {type_} {name}_at;", "", f"{name}_at"),
-            ("", f"{type_} at;", "at"),
-            ("", f"struct {{ char before; {type_} at; }} both;", "both.at"),
-        ]
-    )
-    return Template(
-        """$static
+THROUGH_JUMP = """$static
 ${kept}long ${name}_deep(long n, long k, $type *at) {
   char room[$odd];
   touch(room);
@@ -35,7 +20,21 @@ long $name(long k) {
   if (!way) return ${name}_deep($depth, k, &$at);
   return way - 1;
 }"""
-    ).substitute(
+
+
+def through_jump(chance: random.Random, name: str) -> str:
+    """A jump out of some calls; its value is the number."""
+    jump, set_, type_ = chance.choice(
+        [("longjmp", "setjmp(%s)", "jmp_buf"), ("siglongjmp", "sigsetjmp(%s, 1)", "sigjmp_buf")]
+    )
+    static, local, at = chance.choice(
+        [
+            (f"static {type_} {name}_at;", "", f"{name}_at"),
+            ("", f"{type_} at;", "at"),
+            ("", f"struct {{ char before; {type_} at; }} both;", "both.at"),
+        ]
+    )
+    return Template(THROUGH_JUMP).substitute(
         kept=KEPT,
         name=name,
         type=type_,

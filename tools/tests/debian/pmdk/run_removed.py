@@ -65,7 +65,9 @@ def wrapper(callee: str, arguments: str) -> str:
 
 def removable(text: str) -> tuple[str, list[Removed]]:
     """The text in which each TX_ADD of the maps can be left out, and all of them."""
-    lines, found, wrappers = text.split("\n"), [], {}
+    lines = text.split("\n")
+    found: list[Removed] = []
+    wrappers: dict[str, str] = {}
     for index, line in enumerate(lines):
         call = CALL.fullmatch(line)
         place = re.search(rf"/{EXAMPLE}/\S*/(\w+)\.c:(\d+):\d+$", call[4]) if call else None
@@ -102,22 +104,11 @@ class Trying:
         with open(path, "wb") as file:
             file.write(content.replace(before, (number or NONE).to_bytes(8, "little")))
         shutil.copymode(self.engine.path, path)
-        options = [
-            "--time",
-            str(seconds),
-            "--crashes",
-            "0",
-            "--given",
-            "1",
-            "--least",
-            "0",
-            "--greatest",
-            str(GREATEST),
-        ]
+        options = f"--time {seconds} --crashes 0 --given 1 --least 0 --greatest {GREATEST}".split()
         words = self.engine.words("explore", numbers, *options)
         process = subprocess.Popen([path, *words[1:]], stdout=subprocess.PIPE, text=True)
         try:
-            for line in process.stdout:
+            for line in process.stdout or ():
                 if not line.startswith("report "):
                     continue
                 reader = Reader(self.engine.sites)

@@ -25,6 +25,7 @@ OPTIONS = ["--single-thread", "--file-calls", "--ignore-output", "--heap", "15M"
 SUPPORT = ("ut_alloc", "ut_file", "ut_pthread")
 HEADINGS = ("test", "arguments", "result", "numbers", "entries", "reports")
 SECONDS = 120
+NATIVE = ("clang-19", "-O0", "-w", "-mclwb", "-mclflushopt")
 
 
 class Tests:
@@ -81,28 +82,10 @@ class Tests:
         """What the native test prints, and its exit code."""
         program, folder = f"{self.folder}/{test.name}.native", f"{self.tests}/{test.name}"
         wraps = [f"-Wl,--wrap={name}" for name in self.wraps_of(test)]
-        run(
-            [
-                "clang-19",
-                "-O0",
-                "-w",
-                "-mclwb",
-                "-mclflushopt",
-                f"-I{self.setting.top}/tools",
-                *self.library.of_tests,
-                f"-I{folder}",
-                "-o",
-                program,
-                *self.files_of(test),
-                *self.objects,
-                f"{self.setting.top}/tools/external_functions.c",
-                *wraps,
-                "-Wl,--allow-multiple-definition",
-                "-ldl",
-                "-lpthread",
-            ],
-            self.folder,
-        )
+        tools = f"{self.setting.top}/tools"
+        command = [*NATIVE, f"-I{tools}", *self.library.of_tests, f"-I{folder}", "-o", program]
+        command += [*self.files_of(test), *self.objects, f"{tools}/external_functions.c", *wraps]
+        run([*command, "-Wl,--allow-multiple-definition", "-ldl", "-lpthread"], self.folder)
         with tempfile.TemporaryDirectory(dir=self.folder) as place:
             for pool in test.pools.split():
                 name, _, rest = pool.partition("=")

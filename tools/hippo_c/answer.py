@@ -11,6 +11,7 @@ from .reports import Group
 from .session import Checked, Session
 from .suggesting import Suggestions
 from .traps import meaning_of
+from .unsupported import UNSUPPORTED
 
 FORMAT = 1
 ABOUT = "The answer of hippo in another form, which hippo-c made; hippo-c is not proved."
@@ -126,7 +127,7 @@ def trap_of(session: Session, checked: Checked) -> dict[str, Any] | None:
     """Where a run trapped; no place if none was found."""
     if not checked.ended.startswith("trap"):
         return None
-    kind = checked.ended.split(" ")[1]
+    kind = UNSUPPORTED if checked.trap and checked.trap.unsupported else checked.ended.split(" ")[1]
     places = session.places.along(checked.trap.path) if checked.trap else []
     return {
         "kind": kind,

@@ -4,7 +4,7 @@ import json
 import os
 import sys
 
-from . import baseline, depfile, fingerprints, running
+from . import baseline, depfile, fingerprints, running, watching
 from .answer import answer_of
 from .diagnostics import Printer, amount, print_checked, print_declared, print_trap
 from .history import histories_of
@@ -17,6 +17,7 @@ from .suggesting import Suggestions, print_suggestion, print_verified, suggestio
 from .together import print_together
 from .traps import find_trap
 from .trouble import Trouble
+from .unsupported import output_note
 from .writing import STANDARD_OUTPUT, output_file
 
 
@@ -44,6 +45,7 @@ def add_options(command: argparse.ArgumentParser) -> None:
     )
     command.add_argument("--no-coverage", action="store_true", help="do not count the lines of C that ran")
     depfile.add_option(command)
+    watching.add_option(command)
 
 
 def printer_of(options: argparse.Namespace) -> Printer:
@@ -54,7 +56,7 @@ def printer_of(options: argparse.Namespace) -> Printer:
         and os.environ.get("TERM") != "dumb"
         and "NO_COLOR" not in os.environ
     )
-    return Printer(sys.stdout, colour, not options.no_source)
+    return Printer(sys.stdout, colour, not options.no_source, options.quiet)
 
 
 def check(options: argparse.Namespace, request: Request, progress: Progress) -> int:
@@ -133,6 +135,8 @@ def print_all(
         if options.declared:
             print_declared(printer, session, checked)
         print_checked(printer, session, checked, options.groups, notes)
+    if note := output_note(session):
+        printer.diagnostic(None, "note", note)
 
 
 def code_of(results: list[Checked]) -> int:
@@ -151,7 +155,8 @@ def how_it_ended(ended: running.Ended, request: Request) -> str:
 
 def run(options: argparse.Namespace, request: Request, progress: Progress) -> int:
     """Runs the program, and shows what it prints and where it traps."""
-    printer = Printer(sys.stderr, printer_of(options).colour and sys.stderr.isatty(), not options.no_source)
+    colour = printer_of(options).colour and sys.stderr.isatty()
+    printer = Printer(sys.stderr, colour, not options.no_source, options.quiet)
     with Session(request, progress) as session:
         progress.wipe()
         limit = ["--limit", str(request.limit)] if request.limit is not None else []

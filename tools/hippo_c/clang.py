@@ -1,9 +1,9 @@
 """The command lines by which hippo-c runs clang on the files of a program."""
 
-from lowering.languages import arguments_for, is_cpp
+from lowering.languages import HEADERS, arguments_for, is_cpp
 
 # Every call compiles for the processor that hippo's programs are for, and leaves warnings to the user's own build.
-CLANG = ("clang-19", "-w", "-target", "x86_64-pc-linux-gnu", "-mclwb", "-mclflushopt")
+CLANG = ("clang-19", "-w", "-target", "x86_64-pc-linux-gnu", "-mclwb", "-mclflushopt", "-idirafter", HEADERS)
 
 
 def clang_for(file: str) -> list[str]:

@@ -5,135 +5,25 @@ import re
 import signal
 import sys
 import traceback
-from collections.abc import Callable
-from typing import IO, NamedTuple
 
 from lowering import options as lowering_options
+from lowering.commands import set_jobs
 
-from . import (
-    about,
-    boundaries,
-    candidates,
-    checking,
-    config,
-    crashing,
-    doctor,
-    ends,
-    explore_options,
-    exploring,
-    install,
-    pools,
-    repairing,
-)
+from . import boundaries, builds, config, doctor, ends, install, starting, watching, wrapper
+from .command_line import OF_PROGRAMS, parser
 from .crashed_inputs import CrashedInput, rows_of
 from .letters import shown
-from .numbers import MOST_TURNS, from_to, numbers_in
+from .numbers import numbers_in
 from .progress import Progress
 from .reading import text_of
 from .session import Request
 from .trouble import Trouble
 from .outputs import check_outputs
 
-DESCRIPTION = """Durability of C programs, by lines of C.
-
-What hippo-c says about durability is an answer of hippo, in another form; hippo-c itself is not proved."""
-EPILOG = """Arguments for clang stand after "--". Exit codes: 0 nothing found, 1 durability bugs found,
-2 the command failed, or a run trapped or was cut. docs/HIPPO_C.md has the whole manual."""
-
-
-class OfProgram(NamedTuple):
-    """A command that runs a program: its name, what it does, its own options, and the function that carries it out."""
-
-    name: str
-    what: str
-    add_options: Callable[[argparse.ArgumentParser], None] | None
-    carry_out: Callable[[argparse.Namespace, Request, Progress], int]
-
-
-OF_PROGRAMS = (
-    OfProgram(
-        "check",
-        "run the program, and report each store that is not durable where it has to be",
-        checking.add_options,
-        checking.check,
-    ),
-    OfProgram("run", "run the program, and show what it prints and where it traps", None, checking.run),
-    OfProgram("repair", "write a repaired program, and show what was added", repairing.add_options, repairing.repair),
-    OfProgram(
-        "crash",
-        "run the program from what a power cut may leave, at many places",
-        crashing.add_options,
-        crashing.crash,
-    ),
-    OfProgram(
-        "explore",
-        "search inputs and power cuts that show durability bugs",
-        explore_options.add_options,
-        exploring.explore,
-    ),
-    OfProgram(
-        "pool", "write the bytes of a pool that a run leaves, or a power cut in it", pools.add_options, pools.pool
-    ),
-    OfProgram("suggest-commits", "list stores that look like commit points, for --commit", None, candidates.suggest),
-)
-
-
-class Parser(argparse.ArgumentParser):
-    """A parser that fails where its help cannot be written."""
-
-    def _print_message(self, message: str, file: IO[str] | None = None) -> None:
-        """Writes the help, or what is wrong with the words."""
-        if message:
-            (file or sys.stderr).write(message)
-
-
-def parser() -> argparse.ArgumentParser:
-    """The parser of all words before `--`."""
-    form = argparse.RawDescriptionHelpFormatter
-    top = Parser("hippo-c", description=DESCRIPTION, epilog=EPILOG, formatter_class=form)
-    top.add_argument("--version", action=about.ShowVersion)
-    commands = top.add_subparsers(dest="command", metavar="COMMAND", required=True)
-    for one in OF_PROGRAMS:
-        command = commands.add_parser(one.name, help=one.what)
-        add_program(command)
-        if one.add_options:
-            one.add_options(command)
-        command.set_defaults(carry_out=one.carry_out)
-    commands.add_parser("doctor", help="say what hippo-c needs and what is missing, and make a first check")
-    put = commands.add_parser(
-        "install", help="copy hippo, hippo-c, the header, manual pages and completions into a folder"
-    )
-    install.add_options(put)
-    return top
-
-
-def add_program(command: argparse.ArgumentParser) -> None:
-    """The words of each command that runs a program."""
-    command.add_argument(
-        "files",
-        nargs="*",
-        metavar="FILE",
-        help=".c, .cpp, or .ll in hippo's subset or of clang 19; without one, those of hippo.toml",
-    )
-    command.add_argument("-O", dest="level", choices=list("0123s"), help="the level of clang (1)")
-    lowering_options.add_options(command, as_text=True)
-    boundaries.add_options(command)
-    command.add_argument("--input", nargs="*", metavar="N", default=None, help="the numbers that the program reads")
-    command.add_argument("--input-file", metavar="FILE", help="a file with these numbers")
-    command.add_argument(
-        "--limit",
-        type=from_to(0, MOST_TURNS),
-        metavar="N",
-        help="the greatest number of turns of a run (1,000,000,000)",
-    )
-    command.add_argument(
-        "--expand-macros",
-        action="store_true",
-        help="expand the macros of each .c on its line, so that " "columns distinguish the statements of a macro",
-    )
-    command.add_argument("--color", choices=["auto", "always", "never"], default="auto")
-    command.add_argument("--no-source", action="store_true", help="leave out the lines of C under the warnings")
-    command.add_argument("--keep", metavar="FOLDER", help="keep the lowered text and the traces in this folder")
+# What a command writes that others run must be the whole program, so it assumes nothing.
+STRICT = ("repair",)
+# The commands in which a function that has no form traps when it is called. In those that run a recovery each trap is a failure.
+TRAPPING = ("check", "run", "pool", "suggest-commits")
 
 
 def inputs_of(options: argparse.Namespace) -> tuple[list[list[int]], list[CrashedInput]]:
@@ -157,6 +47,7 @@ def lower_words(options: argparse.Namespace) -> list[str]:
 def request_of(options: argparse.Namespace, clang: list[str], arguments: list[str]) -> Request:
     """What the command runs; makes the folder of `--keep`."""
     inputs, crashed = inputs_of(options)
+    clang = [*(options.for_clang or []), *clang]
     if options.keep:
         try:
             os.makedirs(options.keep, exist_ok=True)
@@ -174,6 +65,9 @@ def request_of(options: argparse.Namespace, clang: list[str], arguments: list[st
         boundaries.boundaries_of(options),
         crashed,
         compile_commands=options.compile_commands or "",
+        shares_arguments=options.build is not None,
+        is_strict=options.strict or options.command in STRICT,
+        traps_unsupported=not options.strict and options.command in TRAPPING,
     )
 
 
@@ -189,7 +83,10 @@ def read_words(words: list[str]) -> tuple[argparse.Namespace, list[str], list[st
     words, arguments = split(words, "--args")
     form = parser()
     options = form.parse_args(with_levels(words))
-    if not hasattr(options, "files") or options.files:
+    if not hasattr(options, "files"):
+        return options, arguments, clang[1:]
+    if options.files or options.build is not None:
+        builds.take_files(options)
         return options, arguments, clang[1:]
     path = config.find()
     if path is None:
@@ -199,6 +96,7 @@ def read_words(words: list[str]) -> tuple[argparse.Namespace, list[str], list[st
     given, more_arguments, more_clang = config.Config(path).words(options.command, commands_of(form))
     place = words.index(options.command) + 1
     options = form.parse_args(with_levels([*words[:place], *given, *words[place:]]))
+    builds.take_files(options)
     if not options.files:
         raise Trouble(f"{os.path.relpath(path)}: it names no {config.SOURCES}")
     return options, arguments or (["--args", *more_arguments] if more_arguments else []), more_clang + clang[1:]
@@ -212,19 +110,28 @@ def with_levels(words: list[str]) -> list[str]:
 def commands_of(form: argparse.ArgumentParser) -> dict[str, argparse.ArgumentParser]:
     """The parsers of the commands that run a program."""
     found = next(action.choices for action in form._actions if isinstance(action, argparse._SubParsersAction))
-    return {name: one for name, one in found.items() if name not in ("doctor", "install")}
+    return {one.name: found[one.name] for one in OF_PROGRAMS}
 
 
 def carry_out(words: list[str], progress: Progress) -> int:
     """Carries out a command line, and returns its exit code."""
     options = argparse.Namespace()
     try:
+        if wrapper.is_wrapper(words):
+            return wrapper.main(words)
         options, arguments, clang = read_words(words)
         if options.command == "install":
             return install.install(options, parser())
         if options.command == "doctor":
             return doctor.doctor(options)
+        if options.command == "init":
+            return starting.init(options)
+        if options.quiet:
+            progress.shown = False
+        set_jobs(getattr(options, "compile_jobs", None))
         check_outputs(options)
+        if getattr(options, "watch", False):
+            return watching.watch(options, words)
         code: int = options.carry_out(options, request_of(options, clang, arguments), progress)
         return code
     except Trouble as trouble:

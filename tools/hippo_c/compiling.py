@@ -9,7 +9,6 @@ import tempfile
 from collections.abc import Iterable, Iterator
 from typing import NamedTuple
 
-from lowering.languages import is_source
 
 from .clang import clang_for
 from .edits import Additions
@@ -40,7 +39,7 @@ class Compiling:
 
     def __init__(self, session: Session, suggestions: list[Suggestion]) -> None:
         self.session, self.suggestions = session, suggestions
-        self.files = [file for file in session.request.files if is_source(file)]
+        self.files = session.request.sources()
         self.headers: dict[str, str] = {}
         self.without_edits: set[tuple[str, str]] | None = None
 

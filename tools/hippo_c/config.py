@@ -33,6 +33,8 @@ PATHS = {
     "debug",
     "depfile",
     "o",
+    "p",
+    "I",
 }
 # Arguments of clang that name a file or a folder, in the same word or in the next one.
 CLANG_PATHS = ("-I", "-L", "-isystem", "-iquote", "-idirafter", "-include")

@@ -70,6 +70,7 @@ def add_images(command: argparse.ArgumentParser) -> None:
     command.add_argument("--seed", type=int, default=1, metavar="N", help="the seed of these images (1)")
     command.add_argument("--time", type=seconds, metavar="SECONDS", help="stop after this time")
     command.add_argument(
+        "-j",
         "--jobs",
         type=from_to(1),
         default=os.cpu_count(),

@@ -11,7 +11,8 @@ from .program import show_site
 from .reports import Group
 from .session import Checked, Session
 from .sources import line_of
-from .traps import Trap, meaning_of
+from .traps import Trap, advice_of, meaning_of
+from .unsupported import UNSUPPORTED, unsupported_in
 
 COLOURS = {
     "warning": "\x1b[0;1;35m",
@@ -28,16 +29,19 @@ MOST_CALLS = 12
 class Printer:
     """Writes diagnostics to a stream, with clang's colours on request."""
 
-    def __init__(self, stream: TextIO = sys.stdout, colour: bool = False, source: bool = True) -> None:
-        self.stream, self.colour, self.source = stream, colour, source
+    def __init__(
+        self, stream: TextIO = sys.stdout, colour: bool = False, source: bool = True, quiet: bool = False
+    ) -> None:
+        self.stream, self.colour, self.source, self.quiet = stream, colour, source, quiet
 
     def paint(self, name: str, text: str) -> str:
         """A text in a colour, if colours are on."""
         return f'{COLOURS[name]}{text}{COLOURS["off"]}' if self.colour else text
 
     def line(self, text: str = "") -> None:
-        """Writes a line, without what controls a terminal."""
-        self.write(shown_line(text))
+        """Writes a line, without what controls a terminal; a quiet printer writes diagnostics alone."""
+        if not self.quiet:
+            self.write(shown_line(text))
 
     def write(self, line: str) -> None:
         """Writes a line whose colours are the only letters that control a terminal."""
@@ -47,6 +51,8 @@ class Printer:
         self, place: Place | None, level: str, message: str, with_source: bool = False, site: str = ""
     ) -> None:
         """Writes `file:line:column: level: message`, on demand with the line of C and a caret; the site stands for an unknown place."""
+        if self.quiet and not place and not site and level != "error":
+            return
         where = shown_line(f'{show_place(place) if place else site or "hippo-c"}: ')
         text = self.paint("bold", shown(message)) if level != "note" else shown(message)
         self.write(self.paint("bold", where) + self.paint(level, f"{level}: ") + text)
@@ -167,7 +173,7 @@ def print_merged(printer: Printer, place: Place | None) -> None:
 
 def print_trap(printer: Printer, session: Session, ended: str, trap: Trap | None) -> None:
     """Where the run trapped, and by which calls."""
-    kind = ended.split(" ")[-1]
+    kind = UNSUPPORTED if trap and trap.unsupported else ended.split(" ")[-1]
     places = session.places.along(trap.path) if trap else []
     place = places[0] if places else None
     printer.diagnostic(place, "error", f"the run trapped: {meaning_of(kind, trap)} [{kind}]", True)
@@ -175,11 +181,13 @@ def print_trap(printer: Printer, session: Session, ended: str, trap: Trap | None
     print_calls(printer, places, MOST_CALLS)
     if len(places) - 1 > MOST_CALLS:
         printer.line(f"  ({len(places) - 1 - MOST_CALLS:,} more calls outwards)")
+    if advice := advice_of(trap):
+        printer.diagnostic(None, "note", f"what to do: {advice}")
 
 
 def warnings_of(session: Session, checked: Checked) -> list[str]:
     """Why an answer without reports may be worth less than it seems."""
-    found = []
+    found = [*session.request.objects.changed, *unsupported_in(session.program)]
     persistent = session.program.persistent
     if not persistent:
         found.append(

@@ -47,6 +47,7 @@ def add_search(command: argparse.ArgumentParser) -> None:
         "--merge", nargs="+", metavar="CORPUS", help="only unite these files, and show what their inputs show"
     )
     command.add_argument(
+        "-j",
         "--jobs",
         type=from_to(1, 64),
         default=1,

@@ -14,7 +14,8 @@ from .confirming import Confirmed, Confirming, same_trace
 from .explore_answers import Again, print_answer
 from .explore_forms import write_forms
 from .explore_options import bounds_of, words_of
-from .findings import Found, Reader
+from .engine_lines import Reader
+from .findings import Found
 from .native import Engine, accepted
 from .pool_starts import PoolFiles
 from .progress import Progress

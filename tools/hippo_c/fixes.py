@@ -5,7 +5,6 @@ from collections.abc import Sequence
 from dataclasses import dataclass
 
 from lowering.externs import LIBPMEM, LINE_FLUSHES
-from lowering.languages import is_source
 from lowering.names import shortened
 
 from .copies import Copies
@@ -109,7 +108,7 @@ class Fixer:
     def tree_of(self, place: Place) -> Tree | None:
         """The definition of the function that a place is in."""
         session = self.session
-        units = [file for file in session.request.files if is_source(file)]
+        units = session.request.sources()
         units.sort(key=lambda file: file != place.file)
         for unit in units:
             for tree in parsed(unit, (f"-I{session.names.include}", *session.request.clang_of(unit))).named(

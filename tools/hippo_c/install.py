@@ -23,7 +23,9 @@ MANUAL = ("hippo.1", "hippo-c.1", "hippo-lower.1")
 ABOUT = ("help", "version")
 TOOLS = ("hippo-c", "lower", "hippo.h", "external_functions.c")
 SCRIPTS = ("hippo-c", "lower")
-FOLDERS = ("lowering", "hippo_c", "runtime", "build", "explore")
+FOLDERS = ("lowering", "hippo_c", "runtime", "headers", "build", "explore")
+# Where the pages and the examples are in an installation.
+PAGES = "share/doc/hippo"
 
 
 def add_options(command: argparse.ArgumentParser) -> None:
@@ -52,6 +54,7 @@ def install(options: argparse.Namespace, parser: argparse.ArgumentParser) -> int
                 f'{prefix}/bin/{"hippo-lower" if name == "lower" else name}', WRAPPER.format(name=name), executable=True
             )
         copy_tools(prefix)
+        copy_pages(prefix)
         for page in MANUAL:
             put(os.path.join(manual_folder(), page), f"{prefix}/share/man/man1/{page}")
         for path, text in completions.files(parser).items():
@@ -60,6 +63,9 @@ def install(options: argparse.Namespace, parser: argparse.ArgumentParser) -> int
         raise Trouble(f"{error.filename or prefix}: {error.strerror or error}") from None
     Progress().wipe()
     print(f"installed: hippo, hippo-c and hippo-lower in {prefix}/bin")
+    print(f"the manual is {prefix}/{PAGES}/docs/HIPPO_C.md, and {prefix}/{PAGES}/examples has programs to begin with")
+    if f"{prefix}/bin" not in os.environ.get("PATH", "").split(os.pathsep):
+        print(f'not yet in the PATH: export PATH="{prefix}/bin:$PATH"')
     return 0
 
 
@@ -85,6 +91,20 @@ def copy_tools(prefix: str) -> None:
         )
     for page in MANUAL:
         put(os.path.join(manual_folder(), page), f"{library}/man/{page}")
+
+
+def copy_pages(prefix: str) -> None:
+    """Copies the pages for users and the examples, without files of an earlier version."""
+    top = os.path.dirname(running.TOOLS)
+    source = top if os.path.isdir(os.path.join(top, "docs")) else os.path.join(os.path.dirname(top), PAGES)
+    shutil.rmtree(f"{prefix}/{PAGES}", ignore_errors=True)
+    for folder in ("docs", "examples"):
+        shutil.copytree(
+            os.path.join(source, folder),
+            f"{prefix}/{PAGES}/{folder}",
+            ignore=shutil.ignore_patterns("man", "__pycache__"),
+        )
+    put(os.path.join(source, "README.md"), f"{prefix}/{PAGES}/README.md")
 
 
 def write_about(prefix: str) -> None:

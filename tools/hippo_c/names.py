@@ -4,6 +4,7 @@ from collections.abc import Callable
 from concurrent.futures import ThreadPoolExecutor
 from functools import cache
 
+from lowering.commands import jobs
 from lowering.languages import is_source
 from lowering.names import demangled
 
@@ -139,7 +140,7 @@ class Names:
     def types(self) -> list[Types]:
         """The types of each C file."""
         if self.units is None:
-            with ThreadPoolExecutor() as pool:
+            with ThreadPoolExecutor(jobs()) as pool:
                 texts = list(pool.map(self.debug_text, self.files))
             self.units = [Types(text) for text, file in zip(texts, self.files) if is_source(file)]
             self.compiled = compiled_files(texts)

@@ -2,7 +2,6 @@
 import re
 from dataclasses import dataclass
 
-from lowering.languages import is_source
 
 from .clang import emit_text
 from .part_ends import CALL, REGISTER, Ends, refuse_tables, shared_variables
@@ -48,7 +47,9 @@ def visible_names(text: str) -> set[str]:
 
 def part_for(session: Session, repair: Repair, files: list[str]) -> Part:
     """The functions of these files, and all that they need that no other file defines."""
-    given = [file for file in session.request.files if is_source(file)]
+    given = session.request.sources()
+    if session.request.objects.changed:
+        raise Trouble(session.request.objects.changed[0], "--for divides the program by its sources")
     if strange := [file for file in files if file not in given]:
         raise Trouble(f"{strange[0]}: not one of the files of the program", "name it as it is named before --for")
     texts = {file: clang_text(session, file) for file in given}

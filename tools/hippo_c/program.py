@@ -50,7 +50,8 @@ class Function:
         self.name, self.head = name, head
         place = lines.read(comment)
         self.place = place[0] if place else None
-        self.added = comment == lines.ADDED
+        self.added = comment.startswith(lines.ADDED)
+        self.refusal = lines.REFUSED.fullmatch(comment)
         self.blocks: list[Block] = []
 
     @property

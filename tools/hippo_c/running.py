@@ -202,8 +202,7 @@ def lower(request: Request, path: str, requests: str = "") -> str:
 
     If the program has requests to Valgrind, the file `requests` gets the text in which they are noted. A text that is kept is taken.
     """
-    clang = ["--", *request.clang] if request.clang else []
-    words = ["--lines", *request.lower, *request.files, *request.arguments, *clang]
+    words = request.words_for_lower()
     place = kept_texts.path_of([*words, "--requests" if requests else ""])
     if found := kept_texts.find(place):
         for target, text in zip((path, requests), found.texts):

@@ -6,13 +6,16 @@ import os
 import tempfile
 from collections.abc import Iterable
 from dataclasses import dataclass, field
+from functools import cached_property
 from typing import TYPE_CHECKING
 
 from lowering.commands import Failure
 from lowering.compile_commands import own_arguments
 from lowering.languages import arguments_for, is_source
+from lowering.objects import is_object
 
 from . import marking, running, sources
+from .built_objects import Objects
 from .boundaries import Boundary, Check, Placing
 from .declared import Declarations, Declared
 from .names import Names
@@ -30,6 +33,8 @@ if TYPE_CHECKING:
     from .crashed_inputs import CrashedInput
 
 MOST_MARKS = 50_000_000
+IGNORE_OUTPUT = "--ignore-output"
+OUTPUT = {IGNORE_OUTPUT, "--print-numbers"}
 
 
 @dataclass
@@ -48,11 +53,45 @@ class Request:
     crashed: list[CrashedInput] = field(default_factory=list)
     wants_declared: bool = False
     compile_commands: str = ""
+    is_strict: bool = True
+    traps_unsupported: bool = False
+    shares_arguments: bool = False
+
+    def words_for_lower(self) -> list[str]:
+        """The words of `tools/lower`: those that are given, and what a command assumes that is not strict."""
+        words, arguments = list(self.lower), self.arguments
+        if not self.is_strict and not self.says_output():
+            words.append(IGNORE_OUTPUT)
+        if not self.is_strict and not arguments and "--args-from-input" not in words:
+            arguments = ["--args"]
+        if self.traps_unsupported:
+            words.append("--trap-unsupported")
+        if self.shares_arguments:
+            words.append("--share-arguments")
+        clang = ["--", *self.clang] if self.clang else []
+        return ["--lines", *words, *self.files, *arguments, *clang]
+
+    def says_output(self) -> bool:
+        """Whether an option says what text output does."""
+        return bool(OUTPUT.intersection(self.lower))
+
+    @cached_property
+    def objects(self) -> Objects:
+        """What the objects among the files were made of."""
+        return Objects(self.files)
+
+    def sources(self) -> list[str]:
+        """The sources of the program that are there as they were compiled."""
+        return [*filter(is_source, self.files), *self.objects.words]
 
     def clang_of(self, file: str) -> list[str]:
         """The arguments of clang for one file."""
+        if file in self.objects.words:
+            return arguments_for(file, self.objects.words[file])
         try:
-            return arguments_for(file, [*own_arguments(file, self.compile_commands), *self.clang])
+            return arguments_for(
+                file, [*own_arguments(file, self.compile_commands, self.shares_arguments), *self.clang]
+            )
         except Failure as failure:
             raise Trouble(str(failure)) from None
 
@@ -138,8 +177,11 @@ class Session:
         for file in self.request.files:
             if not os.path.isfile(file):
                 raise Trouble(f"{file}: no such file")
-            if not is_source(file) and not file.endswith(".ll"):
-                raise Trouble(f"{file}: not a .c, .cpp or .ll file", "arguments for clang stand after --")
+            if not is_source(file) and not file.endswith(".ll") and not is_object(file):
+                raise Trouble(
+                    f"{file}: not a .c, .cpp or .ll file, nor an object of hippo-c cc",
+                    "arguments for clang stand after --",
+                )
         if self.request.expand:
             given = [file for file in self.request.files if is_source(file)]
             self.request.clang += sources.expand_macros(given, self.request.clang_of, running.TOOLS, self.folder)
@@ -155,7 +197,8 @@ class Session:
                 self.place_boundaries(requests)
         with open(self.text_path, encoding="latin-1") as text:
             program = Program(text.read())
-        names = Names(program, self.request.files, self.request.clang_of, running.TOOLS)
+        texts = [file for file in self.request.files if file.endswith(".ll")]
+        names = Names(program, [*self.request.sources(), *texts], self.request.clang_of, running.TOOLS)
         sources.take_from(names.compiled_files)
         return Lowered(program, Places(program), names, notes, checks, requests)
 

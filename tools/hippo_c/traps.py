@@ -3,6 +3,7 @@ import re
 from dataclasses import dataclass
 
 from lowering.externs import TAKE_ADDRESSES
+from lowering.refusals import ADVICE
 
 from .marking import marked_run, marked_text
 from .program import Instruction, Program, Site
@@ -40,21 +41,32 @@ MEANING_OF_ADDED = {
 
 @dataclass
 class Trap:
-    """The kind of a trap, the path of sites to it (the instruction, then the calls outwards), and the external function that trapped."""
+    """The kind of a trap, the path of sites to it (the instruction, then the calls outwards), and the external function that trapped.
+    Of a function that has no form, its name, the kind of the refusal and the reason."""
 
     kind: str
     path: tuple[Site, ...]
     callee: str = ""
+    unsupported: tuple[str, str, str] | None = None
 
 
 def meaning_of(kind: str, trap: Trap | None) -> str:
     """What a trap of a kind means at its instruction, if this is known."""
+    if trap and trap.unsupported:
+        name, refused, reason = trap.unsupported
+        why = "which is not in the program" if refused == "missing" else f"which has no form here: {reason}"
+        return f"a call of '{name}', {why}"
     if kind == "unreachable" and trap:
         if added := ADDED.fullmatch(trap.path[0][0]):
             return MEANING_OF_ADDED[added["what"]]
     if kind == "address" and trap and trap.callee in ADDRESS_OF_CALLS:
         return ADDRESS_OF_CALLS[trap.callee]
     return MEANING.get(kind, kind)
+
+
+def advice_of(trap: Trap | None) -> str:
+    """What the user can do about a function that has no form; nothing for another trap."""
+    return ADVICE[trap.unsupported[1]] if trap and trap.unsupported else ""
 
 
 def may_trap(instruction: Instruction, kind: str, program: Program) -> bool:
@@ -80,7 +92,11 @@ def find_trap(program: Program, numbers: list[int], kind: str) -> Trap | None:
         return Trap(kind, tuple(reversed(calls)))
     top = program.at(calls[-1]).callee if calls else "main"
     site = last_candidate(program, numbers, kind, top)
-    return Trap(kind, (site, *reversed(calls)), program.at(site).callee) if site else None
+    if not site:
+        return None
+    refusal = program.functions[site[0]].refusal
+    unsupported = (program.functions[calls[-1][0]].name_in_c, refusal["kind"], refusal["reason"]) if refusal else None
+    return Trap(kind, (site, *reversed(calls)), program.at(site).callee, unsupported)
 
 
 def standing_calls(program: Program, numbers: list[int], kind: str) -> list[Site] | None:

@@ -5,9 +5,10 @@ import re
 import struct
 from typing import TYPE_CHECKING, Callable
 
+from .layout import natural
 from .refusals import Refused
 from .tokens import Tokens
-from .types import FLOATS, INTEGERS, Type, as_integer, as_scalar, bits, pieces, read_type, show_type
+from .types import FLOATS, INTEGERS, Type, as_integer, as_scalar, bits, element, pieces, read_type, show_type, size
 
 if TYPE_CHECKING:
     from .module import Module
@@ -145,6 +146,19 @@ def read_code_address(tokens: Tokens, word: str, module: Module) -> str:
     return module.code.label_address(function, label)
 
 
+def element_address(type_: Type, base: str, indices: list[tuple[Type, str]]) -> str:
+    """A constant `getelementptr`; by bytes if the subset has no type with the same layout."""
+    same = natural(type_)
+    if same is not None:
+        inside = ", ".join(f"{show_type(index)} {value}" for index, value in indices)
+        return f"getelementptr ({show_type(same)}, ptr {base}, {inside})"
+    offset = int(indices[0][1]) * size(type_)
+    for _, value in indices[1:]:
+        begin, type_ = element(type_, int(value))
+        offset += begin
+    return f"getelementptr (i8, ptr {base}, i64 {offset})"
+
+
 def read_element_address(tokens: Tokens, module: Module) -> str:
     """A constant `getelementptr`, after its word."""
     tokens.take_all(FLAGS)
@@ -160,7 +174,7 @@ def read_element_address(tokens: Tokens, module: Module) -> str:
         index = read_type(tokens, module.named_types)
         indices.append((index, read_scalar(tokens, index, module, refuse_expression)))
     tokens.take(")")
-    return module.element_address(type_, base, indices)
+    return element_address(type_, base, indices)
 
 
 def read_expression(tokens: Tokens, word: str, module: Module, emit: Emit) -> str:

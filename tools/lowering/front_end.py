@@ -1,19 +1,22 @@
 """From C and C++ files to one module of LLVM's text form, by clang, llvm-link and opt."""
+from __future__ import annotations
+
 import os
 import re
-import stat
 from concurrent.futures import ThreadPoolExecutor
 from dataclasses import dataclass
-from typing import Iterable
 
 from .before_passes import Facts, changed
-from .commands import NO_FILE, READ_FAULT, REFUSED, Failure, output_of
+from .commands import REFUSED, Failure, jobs, output_of
 from .compile_cache import kept
+from .definitions import MAIN, check_definitions, check_mains, persistent_declarations, read
 from .divisions import with_checks
 from .ends import WORK
 from .inline import link_inline
 from .languages import FLAGS, command_for, compiler, is_cpp, is_source
-from .names import LOOKS_PERSISTENT, PERSISTENT, unescaped
+from .module_cache import kept_unit
+from .names import LOOKS_PERSISTENT, unescaped
+from .objects import Unit, is_object, units_of
 from .options import Options
 from .places import Places, has_circle
 from .reads import OF_TEXT
@@ -28,11 +31,6 @@ NOT_PUBLIC = re.compile(r"\b(?:internal|private|hidden|available_externally|link
 
 # A global with a section.
 SECTION = re.compile(r'^@("[^"\n]*"|[-A-Za-z$._0-9]+) = [^\n]* section "([^"\n]*)"', re.M)
-
-# A global with a section that another module defines.
-DECLARED_IN_SECTION = re.compile(
-    r'^@("[^"\n]*"|[-A-Za-z$._0-9]+) = (?:\w+ )*?external [^\n]* section "([^"\n]*)"', re.M
-)
 
 # LLVM's passes that run if the text has an instruction that they lower.
 ON_DEMAND = {
@@ -70,13 +68,16 @@ class Program:
 def program_of(options: Options) -> Program:
     """The program that the files of a command line make, with the functions of the runtime that it needs."""
     folder = WORK.folder()
-    targets = [f"{folder}/{number}.ll" for number in range(len(options.files))]
-    with ThreadPoolExecutor(os.cpu_count()) as workers:
-        modules = list(workers.map(module_of, options.files, [options] * len(targets), targets))
+    parts = parts_of(options.files)
+    names = [part if isinstance(part, str) else part.name for part in parts]
+    targets = [f"{folder}/{number}.ll" for number in range(len(parts))]
+    with ThreadPoolExecutor(jobs()) as workers:
+        modules = list(workers.map(module_of, parts, [options] * len(targets), targets))
     files, facts = [file for file, _ in modules], Facts()
     for _, of_file in modules:
         facts.add(of_file)
-    declared = persistent_declarations(zip(options.files, files))
+    check_mains(names, files)
+    declared = persistent_declarations(zip(names, files))
     linked = files[0] if len(files) == 1 else link(files, f"{folder}/linked.ll")
     text = read(linked)
     check_definitions(declared, text)
@@ -113,8 +114,22 @@ def global_places(options: Options) -> dict[str, str]:
     return found
 
 
-def module_of(file: str, options: Options, target: str) -> tuple[str, Facts]:
-    """The name of a file with the module of one file, which is C, C++ or LLVM's text form, and its facts."""
+def parts_of(files: list[str]) -> list[str | Unit]:
+    """The files, and in place of an object or an archive what its objects were made of."""
+    found: list[str | Unit] = []
+    for file in files:
+        if is_object(file):
+            found.extend(units_of(file))
+        else:
+            found.append(file)
+    return found
+
+
+def module_of(file: str | Unit, options: Options, target: str) -> tuple[str, Facts]:
+    """The name of a file with the module of one file, which is C, C++, LLVM's text form or an object, and its facts."""
+    if isinstance(file, Unit):
+        text, facts = module_of_unit(file, options, target)
+        return write(target, wrapped(text, options.wrap) if options.wrap else text), facts
     text, facts = read(file), Facts()
     if text.startswith(BITCODE):
         raise Failure(f"{file}: this is bitcode: give the text form that llvm-dis-19 makes of it", REFUSED)
@@ -141,7 +156,8 @@ def module_of_source(file: str, options: Options, may_jump: bool) -> tuple[str, 
         text = compiled(file, options)
         return compile_in_two_steps(file, options) if calls_setjmp(text) else (text, Facts())
 
-    return kept(options.cache, command_for(file, options.level, options, TOOLS), make) if options.cache else make()
+    command = command_for(file, options.level, options, TOOLS)
+    return kept(options.cache, command, make) if options.cache else kept_unit(command, make)
 
 
 def compiled(file: str, options: Options, *more: str) -> str:
@@ -155,7 +171,23 @@ def compiled(file: str, options: Options, *more: str) -> str:
 def compile_in_two_steps(file: str, options: Options) -> tuple[str, Facts]:
     """The module of a file that is changed before LLVM's passes, and its facts; the passes leave out the functions that call
     `setjmp`."""
-    before, facts = changed(compiled(file, options, *UNOPTIMISED))
+    return optimised(compiled(file, options, *UNOPTIMISED), file, options)
+
+
+def module_of_unit(unit: Unit, options: Options, target: str) -> tuple[str, Facts]:
+    """The module of what an object was made of, and its facts."""
+    path = f"{target}.bc"
+    with open(path, "wb") as out:
+        out.write(unit.bitcode)
+    text = output_of(["llvm-dis-19", "-o", "-", path])
+    check_places(unit.name, text)
+    check_target(unit.name, text)
+    return optimised(text, unit.source, options)
+
+
+def optimised(text: str, file: str, options: Options) -> tuple[str, Facts]:
+    """The module of a text before LLVM's passes, which is changed before them, and its facts."""
+    before, facts = changed(text)
     name, *flags = compiler(file)
     optimise = [name, options.level, *FLAGS, *flags, "-w", *OF_TEXT]
     if calls_setjmp(before):
@@ -182,28 +214,6 @@ def check_places(file: str, text: str) -> None:
         )
 
 
-def persistent_declarations(modules: Iterable[tuple[str, str]]) -> dict[str, str]:
-    """The names that a module declares in a section that looks persistent, and does not define, each with its file."""
-    return {
-        name: file
-        for file, module in modules
-        for name, section in DECLARED_IN_SECTION.findall(read(module))
-        if LOOKS_PERSISTENT.match(unescaped(section))
-    }
-
-
-def check_definitions(declared: dict[str, str], text: str) -> None:
-    """Refuses what is declared persistent in one file and defined as volatile in another: the definition alone would decide."""
-    defined = {name: line for name, line in re.findall(r'^@("[^"\n]*"|[-A-Za-z$._0-9]+) = (.*)$', text, re.M)}
-    for name, file in declared.items():
-        line = defined.get(name, "external")
-        if not re.search(r"\bexternal\b", line.split(" section ")[0]) and f' section "{PERSISTENT}"' not in line:
-            raise Failure(
-                f"{file}: {name} is declared persistent, and its definition is not: write PERSISTENT before the definition",
-                REFUSED,
-            )
-
-
 def link(modules: list[str], target: str) -> str:
     """The name of a file with all of the modules."""
     output_of(["llvm-link-19", "-S", "-o", target, *modules])
@@ -215,19 +225,6 @@ def write(file: str, text: str) -> str:
     with open(file, "w", encoding="latin-1") as out:
         out.write(text)
     return file
-
-
-def read(file: str) -> str:
-    """The text of a file or a pipe. A device may have no end."""
-    try:
-        with open(file, encoding="latin-1") as text:
-            if stat.S_ISCHR(os.fstat(text.fileno()).st_mode):
-                raise Failure(f"read fault: {file}: this is a device", READ_FAULT)
-            return text.read()
-    except FileNotFoundError:
-        raise Failure(f"no file: {file}", NO_FILE) from None
-    except OSError as error:
-        raise Failure(f"read fault: {file}: {error.strerror}", READ_FAULT) from None
 
 
 def names_of(text: str) -> tuple[set[str], list[str]]:
@@ -247,7 +244,7 @@ def names_of(text: str) -> tuple[set[str], list[str]]:
 def passes(options: Options, text: str) -> list[str]:
     """LLVM's passes over the linked module: only what `main` reaches and what is persistent stays."""
     names, flags = [], []
-    if re.search(r"^define [^@\n]*@main\(", text, re.M):
+    if MAIN.search(text):
         kept = [
             "main",
             *(name for name, section in SECTION.findall(text) if LOOKS_PERSISTENT.match(unescaped(section))),

@@ -62,10 +62,11 @@ class Function(Writer):
         self.registers_taken: int = 0
         self.float_registers_taken: int = 0
         self.activation: str = ""
+        self.refusal: Refused | None = None
         self.sites: list[tuple[str, list[tuple[str, str]]]] = []
         head, metadata = module.places.without_metadata(head)
         self.head_place: str = module.places.of(metadata)
-        self.head_comment = module.line_tables.head_comment(metadata) if module.line_tables else ""
+        self.head_comment: str = module.line_tables.head_comment(metadata) if module.line_tables else ""
         self.lines: list[tuple[str, dict[str, str]]] = [
             module.places.without_metadata(line) for line in join_switches(body)
         ]
@@ -76,7 +77,11 @@ class Function(Writer):
         try:
             self.read_head(Tokens(head))
         except Refused as refusal:
-            module.refusals.add(refusal, self.head_place, head[:110])
+            self.parameters = []
+            if module.unsupported.takes(self, refusal):
+                self.refusal = refusal
+            else:
+                module.refusals.add(refusal, self.head_place, head[:110])
 
     def read_head(self, tokens: Tokens) -> None:
         """The function's parameters and its result."""
@@ -101,7 +106,8 @@ class Function(Writer):
             type_ = self.type(tokens)
             least, written = tokens.skip_attributes()
             copied = None if written is None else self.type(written)
-            self.parameter(type_, tokens.take(), copied, least)
+            name = tokens.take() if tokens.peek() not in (",", ")") else f"%{len(types)}"
+            self.parameter(type_, name, copied, least)
             self.registers_taken += registers_of(type_, copied, self.registers_taken)
             self.float_registers_taken += float_registers_of(type_, self.float_registers_taken)
             types += pieces(type_)
@@ -129,16 +135,28 @@ class Function(Writer):
         self.parameters += [f"{piece} {name}" for piece, name in zip(pieces(type_), names)]
 
     def lower(self) -> None:
-        """Writes the lines of the function in the subset; refusals go to the module."""
+        """Writes the lines of the function in the subset; refusals go to the module, or make it a function that traps."""
+        if self.refusal:
+            return
         collect_same_values(self)
         for line, metadata in self.lines:
             try:
                 self.lower_line(line, metadata)
             except Refused as refusal:
+                if self.module.unsupported.takes(self, refusal):
+                    self.refuse(refusal)
+                    return
                 refuse(self.module, refusal, self, metadata, line)
+
+    def refuse(self, refusal: Refused) -> None:
+        """Makes this a function that traps when it is called."""
+        self.refusal = self.refusal or refusal
+        self.out, self.sites = [], []
 
     def text(self) -> str:
         """The function in the subset."""
+        if self.refusal:
+            return self.module.unsupported.text(self, self.refusal)
         put_tests(self)
         name = self.module.names[self.written_name]
         head = f'define {self.signature.returned} @{name}({", ".join(self.parameters)}) {{{self.head_comment}'

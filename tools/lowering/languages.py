@@ -1,6 +1,11 @@
 """The languages of source files, and clang's commands for them."""
+import os
+
 from .compile_commands import own_arguments
 from .options import Options
+
+# Headers for machines without the libraries; those of the system come first.
+HEADERS = os.path.join(os.path.dirname(os.path.dirname(os.path.abspath(__file__))), "headers")
 
 C, CPP = ".c", (".cc", ".cpp", ".cxx", ".c++", ".C")
 FLAGS = """-S -emit-llvm -target x86_64-pc-linux-gnu -mclwb -mclflushopt -fwrapv
@@ -25,7 +30,7 @@ def is_source(file: str) -> bool:
 
 def compiler(file: str) -> list[str]:
     """The program that compiles a C or C++ file, and the flags of its language."""
-    return ["clang++-19", *CPP_FLAGS] if is_cpp(file) else ["clang-19", *C_FLAGS]
+    return [*(["clang++-19", *CPP_FLAGS] if is_cpp(file) else ["clang-19", *C_FLAGS]), "-idirafter", HEADERS]
 
 
 def arguments_for(file: str, given: list[str]) -> list[str]:
@@ -43,6 +48,8 @@ def command_for(file: str, level: str, options: Options, folder: str) -> list[st
         *FLAGS,
         *flags,
         f"-I{folder}",
-        *arguments_for(file, [*own_arguments(file, options.compile_commands), *options.clang]),
+        *arguments_for(
+            file, [*own_arguments(file, options.compile_commands, options.shares_arguments), *options.clang]
+        ),
         file,
     ]

@@ -14,6 +14,8 @@ from .names import demangled
 from .places import Places
 
 ADDED = "added"
+# What stands after the head of an added function that traps since another one has no form: the kind of the refusal, and the reason.
+REFUSED = re.compile(rf"{ADDED}: (?P<kind>\w+): (?P<reason>.*)")
 # clang inlines few calls; a file may have chains of thousands, and each instruction writes its chain.
 MOST_FRAMES = 64
 PLAIN_FUNCTION = re.compile(r"[\w$.:~]+", re.ASCII)
@@ -129,8 +131,9 @@ def with_comment(line: str, comment: str) -> str:
     return line if not line.startswith("  ") else line + comment
 
 
-def marked_added(text: str) -> str:
-    """The text of a function that was added to the program, with a mark on each line except labels and the last."""
-    return "\n".join(
-        line + as_comment(ADDED) if line.startswith(("  ", "define")) else line for line in text.split("\n")
-    )
+def marked_added(text: str, reason: str = "") -> str:
+    """The text of a function that was added to the program, with a mark on each line except labels and the last; the head has a reason
+    too, if there is one."""
+    head, *rest = text.split("\n")
+    mark = as_comment(f"{ADDED}: {reason}" if reason else ADDED)
+    return "\n".join([head + mark, *(line + as_comment(ADDED) if line.startswith("  ") else line for line in rest)])

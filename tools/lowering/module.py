@@ -12,7 +12,6 @@ from .front_end import Program, global_places
 from .function import Function, Signature
 from .globals import ALIAS, UNDEFINED, global_text
 from .jumps import Jumps
-from .layout import natural
 from .lines import LineTables, marked_added
 from .names import clean_name, function_name, global_name
 from .notes import note_text
@@ -20,7 +19,8 @@ from .places import Places
 from .refusals import Refusals, Refused
 from .runtime import reason_for
 from .start import Start
-from .types import Type, element, show_type, size
+from .types import Type
+from .unsupported import Unsupported
 from .users import Users, refuse_global
 
 if TYPE_CHECKING:
@@ -48,7 +48,7 @@ class Module:
         self.function_names: set[str] = set()
         self.same_names: dict[str, str] = {}
         self.weak: set[str] = set()
-        self.declared: set[str] = set()
+        self.declared: dict[str, str] = {}
         self.externs: list[str] = []
         self.persistent: list[tuple[str, int]] = []
         self.sections_by_pragma: dict[str, str] = {}
@@ -60,7 +60,9 @@ class Module:
         self.places = Places(program.text)
         self.line_tables = LineTables(self.places) if options.lines else None
         self.start, self.code, self.dispatch, self.jumps = Start(self), Code(self), Dispatch(self), Jumps(self)
+        self.unsupported = Unsupported(self)
         globals_, functions = self.items(program.text)
+        functions += self.stubs({function_name(head) for head, _ in functions})
         self.take_names(globals_, functions)
         self.note_assumed(program)
         self.code.take([*globals_, *(line for _, body in functions for line in body)])
@@ -79,7 +81,7 @@ class Module:
         if not self.persistent and "@main" in self.signatures:
             self.note("nothing_persistent")
         self.jumps.find(functions)
-        return [function.text() for function in functions]
+        return self.unsupported.used([function.text() for function in functions])
 
     def items(self, text: str) -> tuple[list[str], list[tuple[str, list[str]]]]:
         """The lines of globals, and heads and bodies of functions."""
@@ -98,8 +100,10 @@ class Module:
             elif not stripped or IGNORED.match(stripped):
                 continue
             elif stripped.startswith("declare"):
-                name = function_name(stripped)
-                (self.weak if " extern_weak " in stripped else self.declared).add(name)
+                if " extern_weak " in stripped:
+                    self.weak.add(function_name(stripped))
+                else:
+                    self.declared[function_name(stripped)] = stripped
             elif stripped.startswith("define"):
                 body = []
                 functions.append((stripped, body))
@@ -112,6 +116,10 @@ class Module:
             else:
                 self.refusals.add(Refused(f"unknown item: {stripped[:90]}"))
         return globals_, functions
+
+    def stubs(self, defined: set[str]) -> list[tuple[str, list[str]]]:
+        """The heads of functions that trap for what no file defines, without bodies."""
+        return [(head, []) for head in self.unsupported.stub_heads(self.declared, defined)]
 
     def keep_global(self, globals_: list[str], line: str) -> None:
         """Notes a line of a global, by its kind."""
@@ -231,18 +239,6 @@ class Module:
         kind = "function" if written in self.declared else "variable"
         return Refused(f"the {kind} {written} is not in the program", "missing")
 
-    def element_address(self, type_: Type, base: str, indices: list[tuple[Type, str]]) -> str:
-        """A constant `getelementptr`; by bytes if the subset has no type with the same layout."""
-        same = natural(type_)
-        if same is not None:
-            inside = ", ".join(f"{show_type(index)} {value}" for index, value in indices)
-            return f"getelementptr ({show_type(same)}, ptr {base}, {inside})"
-        offset = int(indices[0][1]) * size(type_)
-        for _, value in indices[1:]:
-            begin, type_ = element(type_, int(value))
-            offset += begin
-        return f"getelementptr (i8, ptr {base}, i64 {offset})"
-
     def signature_of(self, written: str) -> Signature:
         """How a function of the program, or one that hippo knows, is called."""
         return self.signatures.get(written) or self.extern_signature(written[1:])
@@ -286,6 +282,8 @@ class Module:
     def lower_function(self, function: Function) -> None:
         """Lowers a function."""
         self.in_runtime = not self.is_own(function.written_name)
+        if function.written_name in self.unsupported.stubs:
+            function.refuse(self.missing(function.written_name))
         function.lower()
         if function.written_name == "@main":
             self.start.call_constructors(function)
@@ -294,6 +292,6 @@ class Module:
         """The program in the subset."""
         added = [text for _, text in self.helpers.values()]
         if self.line_tables:
-            added = [marked_added(text) for text in added]
+            added = [marked_added(text, self.unsupported.reasons.get(name, "")) for name, text in self.helpers.values()]
         parts = [*self.globals, *self.start.globals, *map(declaration, self.externs), *self.functions, *added]
         return "\n".join(parts) + "\n"

@@ -22,6 +22,7 @@ NOTES = {
     "throw": "throw: it traps, and no handler (catch) is in the program",
     "destroyed": "the persistent global @{NAME} is destroyed at the end of the run, and its destructor may store",
     "environment": "the environment of main is empty",
+    "unsupported": "{WHAT}: a call of it traps",
     # What an option allows.
     "functions": "{NAMES}: as {OPTION} allows",
     "atomics": "atomic accesses: plain ones, as --single-thread allows",

@@ -43,6 +43,8 @@ class Options:
     public: str = ""
     requests: str = ""
     reads: str = ""
+    trap_unsupported: bool = False
+    shares_arguments: bool = False
     compile_commands: str = ""
     cache: str = ""
     wrap: list[str] = field(default_factory=list)
@@ -134,11 +136,27 @@ def build_parser(description: str) -> Parser:
         default="",
         help="write what the text was made from, by which hippo-c knows whether a kept text is that of the same files",
     )
+    add_readings(parser)
+    parser.add_argument("files", nargs="+", metavar="FILE")
+    return parser
+
+
+def add_readings(parser: argparse.ArgumentParser) -> None:
+    """The options by which hippo-c calls this command."""
+    parser.add_argument(
+        "--trap-unsupported",
+        action="store_true",
+        help="a function with a part that has no form, or that no file defines, traps when it is called",
+    )
+    parser.add_argument(
+        "--share-arguments",
+        dest="shares_arguments",
+        action="store_true",
+        help="a C file that the compile_commands.json does not have gets the arguments that all files of it share",
+    )
     parser.add_argument(
         "--lines", action="store_true", help="add a comment after each instruction, with its place in C"
     )
-    parser.add_argument("files", nargs="+", metavar="FILE")
-    return parser
 
 
 def add_options(parser: argparse.ArgumentParser, as_text: bool = False) -> None:

@@ -6,15 +6,16 @@ from collections.abc import Callable
 from concurrent.futures import ThreadPoolExecutor
 from functools import partial
 
-from .commands import READ_FAULT, Failure, output_of
+from .commands import READ_FAULT, Failure, jobs, output_of
 from .externs import EXTERNS
 from .floats import functions_needed, has_floats
 from .jumps import JUMP, SETJMP
 from .languages import compiler, is_cpp
 from .library import refused_in_library
+from .module_cache import kept
 from .options import Options, Pool
+from .reads import listing
 from .refusals import Refused
-from .runtime_cache import files_of_rule, kept
 from .start import WORDS_FROM_INPUT
 from .throws import without_throws
 
@@ -140,17 +141,17 @@ class Runtime:
             flags.append("-DHIPPO_OWN_NEW")
 
         def one(file: str) -> str:
-            target, rule = (f"{self.folder}/{os.path.basename(file)}.{end}" for end in ("ll", "d"))
+            target, listed = (f"{self.folder}/{os.path.basename(file)}.{end}" for end in ("ll", "d"))
             command = [*compiler(file), *flags, *(OF_CPP if is_cpp(file) else RUNTIME_FLAGS), "-o", "-", file]
-            make = partial(made_module, [*command, "-MD", "-MF", rule])
             if os.path.dirname(file) == RUNTIME:
-                kept(command, make, lambda: files_of_rule(read(rule)), target)
+                make = partial(made_module, [command[0], *listing(listed), *command[1:]])
+                kept(command, make, listed, target)
             else:
                 with open(target, "w", encoding="latin-1") as out:
-                    out.write(make())
+                    out.write(made_module(command))
             return target
 
-        with ThreadPoolExecutor(os.cpu_count()) as workers:
+        with ThreadPoolExecutor(jobs()) as workers:
             return list(workers.map(one, files))
 
 

@@ -25,7 +25,7 @@ OF_TIME = re.compile(rb"\b__(?:DATE|TIME|TIMESTAMP)__\b")
 # Words of a command that name no file, and words after which another one stands.
 PLAIN = re.compile(
     r"-(?:[DUI].+|W[^,]*|w|O\w?|g[\w-]*|std=.+|ansi|pedantic(?:-errors)?|pthread|S|emit-llvm|m[\w=-]+"
-    r"|f(?!.*(?:module|plugin|pch|profile|sanitize))[\w-]+)"
+    r"|f(?!.*(?:module|plugin|pch|profile|sanitize))[\w-]+|fdebug-compilation-dir=/)"
 )
 WITH_FOLDER = ("-I", "-isystem", "-iquote", "-idirafter")
 WITH_WORD = (*WITH_FOLDER, "-D", "-U", "-include", "-target", "-o", "-x", "-Xclang")
@@ -34,7 +34,7 @@ SEARCHED = re.compile(r"^#include .* search starts here:$\n((?:^ .*$\n)*)", re.M
 IGNORED = re.compile(r'^ignoring nonexistent directory "(.*)"$', re.M)
 # Variables of the environment that say how a terminal or a shell looks, or where short-lived files go; all others count.
 OF_TERMINAL = re.compile(
-    r"_|TMPDIR|PWD|OLDPWD|SHLVL|TERM\w*|COLUMNS|LINES|COLORTERM|LS_COLORS|NO_COLOR|WINDOWID|TMUX\w*|SSH_\w+|XDG_SESSION\w*"
+    r"_|HIPPO_JOBS|TMPDIR|PWD|OLDPWD|SHLVL|TERM\w*|COLUMNS|LINES|COLORTERM|LS_COLORS|NO_COLOR|WINDOWID|TMUX\w*|SSH_\w+|XDG_SESSION\w*"
 )
 TOOLS_OF_LLVM = ("clang-19", "clang++-19", "llvm-link-19", "opt-19", "llvm-as-19")
 INSTALLED = ("/usr/lib/gcc", "/usr/lib/gcc/x86_64-linux-gnu")
@@ -122,35 +122,53 @@ def is_unchanged(state: State) -> bool:
     return digest("\n".join(files_there(state.folders, state.names)).encode("utf-8", "surrogateescape")) == state.found
 
 
-def state_of(command: list[str], read: list[str], start: float) -> State | None:
-    """The state of a command that started at a time and read these files; nothing if it is not known."""
+def state_of(command: list[str], read: list[str], start: float, made: bool = False) -> State | None:
+    """The state of a command that started at a time and read these files, the source first; nothing if it is not known. A source
+    that the caller has made, and would make again, is no part of it."""
     given = words_of(command, read[0]) if read else None
     if given is None:
         return None
-    names = set(given)
+    names, kept = set(given), read[1:] if made else read
     try:
         for path in read:
             content = content_of(path)
             found = [*DIRECTIVE.findall(content), *QUERY.findall(content)]
-            if is_young(path, start) or OF_TIME.search(content) or any(computed for _, _, computed in found):
+            is_known = path not in kept or not is_young(path, start)
+            if not is_known or OF_TIME.search(content) or any(computed for _, _, computed in found):
                 return None
             names |= {os.fsdecode(angled or quoted) for angled, quoted, _ in found}
         if not all(is_named(path, names) for path in read[1:]):
             return None
-        folders = sorted(
-            {os.getcwd(), *folders_of(command, read[0]), *(os.path.dirname(os.path.abspath(path)) for path in read)}
-        )
-        there = files_there(folders, sorted(names))
-        if any(is_young(path, start) for path in there):
-            return None
+        folders = {
+            os.getcwd(),
+            *folders_of(command, read[0]),
+            *(os.path.dirname(os.path.abspath(path)) for path in kept),
+        }
+        return state_of_files({path: digest_of(path) for path in kept}, names, folders, start)
     except OSError:
         return None
-    return State(
-        {path: digest_of(path) for path in read},
-        sorted(names),
-        folders,
-        digest("\n".join(there).encode("utf-8", "surrogateescape")),
-    )
+
+
+def state_of_files(files: dict[str, str], names: set[str], folders: set[str], start: float) -> State | None:
+    """The state of files that a command read which started at a time; nothing if a file of one of the names has come since."""
+    there = files_there(sorted(folders), sorted(names))
+    if any(is_young(path, start) for path in there):
+        return None
+    found = digest("\n".join(there).encode("utf-8", "surrogateescape"))
+    return State(files, sorted(names), sorted(folders), found)
+
+
+def united(states: list[State], start: float) -> State | None:
+    """One state for those of several commands after a time, which is unchanged only if each of them is; nothing if it is not known."""
+    files: dict[str, str] = {}
+    for state in states:
+        if any(files.setdefault(path, known) != known for path, known in state.files.items()):
+            return None
+    names = {name for state in states for name in state.names}
+    folders = {folder for state in states for folder in state.folders}
+    if not all(map(is_unchanged, states)):
+        return None
+    return state_of_files(files, names, folders, start)
 
 
 def is_named(path: str, names: set[str]) -> bool:

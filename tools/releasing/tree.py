@@ -88,6 +88,7 @@ def make_tree(origin: Origin, folder: Path) -> None:
     about = VERSION_TEXT.format(version=origin.version, commit=origin.commit, toolchain=origin.toolchain)
     (folder / "lib/hippo/about/version").write_text(about, encoding="utf-8")
     documents = folder / DOCUMENTS
+    shutil.rmtree(documents)  # a release has what the commit has, and no other files
     copy_documents(TOP, documents)
     start = START.format(
         version=origin.version,

@@ -84,9 +84,20 @@ class CompileCommands(ClangCase):
         entries = self.entries()
         for given, code, said in (
             (entries[:1], 1, f"{self.folder}/main.c is not in"),
-            ('{"a": 1}', 1, "is not a list of commands"),
-            ('[{"file": "left.c"}]', 1, "is not a list of commands"),
-            ("[", 1, "is not a list of commands"),
+            ('{"a": 1}', 1, "compile_commands.json:1: not a list of commands"),
+            (
+                '[{"file": "left.c"}]',
+                1,
+                "compile_commands.json:1: no command with a directory, a file, and its arguments",
+            ),
+            ('[\n{"file": "left.c", "command": "cc \\"x"}]', 1, "compile_commands.json:2: no command with"),
+            ("[", 1, "compile_commands.json:1: Expecting value"),
+            ('[\n{"file": "left.c",\n "command" "cc"}]', 1, "compile_commands.json:3: Expecting ':' delimiter"),
+            (
+                '[\n{"file": "left.c",\n "command": "cc"}\n\n x]',
+                1,
+                "compile_commands.json:5: neither a comma nor the end of",
+            ),
         ):
             done = self.lower(self.commands(given))
             self.assertEqual((done.returncode, done.stdout), (code, ""), given)

@@ -21,6 +21,7 @@ OPTIONS = [
     "64",
     "--unaligned",
     "--ignore-output",
+    "--trap-unsupported",
     "--pool",
     "a=4096",
 ]
@@ -70,8 +71,10 @@ static unsigned long request(void) {
                    : "=d"(result) : "a"(a), "0"(5ul) : "cc", "memory");
   return result;
 }
+int defined_nowhere(void);
 int main(int count, char **words, char **rest) {
   forms();
+  if (words[0][0] == 1) return defined_nowhere();
   return (int)request() + (int)processor() + words[count - 1][0] + (rest[0] != 0);
 }
 """
@@ -90,6 +93,7 @@ FILLED = {
     "time": "time",
     "zone": "localtime",
     "system": "getenv",
+    "unsupported": "defined_nowhere (the function @defined_nowhere is not in the program)",
 }
 
 

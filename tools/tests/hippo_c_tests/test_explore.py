@@ -8,7 +8,8 @@ from .explore_case import BUGS, BugCase, numbers_of
 
 from hippo_c import confirming
 from hippo_c.exploring import united
-from hippo_c.findings import Reader, shortened
+from hippo_c.engine_lines import Reader
+from hippo_c.findings import shortened
 from hippo_c.native import Engine
 from hippo_c.program import Program
 from hippo_c.progress import Progress

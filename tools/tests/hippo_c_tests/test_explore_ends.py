@@ -13,7 +13,7 @@ from .explore_case import BUGS, BugCase
 
 from hippo_c import exploring
 from hippo_c.confirming import Confirming
-from hippo_c.findings import Reader
+from hippo_c.engine_lines import Reader
 from hippo_c.native import Engine
 from hippo_c.program import Program
 from hippo_c.trouble import Trouble

@@ -8,7 +8,7 @@ from .explore_case import BUGS, numbers_of
 from .test_native import NativeCase
 
 from hippo_c import confirming, exploring, running
-from hippo_c.findings import Reader
+from hippo_c.engine_lines import Reader
 from hippo_c.native import Engine
 from hippo_c.progress import Progress
 from hippo_c.session import Request, Session

@@ -7,7 +7,7 @@ from .explore_case import BugCase, numbers_of
 from .test_browser import BROWSER
 
 from hippo_c import confirming
-from hippo_c.findings import Reader
+from hippo_c.engine_lines import Reader
 
 PROBE = """<script>
 const points = [...document.querySelectorAll('details.point')];

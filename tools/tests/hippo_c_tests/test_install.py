@@ -11,7 +11,7 @@ from . import common
 from .common import TOOLS, TOP, Case, built_program
 
 from hippo_c import completions
-from hippo_c.command import parser
+from hippo_c.command_line import parser
 
 DRIVER = "#include <hippo.h>\nvoid put(long v);\nlong get(void);\nint main(void) {\n  put(read_i64());\n  print_i64(get());\n  return 0;\n}\n"
 STORE = "#include <hippo.h>\nPERSISTENT static long kept;\nvoid put(long v) {\n  kept = v;\n%s}\nlong get(void) { return kept; }\n"
@@ -58,6 +58,11 @@ class Install(Case):
             "share/man/man1/hippo-c.1",
             "share/bash-completion/completions/hippo-c",
             "lib/hippo/build/hippo.mk",
+            "lib/hippo/headers/libpmem.h",
+            "share/bash-completion/completions/hippo-lower",
+            "share/doc/hippo/docs/HIPPO_C.md",
+            "share/doc/hippo/README.md",
+            "share/doc/hippo/examples/ring_buffer/ring.c",
         ):
             self.assertTrue(os.path.isfile(self.path(f"here/{name}")), name)
         self.take("ring_buffer", "ring.c")
@@ -65,6 +70,9 @@ class Install(Case):
         ran = self.command("hippo-c", "check", "ring.c", "--input", "0", env=environment)
         self.assertEqual(ran.returncode, 0, ran.stdout + ran.stderr)
         self.assertEqual(self.command("hippo-lower", "ring.c", env=environment).returncode, 0)
+        self.write("p.c", '#include <libpmem.h>\nint main(void) { return !pmem_map_file("p", 0, 0, 0, 0, 0); }\n')
+        ran = self.command("hippo-c", "check", "p.c", "--pool", "p=4096", env=environment)
+        self.assertEqual(ran.returncode, 0, ran.stdout + ran.stderr)
         kept = self.read("here/lib/hippo/about/version")
         self.assertEqual(
             self.command("hippo-c", "--version", env=environment).stdout, kept.replace("hippo ", "hippo-c ", 1)
@@ -165,15 +173,26 @@ class Words(Case):
             shell = "zsh" if path.startswith("_") else "fish" if path.endswith(".fish") else "bash"
             if shutil.which(shell):
                 self.assertEqual(self.command(shell, "-n", path).returncode, 0, name)
-        script = 'source hippo-c; COMP_WORDS=(hippo-c check --ve); COMP_CWORD=2; _hippo_c; echo "${COMPREPLY[*]}"'
-        self.assertEqual(self.command("bash", "-c", script).stdout, "--verify-fix\n")
+        for words, found in (
+            ("check --veri", "--verify-fix"),
+            ("ini", "init"),
+            ("check --color ''", "auto always never"),
+            ("check --color a", "auto always"),
+            ("check --color = al", "always"),
+            ("check --color =", "auto always never"),
+            ("check hip", "hippo hippo-c hippo-c.fish hippo-lower"),
+        ):
+            script = f"source hippo-c; COMP_WORDS=(hippo-c {words}); COMP_CWORD=$((${{#COMP_WORDS[@]}} - 1)); _hippo_c"
+            ran = self.command("bash", "-c", f'{script}; echo "${{COMPREPLY[*]}}"')
+            self.assertEqual(sorted(ran.stdout.split()), sorted(found.split()), words)
 
     def test_the_manual_page_has_each_option(self) -> None:
         with open(f"{TOP}/docs/man/hippo-c.1", encoding="utf-8") as file:
             page = file.read().replace("\\-", "-")
-        for command, options in completions.commands_of(parser()).items():
+        self.assertIn("\n.SH EXAMPLES\n", page)
+        for command, one in completions.commands_of(parser()).items():
             self.assertIn(command, page)
-            for option in options:
+            for option in completions.options_of(one):
                 if option not in ("-h", "--help"):
                     self.assertRegex(page, rf'(?m)^\.B[IR]? "?{re.escape(option)}\b|{re.escape(option)}', command)
 

@@ -10,7 +10,7 @@ from collections.abc import Iterator
 
 from .common import TOOLS, Case
 
-from hippo_c.command import parser
+from hippo_c.command_line import parser
 from hippo_c.trouble import Trouble
 from hippo_c.outputs import check_outputs
 

@@ -4,6 +4,7 @@ The table is in the modules `of_*`. `tools/tests/try_wrong_tools.py` applies eac
 from __future__ import annotations
 
 from .edit import Edit
+from .of_builds import EDITS as OF_BUILDS
 from .of_explore import EDITS as OF_EXPLORE
 from .of_hippo_c import EDITS as OF_HIPPO_C
 from .of_hippo_c_files import EDITS as OF_HIPPO_C_FILES
@@ -13,4 +14,13 @@ from .of_refusals import EDITS as OF_REFUSALS
 from .of_runtime import EDITS as OF_RUNTIME
 
 __all__ = ["EDITS", "Edit"]
-EDITS: list[Edit] = [*OF_LOWERING, *OF_REFUSALS, *OF_RUNTIME, *OF_HIPPO_C, *OF_HIPPO_C_FILES, *OF_EXPLORE, *OF_LAUNCHER]
+EDITS: list[Edit] = [
+    *OF_LOWERING,
+    *OF_REFUSALS,
+    *OF_RUNTIME,
+    *OF_HIPPO_C,
+    *OF_HIPPO_C_FILES,
+    *OF_BUILDS,
+    *OF_EXPLORE,
+    *OF_LAUNCHER,
+]

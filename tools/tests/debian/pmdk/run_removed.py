@@ -19,7 +19,8 @@ HERE = os.path.dirname(os.path.abspath(__file__))
 TOOLS = os.path.abspath(os.path.join(HERE, "../../.."))
 sys.path[:0] = [HERE, os.path.dirname(HERE), TOOLS]
 from hippo_c.confirming import key_of_line  # noqa: E402
-from hippo_c.findings import Reader, Report  # noqa: E402
+from hippo_c.engine_lines import Reader  # noqa: E402
+from hippo_c.findings import Report  # noqa: E402
 from hippo_c.native import Engine  # noqa: E402
 from hippo_c.places import Places  # noqa: E402
 from hippo_c.program import Program  # noqa: E402

@@ -11,7 +11,8 @@ from typing import Any
 from clang_case import TOOLS, ClangCase
 
 sys.path.insert(0, TOOLS)
-from lowering.runtime_cache import digest, files_of_rule  # noqa: E402
+from lowering.reads import read_list  # noqa: E402
+from lowering.module_cache import digest, head_of  # noqa: E402
 
 PROGRAM = "#include <hippo.h>\n#include <stdlib.h>\nint main(void) { print_i64(lrand48()); return 0; }\n"
 
@@ -49,7 +50,7 @@ class Cache(ClangCase):
     def write(self, path: str, head: dict[str, Any], text: str) -> None:
         """Writes an entry."""
         with open(path, "w", encoding="latin-1") as file:
-            file.write(json.dumps({**head, "digest": digest(text)}) + "\n" + text)
+            file.write(json.dumps({**head, "digest": digest(head_of({}) + text)}) + "\n" + text)
 
     def test_an_entry_is_taken(self) -> None:
         """The second command takes the module of the first: here it has another function, which shows."""
@@ -62,15 +63,16 @@ class Cache(ClangCase):
         self.assertIn("ret i64 77", self.lowered())
 
     def test_an_entry_of_other_files_is_not_taken(self) -> None:
-        """A file, a folder, or the entry itself has changed since."""
+        """A file, what stands in a folder, or the entry itself has changed since."""
         first = self.lowered()
         path, head, text = self.entry()
         wrong = text.replace(" i64 @lrand48() ", "@wrong(")
-        self.assertGreater(len(head["read"]), 3)
-        for name in (next(name for name in head["read"] if name.endswith("stdlib.h")), "/usr/include"):
-            self.assertIn(name, head["read"])
-            self.write(path, {**head, "read": {**head["read"], name: [1, 2, 3, 4, 5]}}, wrong)
-            self.assertEqual(self.lowered(), first, name)
+        files, *rest = head["state"]
+        header = next(name for name in files if name.endswith("stdlib.h"))
+        self.assertIn("/usr/include", rest[1])
+        for state in ([{**files, header: "of another content"}, *rest], [files, *rest[:2], "of other files"]):
+            self.write(path, {**head, "state": state}, wrong)
+            self.assertEqual(self.lowered(), first)
         for broken in ("", "{}\n" + wrong, json.dumps(head) + "\n" + wrong):
             with open(path, "w", encoding="latin-1") as file:
                 file.write(broken)
@@ -83,7 +85,10 @@ class Cache(ClangCase):
 
     def test_names_in_a_rule(self) -> None:
         """Blanks and dollars in names of files."""
-        self.assertEqual(files_of_rule("-: a\\ b.c \\\n  c$$.h\n"), ["a b.c", "c$.h"])
+        rule = os.path.join(self.folder, "rule.d")
+        with open(rule, "w", encoding="utf-8") as out:
+            out.write("-: /a\\ b.c \\\n  /c$$.h\n")
+        self.assertEqual(read_list(rule), ["/a b.c", "/c$.h"])
 
 
 if __name__ == "__main__":

@@ -30,6 +30,7 @@ class Options:
     level: str = "-O1"
     mem2reg: bool = False
     heap: int | None = None
+    heap_on_stack: int = 0
     pools: list[Pool] = field(default_factory=list)
     environment: list[str] = field(default_factory=list)
     output: str = ""
@@ -225,6 +226,12 @@ class Option(NamedTuple):
 OPTIONS = (
     Option("mem2reg", "keep locals in registers, after -O0"),
     Option("heap", "the size of the heap of malloc", "SIZE", read={"type": size}),
+    Option(
+        "heap-on-stack",
+        "the size of a second part of the heap, in a block on the stack",
+        "SIZE",
+        read={"type": size, "default": 0},
+    ),
     Option(
         "pool",
         "a file of persistent memory for pmem_map_file and similar calls; FILE has its initial bytes",

@@ -16,7 +16,7 @@ from .module_cache import kept
 from .options import Options, Pool
 from .reads import listing
 from .refusals import Refused
-from .start import WORDS_FROM_INPUT
+from .start import HEAP_ON_STACK, WORDS_FROM_INPUT
 from .throws import without_throws
 
 RUNTIME = os.path.join(os.path.dirname(os.path.dirname(os.path.abspath(__file__))), "runtime")
@@ -75,6 +75,8 @@ class Runtime:
             used.add("hippo_run_atexit")
         if self.options.args_from_input:
             used.update(name for _, name in WORDS_FROM_INPUT)
+        if self.options.heap_on_stack:
+            used.add(HEAP_ON_STACK)
         if used:
             program = self.with_uses(program, text, used)
             needed |= used
@@ -105,7 +107,8 @@ class Runtime:
             if is_linked(file, self.options):
                 files.append(file)
                 if note := self.note_for(os.path.basename(file)):
-                    self.assumed.update((name, note) for name in needed & names_at_line_starts(file))
+                    names = needed & names_at_line_starts(file) - {HEAP_ON_STACK}
+                    self.assumed.update((name, note) for name in names)
             else:
                 self.gated.update((name, option) for name in names_at_line_starts(file))
         pools = f"{self.folder}/pools.c"
@@ -206,6 +209,8 @@ def macros(options: Options) -> list[str]:
     said = []
     if options.heap is not None:
         said.append(f"-DHIPPO_HEAP_SIZE={options.heap}")
+    if options.heap_on_stack:
+        said.append(f"-DHIPPO_HEAP_ON_STACK={options.heap_on_stack}")
     if options.output == "print":
         said.append("-DHIPPO_PRINT_NUMBERS")
     if options.time_from_input:

@@ -23,6 +23,8 @@ OF_OBJECTS = re.compile(r"@(?:_GLOBAL__|__cxx_global_)")
 AT_EXIT = "@hippo_run_atexit"
 # The functions of the runtime for `main` whose words come from the input: the count, and the array.
 WORDS_FROM_INPUT = (("i32", "hippo_read_words"), ("ptr", "hippo_words"))
+# The function of the runtime that takes the second part of the heap, whose block is this much larger.
+HEAP_ON_STACK, HEAP_UNIT = "hippo_heap_on_stack", 16
 
 
 class Start:
@@ -113,17 +115,23 @@ class Start:
         return clean_name(f"hippo.{name}", self.module.taken, "g")
 
     def call_constructors(self, function: Function) -> None:
-        """Puts a block before the first one of `main`: what is allocated there, and the calls of the constructors, which may jump."""
+        """Puts a block before the first one of `main`: what is allocated there, the second part of the heap, and the calls of the
+        constructors, which may jump."""
         for kind, names in (("constructors", self.constructors), ("destructors", self.destructors)):
             if own := [name[1:] for name in names if self.module.is_own(name) and not OF_OBJECTS.match(name)]:
                 self.module.note(kind, NAMES=", ".join(own))
-        if not self.constructors:
+        has_heap = self.module.options.heap_on_stack and f"@{HEAP_ON_STACK}" in self.module.names
+        if not self.constructors and not has_heap:
             return
         first, *rest = function.out
         allocated = [line for line in rest if isinstance(line, str) and ALLOCA.match(line)]
         function.out, function.comment = [], function.added_comment
         function.begin(function.fresh("start")[1:])
         function.out += allocated
+        if has_heap:
+            block = function.fresh("heap")
+            function.put(f"{block} = alloca [{self.module.options.heap_on_stack + HEAP_UNIT} x i8]")
+            function.put(f'call void @{self.module.names[f"@{HEAP_ON_STACK}"]}(ptr {block})')
         for written in self.constructors:
             name = self.module.resolved(written)
             function.put(f"call void @{self.module.names[name]}()")

@@ -1,7 +1,8 @@
 // malloc and similar functions over a volatile arena of HIPPO_HEAP_SIZE bytes. When no free block is large enough and the arena
 // is full, they return a null pointer with ENOMEM, as C allows. Blocks are adjacent; a freed block joins its free neighbours, and
 // free blocks are in lists by size. A map outside of the arena, which stores past a block do not reach, has the memory that is in
-// use; a free of any other address traps, and so does a second free of one block.
+// use; a free of any other address traps, and so does a second free of one block. A second arena of HIPPO_HEAP_ON_STACK bytes lies in
+// a block of main: it is one free block as soon as the first arena is full.
 #include "heap.h"
 #include <errno.h>
 #include <stddef.h>
@@ -11,6 +12,9 @@
 
 #ifndef HIPPO_HEAP_SIZE
 #define HIPPO_HEAP_SIZE 4194304
+#endif
+#ifndef HIPPO_HEAP_ON_STACK
+#define HIPPO_HEAP_ON_STACK 0
 #endif
 
 struct block {
@@ -22,8 +26,12 @@ struct block {
 enum { HEADER = offsetof(struct block, next), SMALLEST = HIPPO_HEAP_SMALLEST, UNIT = HIPPO_HEAP_UNIT, USED = 1, LISTS = 32 };
 _Static_assert(SMALLEST == sizeof(struct block), "a free block has its links in it");
 
-static _Alignas(64) unsigned char arena[HIPPO_HEAP_SIZE / UNIT * UNIT];
-static unsigned char used[HIPPO_HEAP_SIZE / UNIT / 8 + 1]; // a bit for each unit: the memory of a block in use begins there
+enum { FIRST = HIPPO_HEAP_SIZE / UNIT * UNIT, SECOND = HIPPO_HEAP_ON_STACK / UNIT * UNIT };
+
+static _Alignas(64) unsigned char arena[FIRST];
+static unsigned char *second; // the second arena, or a null pointer
+static int is_second_in_use;  // its free memory is in the lists
+static unsigned char used[(FIRST + SECOND) / UNIT / 8 + 1]; // a bit for each unit: the memory of a block in use begins there
 static size_t end;        // where the blocks end in the arena
 static size_t last_size;  // the size of the block that ends there
 static struct block *lists[LISTS]; // free blocks of up to SMALLEST << n bytes, that are too large for the list before
@@ -45,7 +53,11 @@ static int is_free(const struct block *block) { return !(block->size & USED); }
 // The place of the bit of some memory; it traps if no block can begin there.
 static size_t unit_of(const void *memory) {
   size_t offset = (uintptr_t)memory - (uintptr_t)arena;
-  if (offset >= sizeof arena || offset % UNIT) __builtin_trap();
+  if (SECOND && offset >= FIRST) {
+    size_t further = (uintptr_t)memory - (uintptr_t)second;
+    offset = second && further < SECOND ? FIRST + further : FIRST + SECOND;
+  }
+  if (offset >= FIRST + SECOND || offset % UNIT) __builtin_trap();
   return offset / UNIT;
 }
 
@@ -59,9 +71,9 @@ static struct block *used_block(void *memory) {
   return block_of(memory);
 }
 
-// The size of the block that holds this number of bytes, or 0 if the arena is too small for it.
+// The size of the block that holds this number of bytes, or 0 if no arena is large enough for it.
 static size_t block_size(size_t size) {
-  if (size > sizeof arena) return 0;
+  if (size > (FIRST > SECOND ? FIRST : SECOND)) return 0;
   size_t whole = (size + HEADER + UNIT - 1) / UNIT * UNIT;
   return whole < SMALLEST ? SMALLEST : whole;
 }
@@ -141,7 +153,7 @@ static struct block *block_from_lists(size_t size) {
 }
 
 static struct block *block_from_end(size_t size) {
-  if (size > sizeof arena - end) return NULL;
+  if (size > FIRST - end) return NULL;
   struct block *block = at(arena + end);
   block->before = last_size;
   block->size = size;
@@ -150,10 +162,27 @@ static struct block *block_from_end(size_t size) {
   return block;
 }
 
+// Makes the second arena one free block, before a block in use that never becomes free.
+static struct block *block_from_second(size_t size) {
+  if (!second || is_second_in_use) return NULL;
+  is_second_in_use = 1;
+  struct block *block = at(second), *last = at(second + SECOND - SMALLEST);
+  last->before = SECOND - SMALLEST;
+  last->size = SMALLEST | USED;
+  block->size = SECOND - SMALLEST;
+  put_into_list(block);
+  return block_from_lists(size);
+}
+
+void hippo_heap_on_stack(void *block) {
+  if (SECOND >= 2 * SMALLEST) second = (unsigned char *)(((uintptr_t)block + UNIT - 1) / UNIT * UNIT);
+}
+
 void *malloc(size_t size) {
   size_t whole = block_size(size);
   struct block *block = whole ? block_from_lists(whole) : NULL;
   if (whole && !block) block = block_from_end(whole);
+  if (SECOND && whole && !block) block = block_from_second(whole);
   if (!block) {
     errno = ENOMEM;
     return NULL;
@@ -186,7 +215,7 @@ void *calloc(size_t count, size_t size) {
 static void grow(struct block *block, size_t size) {
   if (is_last(block)) {
     size_t more = size - size_of(block);
-    if (more > sizeof arena - end) return;
+    if (more > FIRST - end) return;
     end += more;
     set_size(block, size, USED);
   } else if (is_free(following(block)) && size_of(block) + following(block)->size >= size) {

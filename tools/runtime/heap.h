@@ -11,4 +11,7 @@ enum { HIPPO_HEAP_UNIT = 16, HIPPO_HEAP_SMALLEST = 32 };
 // at least HIPPO_HEAP_SMALLEST after the memory, and at a multiple of HIPPO_HEAP_UNIT.
 void *hippo_heap_cut(void *memory, void *place);
 
+// Gives the heap its second arena, in a block of HIPPO_HEAP_ON_STACK bytes and HIPPO_HEAP_UNIT more. tools/lower calls it when main begins.
+void hippo_heap_on_stack(void *block);
+
 #endif

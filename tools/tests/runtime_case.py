@@ -70,3 +70,16 @@ class Setting(ClangCase):
         """What a native build prints."""
         run(["clang-19", "-O1", *FLAGS, "-o", "program", source, self.externals(), "-lpthread", "-lm"], self.folder)
         return str(run([f"{self.folder}/program"], self.folder).stdout)
+
+    def source(self, text: str) -> str:
+        """A file with this program."""
+        name = f"{self.folder}/small.c"
+        with open(name, "w", encoding="ascii") as file:
+            file.write("#include <hippo.h>\n" + text)
+        return name
+
+    def end_of(self, text: str, *options: str) -> str:
+        """The last line of the notes of `hippo run`."""
+        lowered = self.lowered(self.source(text), "-O1", list(options))
+        done = subprocess.run([HIPPO, "run", lowered], capture_output=True, encoding="latin-1")
+        return done.stderr.strip().splitlines()[-1]

@@ -101,19 +101,6 @@ class Runtime(Setting):
 class SmallPrograms(Setting):
     """Programs of a few lines: how they end, and what a call of the runtime does to the region."""
 
-    def source(self, text: str) -> str:
-        """A file with this program."""
-        name = f"{self.folder}/small.c"
-        with open(name, "w", encoding="ascii") as file:
-            file.write("#include <hippo.h>\n" + text)
-        return name
-
-    def end_of(self, text: str, *options: str) -> str:
-        """The last line of the notes of `hippo run`."""
-        lowered = self.lowered(self.source(text), "-O1", list(options))
-        done = subprocess.run([HIPPO, "run", lowered], capture_output=True, encoding="latin-1")
-        return done.stderr.strip().splitlines()[-1]
-
     def test_abort_and_assert_trap(self) -> None:
         self.assertEqual(self.end_of("#include <stdlib.h>\nint main(void) { abort(); }"), "trap unreachable")
         self.assertEqual(
@@ -215,10 +202,6 @@ class SmallPrograms(Setting):
             "int main(void) { kept = 1; pmem_flush(&kept, 8); flush(&kept, 5); pmem_drain(); return flushed; }"
         )
         self.assertEqual(self.end_of(program), "stop 26")
-
-    def test_heap_of_a_size(self) -> None:
-        program = "#include <stdlib.h>\nint main(void) { int n = 0; while (malloc(1000)) n++; return n; }"
-        self.assertEqual(self.end_of(program, "--heap", "64K"), "stop 64")
 
     def test_second_free_traps(self) -> None:
         program = (

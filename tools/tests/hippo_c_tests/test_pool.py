@@ -18,6 +18,20 @@ int main(void) {
   return 0;
 }
 """
+READER = """#include <hippo.h>
+#include <fcntl.h>
+#include <unistd.h>
+PERSISTENT long kept;
+int main(void) {
+  unsigned char bytes[64];
+  long length = read(open("a.pool", O_RDONLY), bytes, sizeof bytes);
+  print_i64(length);
+  for (long i = 0; i < length; i++) print_i64(bytes[i]);
+  kept = 0;
+  pmem_persist(&kept, sizeof kept);
+  return 0;
+}
+"""
 WORDS = ("a.c", "--file-calls", "--pool", "a.pool=8192")
 
 
@@ -43,6 +57,23 @@ class Pool(Case):
         ran = self.hippo_c("pool", *WORDS, "-o", "cut.pool", "--entries", str(last), code=0)
         self.assertIn(f"4,096 bytes of a.pool after a power cut at entry {last}\n", ran.stdout)
         self.assertEqual((self.words_of("cut.pool")[0], sum(self.words_of("cut.pool"))), (1, 1))
+
+    def test_a_file_of_any_length(self) -> None:
+        """The bytes of a FILE are those of the pool, and a FILE that is longer than the pool is refused."""
+        self.write("a.c", READER)
+        content = bytes(range(1, 14))
+        with open(self.path("some"), "wb") as file:
+            file.write(content)
+        words = ("a.c", "--file-calls", "--pool", "a.pool=16,some")
+        ran = self.hippo_c("run", *words, code=0)
+        self.assertEqual(list(map(int, ran.stdout.split())), [len(content), *content])
+        for command in ("run", "crash"):
+            self.refused(
+                "not lowered:\nlower: some has more bytes than the pool a.pool\n",
+                command,
+                *words[:-1],
+                "a.pool=12,some",
+            )
 
     def test_words_that_it_refuses(self) -> None:
         self.write("a.c", PROGRAM)

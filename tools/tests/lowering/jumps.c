@@ -124,7 +124,25 @@ static int zero_becomes_one(void) {
   siglongjmp(buffer, 0);
 }
 
+// A jump to an outer frame goes past one that has a target of its own.
+static jmp_buf beyond;
+
+static int with_a_target(int value) {
+  jmp_buf mine;
+  int way = setjmp(mine);
+  note(300 + way);
+  if (way == 0) longjmp(beyond, value);
+  return way;
+}
+
+static int past_a_target(int value) {
+  int way = setjmp(beyond);
+  note(200 + way);
+  return way ? way : with_a_target(value);
+}
+
 int main(void) {
+  note(past_a_target(5));
   note(six_frames(3));
   note(levels(3));
   for (int inner = 0; inner < 2; inner++)

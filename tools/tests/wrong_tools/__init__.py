@@ -10,6 +10,7 @@ from .of_hippo_c import EDITS as OF_HIPPO_C
 from .of_hippo_c_files import EDITS as OF_HIPPO_C_FILES
 from .of_launcher import EDITS as OF_LAUNCHER
 from .of_lowering import EDITS as OF_LOWERING
+from .of_pmdk import EDITS as OF_PMDK
 from .of_refusals import EDITS as OF_REFUSALS
 from .of_runtime import EDITS as OF_RUNTIME
 
@@ -23,4 +24,5 @@ EDITS: list[Edit] = [
     *OF_BUILDS,
     *OF_EXPLORE,
     *OF_LAUNCHER,
+    *OF_PMDK,
 ]

@@ -169,6 +169,7 @@ static struct block *block_from_second(size_t size) {
   struct block *block = at(second), *last = at(second + SECOND - SMALLEST);
   last->before = SECOND - SMALLEST;
   last->size = SMALLEST | USED;
+  block->before = 0;
   block->size = SECOND - SMALLEST;
   put_into_list(block);
   return block_from_lists(size);

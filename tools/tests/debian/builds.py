@@ -26,7 +26,7 @@ HERE = os.path.dirname(os.path.abspath(__file__))
 TOP = os.path.abspath(os.path.join(HERE, "../../.."))
 HIPPO_C = [sys.executable, "-B", f"{TOP}/tools/hippo-c"]
 MOST_BY_HAND = 0.1
-HEADINGS = ("library", "files", "check", "reports", "groups", "suggestions", "by hand", "flushes", "fences", "after")
+HEADINGS = ("library", "files", "check", "reports", "groups", "suggestions", "by hand", "added", "after")
 
 
 class Build(NamedTuple):
@@ -123,7 +123,7 @@ def attempt(build: Build, source: str, folder: str) -> list[object]:
             raise Differs(f"crash --debug wrote no {name}")
     files = len(answer["files"])
     reports = sum(group["reports"] for group in groups)
-    return [build.package, files, f"{seconds:.1f} s", reports, len(groups), len(suggestions), by_hand, added, "", after]
+    return [build.package, files, f"{seconds:.1f} s", reports, len(groups), len(suggestions), by_hand, added.removeprefix("added: "), after]
 
 
 def text_of(path: str) -> str:

@@ -3,6 +3,7 @@ from __future__ import annotations
 
 import json
 import os
+import re
 import subprocess
 import sys
 import unittest
@@ -110,6 +111,14 @@ class Lists(Project):
         ]
         self.assertIn(REPORT, self.hippo_c("check", *words, code=1).stdout)
 
+    def test_errors_of_two_files_do_not_mix(self) -> None:
+        """Clang runs on both at once, and what it says of one stands together."""
+        for name in ("a.c", "b.c"):
+            self.write(name, "".join(f"int n{number} = x{number};\n" for number in range(19)))
+        said = self.hippo_c("check", "a.c", "b.c", code=2).stderr
+        files = re.findall(r"^([ab])\.c:\d+:\d+: error:", said, re.M)
+        self.assertIn("".join(files), ("a" * 19 + "b" * 19, "b" * 19 + "a" * 19))
+
     def test_bad_lists(self) -> None:
         """Each is a line, and nothing is written."""
         self.refused("-p build: no compile_commands.json is there", "check", "-p", "build")
@@ -170,14 +179,14 @@ class Objects(Project):
         self.refused(
             "externals.o: it has no bitcode: compile it with CC='hippo-c cc'", "check", "main.o", "externals.o"
         )
-        self.refused("libstore.a: a damaged archive", "check", self.damaged("libstore.a", 56))
-        self.refused("main.o: a damaged object", "check", self.damaged("main.o", 40))
         self.write("second.c", MAIN)
         ran = self.hippo_c(
             "check", "second.c", "main.o", "libstore.a", "-Iinclude", "-DSLOTS=4", "--json", "a.json", code=2
         )
         self.assertIn("main is defined in second.c and in main.o", ran.stderr)
         self.assertFalse(os.path.exists(self.path("a.json")))
+        self.refused("libstore.a: a damaged archive", "check", self.damaged("libstore.a", 56))
+        self.refused("main.o: a damaged object", "check", self.damaged("main.o", 40))
 
     def damaged(self, name: str, size: int) -> str:
         """Cuts a file, or damages a number in it."""

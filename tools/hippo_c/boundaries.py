@@ -9,10 +9,12 @@ import re
 from dataclasses import dataclass
 
 from lowering.lines import ADDED
+from lowering.refusals import ADVICE
 
 from . import commits
 from .program import CALLED, HEAD, REGION_BASE, Function, Global, Program, Site
 from .trouble import Trouble
+from .unsupported import refusal_of
 
 DECLARATION = "declare void @pm_assert(ptr, i64)"
 RETURN, CALL = "--check-return", "--check-call"
@@ -185,11 +187,20 @@ class Placing:
         placed = {check.boundary for check in self.checks.values()}
         for boundary in self.ranges:
             if boundary not in placed:
+                self.refuse_unsupported(boundary)
                 what = {RETURN: "function", CALL: "call"}.get(boundary.option, "store or function")
                 raise Trouble(
                     f"{boundary.option} '{boundary.word}': no {what} in the program fits",
                     hint_for(self.program, boundary),
                 )
+
+    def refuse_unsupported(self, boundary: Boundary) -> None:
+        """Refuses a boundary of a function that traps when it is called, so that no check of it could ever run."""
+        for function in self.program.functions.values():
+            refusal = refusal_of(self.program, function)
+            if refusal and boundary.option == RETURN and boundary.fits(function.name_in_c, function):
+                why = f"'{function.name_in_c}' never returns, since it has no form here: {refusal['reason']}"
+                raise Trouble(f"{boundary.option} '{boundary.word}': {why}", ADVICE[refusal["kind"]])
 
 
 def hint_for(program: Program, boundary: Boundary) -> str:

@@ -5,7 +5,7 @@ import re
 from typing import TYPE_CHECKING
 
 from .letters import shown
-from .program import Program
+from .program import Function, Program
 
 if TYPE_CHECKING:
     from .session import Session
@@ -37,11 +37,10 @@ def unsupported_in(program: Program) -> list[str]:
     """A line for each kind of functions that trap when they are called."""
     found: dict[str, list[str]] = {}
     for function in program.functions.values():
-        first = function.blocks[0].instructions[0] if function.blocks else None
-        callee = program.functions.get(first.callee) if first else None
-        if callee is None or callee.refusal is None:
+        refusal = refusal_of(program, function)
+        if refusal is None:
             continue
-        kind, reason = callee.refusal["kind"], callee.refusal["reason"]
+        kind, reason = refusal["kind"], refusal["reason"]
         name = shown(function.name_in_c)
         if option := BY_OPTION.fullmatch(reason):
             found.setdefault(f"need {option['option']}", []).append(name)
@@ -52,6 +51,13 @@ def unsupported_in(program: Program) -> list[str]:
                 f"use {USES[kind]}" if kind in USES else f"have no form here ({shown(reason)})", []
             ).append(name)
     return [line_of(what, names) for what, names in found.items()]
+
+
+def refusal_of(program: Program, function: Function) -> re.Match[str] | None:
+    """Why a function traps when it is called: the kind and the reason; nothing for a function that does not."""
+    first = function.blocks[0].instructions[0] if function.blocks else None
+    callee = program.functions.get(first.callee) if first else None
+    return callee.refusal if callee else None
 
 
 def line_of(what: str, names: list[str]) -> str:

@@ -123,7 +123,17 @@ def attempt(build: Build, source: str, folder: str) -> list[object]:
             raise Differs(f"crash --debug wrote no {name}")
     files = len(answer["files"])
     reports = sum(group["reports"] for group in groups)
-    return [build.package, files, f"{seconds:.1f} s", reports, len(groups), len(suggestions), by_hand, added.removeprefix("added: "), after]
+    return [
+        build.package,
+        files,
+        f"{seconds:.1f} s",
+        reports,
+        len(groups),
+        len(suggestions),
+        by_hand,
+        added.removeprefix("added: "),
+        after,
+    ]
 
 
 def text_of(path: str) -> str:

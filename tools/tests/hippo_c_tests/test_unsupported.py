@@ -68,6 +68,11 @@ class Unsupported(Case):
             self.assertIn(f"note: what to do: {advice}", ran.stdout)
             self.assertIn("0 reports in 0 groups; 0 stores to persistent memory", ran.stdout)
 
+    def test_a_check_that_never_runs(self) -> None:
+        """The return of a function that traps when it is called is no check."""
+        said = "--check-return 'scale': 'scale' never returns, since it has no form here: "
+        self.refused(said, "check", "a.c", "--check-return", "scale", "--input", "7")
+
     def test_run_and_json(self) -> None:
         """The command run says it too, and the JSON has the kind and the warnings."""
         ran = self.hippo_c("run", "a.c", "--input", "1", code=2)

@@ -17,6 +17,8 @@ from .commands import NO_FILE, READ_FAULT, USAGE, Failure
 # Options that are taken with their values; the values of PATHS are paths from the folder of the command.
 WORDS = ("-D", "-U", "-std", "--std", "-x", "-ansi", "-pthread", "-undef", "-nostdinc")
 PATHS = ("-I", "-isystem", "-iquote", "-idirafter", "-include", "-imacros")
+# Of these the values are files, which clang searches in the folders of headers if they are not there.
+OF_FILES = ("-include", "-imacros")
 SEPARATE = ("-D", "-U", "-x")
 # Of the options that begin with -f and -m only these change how C is read.
 READING = (
@@ -92,7 +94,9 @@ def taken(words: list[str], folder: str) -> list[str]:
         path = next((option for option in PATHS if word.startswith(option)), "")
         if path:
             value = word[len(path) :] or next(rest, "")
-            found += [path, os.path.normpath(os.path.join(folder, value))]
+            whole = os.path.normpath(os.path.join(folder, value))
+            is_searched = path in OF_FILES and not os.path.isfile(whole)
+            found += [path, value if is_searched else whole]
         elif word in SEPARATE:
             found += [word, next(rest, "")]
         elif word.startswith(("-f", "-m")):

@@ -80,6 +80,21 @@ class CompileCommands(ClangCase):
         answer = subprocess.run(["lli-19", path], check=False).returncode
         self.assertEqual(answer, (3 + 4 + 40 + 1 + 200) % 256)
 
+    def test_an_included_file_is_searched(self) -> None:
+        """`-include` names a file of the folder, or one that clang finds in the folders of headers."""
+        with open(f"{self.folder}/main.c", "w", encoding="ascii") as file:
+            file.write("int left(void);\nint main(void) { return NUMBER + left(); }\n")
+        entries = self.entries()
+        for name, folder in (("map.h", "."), ("left/map.h", "right")):
+            entries[1] = {
+                "directory": self.folder,
+                "file": "main.c",
+                "command": f"cc -I{folder} -Ileft -include {name} -c main.c",
+            }
+            done = self.lower(self.commands(entries))
+            self.assertEqual(done.returncode, 0, done.stderr)
+            self.assertRegex(done.stdout, r"add i32 %\S+, 3|add i32 3, ")
+
     def test_bad_lists(self) -> None:
         entries = self.entries()
         for given, code, said in (

@@ -3,9 +3,10 @@
 
 ghost use Rattle.std.specs.Prelude.{◌≡◌, [], None, map, string_bytes};
 ghost use Rattle.hip_answers.specs.Answers.{HasAnswered, IsDelivered, sinks};
+ghost use Rattle.hip_answers.specs.Fetches.{FetchesFiles};
 ghost use Rattle.hip_files.specs.Openers.{opened_state};
 ghost use Rattle.hip_files.specs.Streams.{given};
-ghost use Rattle.hip_tool.specs.Call.{AnswersTo, begins};
+ghost use Rattle.hip_tool.specs.Call.{AnswersTo, begins, files_of};
 ghost use Rattle.hip_tool.specs.CallEnd.{IsSentOut};
 ghost use Rattle.hip_words.specs.Order.{order};
 
@@ -24,7 +25,7 @@ pub struct ProcessEnd<C, D, N> {
 }
 
 /// Carries out the command that the words give. The words come without the program's name. `lines` says whether `out`
-/// writes each line at once; `notes` always does.
+/// writes each line at once; `notes` always does. It opens each file that the words name at most once, and no other.
 pub fn process<O: Opener + Drop, D: Device + Drop, N: Device + Drop>(
     alloc: Global,
     words: &[String],
@@ -43,6 +44,9 @@ pub fn process<O: Opener + Drop, D: Device + Drop, N: Device + Drop>(
         (sinks (record { bytes = given D.reveals (D.contents out) []; faults = 0 }) (⟦<Stream<D> as Sink>⟧.state result.out)
         (record { bytes = given N.reveals (N.contents notes) []; faults = 0 }) (⟦<Stream<N> as Sink>⟧.state result.notes))
         result.status }
+    ensures fetches { FetchesFiles (files_of (order (map string_bytes words.now))) result.status
+        (opened_state O.reveals O.File.remaining (O.files opener) (O.last opener) (O.opens opener) None 0 0)
+        (⟦<FileCabinet<O, O::File> as Cabinet>⟧.state result.cabinet) }
     ensures delivered { IsDelivered result.status (⟦<Stream<D> as Sink>⟧.held result.out) }
     ensures sent { IsSentOut (record { bytes = given N.reveals (N.contents notes) []; faults = 0 })
         (⟦<Stream<N> as Sink>⟧.state result.notes) (⟦<Stream<N> as Sink>⟧.held result.notes) }

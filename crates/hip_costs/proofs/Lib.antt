@@ -1,0 +1,6 @@
+mod Names
+mod Weights
+mod Lines
+mod Sizes
+mod Steps
+mod Again

@@ -3,3 +3,8 @@ pub mod Engines
 pub mod Defined
 pub mod Traces
 pub mod ReadBack
+pub mod Sizes
+pub mod Steps
+pub mod Again
+pub mod FlushOrders
+pub mod OrderedHistories

@@ -29,7 +29,7 @@ use Rattle.hip_repairs.specs.Laws.Callable.{IsCallable}
 use Rattle.hip_repairs.specs.Repaired.{Marked, Wanted, added_fence, added_flush, clones_of, inserted_after, repaired, repaired_body, wanted_by}
 use Rattle.hip_repairs.specs.Suits.{IsSuiting}
 use Rattle.hip_repairs.specs.declared.plan.Plan.{Plan}
-use Rattle.hip_costs.specs.Steps.{AddsFewSteps, added_at_most, is_at}
+use Rattle.hip_repair_laws.specs.Steps.{AddsFewSteps, added_at_most, is_at}
 
 -- ---- inserted instructions that come next
 

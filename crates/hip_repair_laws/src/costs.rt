@@ -2,9 +2,9 @@
 
 ghost use Rattle.hip_tree.specs.declared.program.Program.{Program};
 ghost use Rattle.hip_tree.specs.declared.site.Site.{Site};
-ghost use Rattle.hip_costs.specs.Again.{RepairsFit, RepairsTwice};
-ghost use Rattle.hip_costs.specs.Sizes.{StaysSmall};
-ghost use Rattle.hip_costs.specs.Steps.{AddsFewSteps};
+ghost use Rattle.hip_repair_laws.specs.Again.{RepairsFit, RepairsTwice};
+ghost use Rattle.hip_repair_laws.specs.Sizes.{StaysSmall};
+ghost use Rattle.hip_repair_laws.specs.Steps.{AddsFewSteps};
 ghost use Rattle.hip_repairs.specs.Suits.{IsSuiting};
 ghost use Rattle.hip_repairs.specs.declared.plan.Plan.{Plan};
 ghost use Rattle.hip_sound.specs.Sound.{IsSound};

@@ -12,8 +12,8 @@ use Rattle.hip_histories.specs.Histories.{Round, input_of}
 use Rattle.hip_histories.specs.SameSteps.{HaveSameNext, IsSameNext, TakesSameSteps}
 use Rattle.hip_lines.specs.Image.{byte_after}
 use Rattle.hip_lines.specs.Line.{Line}
-use Rattle.hip_ordered_flushes.specs.Histories.{AddsNothingOrdered, HasOrderedHistoryOf, IsOrderedHistory}
-use Rattle.hip_ordered_flushes.specs.Orders.{IsOrderedImage, IsOrderedLine, begins_ordered, flushes_line, is_ordered, ordered_parts, parts_in, stands_ordered}
+use Rattle.hip_repair_laws.specs.OrderedHistories.{AddsNothingOrdered, HasOrderedHistoryOf, IsOrderedHistory}
+use Rattle.hip_repair_laws.specs.FlushOrders.{IsOrderedImage, IsOrderedLine, begins_ordered, flushes_line, is_ordered, ordered_parts, parts_in, stands_ordered}
 use Rattle.hip_repairs.proofs.clean.Events.{checks}
 use Rattle.hip_repairs.proofs.functions.Lookup.{extern_name, sound_callable}
 use Rattle.hip_repairs.proofs.simulation.Ahead.{Ahead}

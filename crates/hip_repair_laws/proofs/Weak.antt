@@ -9,8 +9,8 @@ use Rattle.hip_runs.specs.Places.{code_at}
 use Rattle.hip_runs.specs.State.{Frame}
 use Rattle.hip_runs.specs.Step.{event, run}
 use Rattle.hip_runs.specs.declared.input.Input.{Input}
-use Rattle.hip_ordered_flushes.specs.Histories.{WeakImagesAreAll}
-use Rattle.hip_ordered_flushes.specs.Orders.{begins_ordered, flushes_line, is_ordered, ordered_parts, parts_in, stands_ordered, weak}
+use Rattle.hip_repair_laws.specs.OrderedHistories.{WeakImagesAreAll}
+use Rattle.hip_repair_laws.specs.FlushOrders.{begins_ordered, flushes_line, is_ordered, ordered_parts, parts_in, stands_ordered, weak}
 
 never : (o : Option ExternCall) → is_ordered weak o ≡ false
 never None = refl

@@ -1,5 +1,5 @@
-use Rattle.hip_ordered_flushes.proofs.Ordered.{adds_nothing_ordered}
-use Rattle.hip_ordered_flushes.proofs.laws.repairs_add_nothing_ordered.Goals as goal
+use Rattle.hip_repair_laws.proofs.Ordered.{adds_nothing_ordered}
+use Rattle.hip_repair_laws.proofs.ordered_flushes.repairs_add_nothing_ordered.Goals as goal
 
 pub returns : goal.returns
 returns c = λ ordered P plan skip sound.

@@ -3,7 +3,7 @@
 ghost use Rattle.hip_tree.specs.declared.program.Program.{Program};
 ghost use Rattle.hip_tree.specs.declared.site.Site.{Site};
 ghost use Rattle.hip_externs.specs.declared.call.ExternCall.{ExternCall};
-ghost use Rattle.hip_ordered_flushes.specs.Histories.{AddsNothingOrdered, WeakImagesAreAll};
+ghost use Rattle.hip_repair_laws.specs.OrderedHistories.{AddsNothingOrdered, WeakImagesAreAll};
 ghost use Rattle.hip_repairs.specs.declared.plan.Plan.{Plan};
 ghost use Rattle.hip_runs.specs.declared.input.Input.{Input};
 ghost use Rattle.hip_sound.specs.Sound.{IsSound};

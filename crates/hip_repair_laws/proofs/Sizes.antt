@@ -22,10 +22,10 @@ use Rattle.hip_calls.specs.Fresh.{fresh_for, fresh_name, fresh_names, name_of}
 use Rattle.hip_calls.specs.Laws.ReachLaws.{callees-distinct, callees-length}
 use Rattle.hip_repairs.specs.Repaired.{Clone, Marked, Wanted, added_externs, clone_functions, clone_in, cloned, clones_of, clwb_name, declared_if, inserted_after, instrs_of, needs, pmem_flush_name, renamed, repaired, repaired_blocks, repaired_body, repaired_function, repaired_functions, sfence_name, wanted_by}
 use Rattle.hip_repairs.specs.declared.plan.Plan.{Plan}
-use Rattle.hip_costs.proofs.Lines.{both, grown, lines_size}
-use Rattle.hip_costs.proofs.Names.{AreShort, clones_short, fresh_size}
-use Rattle.hip_costs.proofs.Weights.{half_as_many, size_of, weight_of, weights_at, weights_within, whole_of}
-use Rattle.hip_costs.specs.Sizes.{StaysSmall}
+use Rattle.hip_repair_laws.proofs.LongLines.{both, grown, lines_size}
+use Rattle.hip_repair_laws.proofs.Names.{AreShort, clones_short, fresh_size}
+use Rattle.hip_repair_laws.proofs.Weights.{half_as_many, size_of, weight_of, weights_at, weights_within, whole_of}
+use Rattle.hip_repair_laws.specs.Sizes.{StaysSmall}
 
 -- The texts of the items of two lists in a row.
 texts_size : {A : Type 0} (text : A → List ℕ) (xs ys : List A)

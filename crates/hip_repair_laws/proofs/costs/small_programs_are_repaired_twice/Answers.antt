@@ -1,5 +1,5 @@
-use Rattle.hip_costs.proofs.Again.{repairs_fit, repairs_twice}
-use Rattle.hip_costs.proofs.laws.small_programs_are_repaired_twice.Goals as goal
+use Rattle.hip_repair_laws.proofs.Again.{repairs_fit, repairs_twice}
+use Rattle.hip_repair_laws.proofs.costs.small_programs_are_repaired_twice.Goals as goal
 
 pub returns-clause-fit : goal.returns-clause-fit
 returns-clause-fit c = repairs_fit

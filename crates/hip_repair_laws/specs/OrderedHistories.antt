@@ -4,7 +4,7 @@ use Rattle.hip_tree.specs.declared.program.Program.{Program}
 use Rattle.hip_tree.specs.declared.site.Site.{Site}
 use Rattle.hip_externs.specs.declared.call.ExternCall.{ExternCall}
 use Rattle.hip_histories.specs.Histories.{AreSameRounds, Round, endings, input_of, outputs}
-use Rattle.hip_ordered_flushes.specs.Orders.{IsOrderedImage, weak}
+use Rattle.hip_repair_laws.specs.FlushOrders.{IsOrderedImage, weak}
 use Rattle.hip_repairs.specs.Harmless.{matched}
 use Rattle.hip_repairs.specs.Repaired.{repaired}
 use Rattle.hip_repairs.specs.declared.plan.Plan.{Plan}

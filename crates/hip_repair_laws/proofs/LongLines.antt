@@ -23,7 +23,7 @@ use Rattle.hip_grammar.specs.Show.{after_commas, align_text, arg_text, assigned_
 use Rattle.hip_grammar.specs.Words.{binary_text, cast_text, pred_text, ret_text, scalar_text, width_text}
 use Rattle.hip_runs.specs.Operands.{scalar_size}
 use Rattle.hip_repairs.specs.Repaired.{Clone, added_fence, added_flush, clone_name, flush_of, instrs_of, is_wide, line_flush, range_flush, renamed, the_fence}
-use Rattle.hip_costs.proofs.Names.{AreShort, clone_name_size}
+use Rattle.hip_repair_laws.proofs.Names.{AreShort, clone_name_size}
 
 -- The length of two texts.
 pub both : (a b : List ℕ) → length (a ++ b) ≡ length a + length b

@@ -4,8 +4,8 @@ use Rattle.hip_grammar.specs.Show.{show}
 use Rattle.hip_repair_answers.specs.Laws.{SecondRepair}
 use Rattle.hip_repairs.specs.Choice.{plan_for}
 use Rattle.hip_repairs.specs.Direct.{direct}
-use Rattle.hip_costs.proofs.Sizes.{stays_small}
-use Rattle.hip_costs.specs.Again.{RepairsFit, RepairsTwice}
+use Rattle.hip_repair_laws.proofs.Sizes.{stays_small}
+use Rattle.hip_repair_laws.specs.Again.{RepairsFit, RepairsTwice}
 
 pub repairs_fit : RepairsFit
 repairs_fit P plan skip small =

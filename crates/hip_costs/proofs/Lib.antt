@@ -1,6 +1,0 @@
-mod Names
-mod Weights
-mod Lines
-mod Sizes
-mod Steps
-mod Again

@@ -1,4 +1,5 @@
 """What was found, as text in the format of clang's diagnostics."""
+import re
 import sys
 from collections.abc import Callable
 from typing import TextIO
@@ -84,7 +85,13 @@ def amount(number: int, word: str) -> str:
 def object_of(session: Session, checked: Checked, group: Group) -> tuple[str, int]:
     """The name and the size of what the first store of a group stores."""
     address, size = checked.trace.wanted[group.entry]
-    return session.names.of(address), size
+    return session.names.of_store(address, session.places.of_store(group.path[0])), size
+
+
+def quoted(name: str) -> str:
+    """The name of an object in quotes, without the type and the place of one that lies in an arena."""
+    path, of, rest = re.split(r"( of an? |$)", name, maxsplit=1)
+    return f"'{path}'{of}{rest}"
 
 
 def images_in_words(number: int) -> str:
@@ -98,7 +105,7 @@ def message_of(session: Session, checked: Checked, group: Group) -> str:
     by = helper_of(session, group)
     count = f', {amount(group.count, "report")}' if group.count > 1 else ""
     return (
-        f"store of {amount(size, 'byte')} to '{name}'{by} is not durable {check_of(session, checked, group)} "
+        f"store of {amount(size, 'byte')} to {quoted(name)}{by} is not durable {check_of(session, checked, group)} "
         f"[{group.missing}{count}]"
     )
 

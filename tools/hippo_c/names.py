@@ -1,8 +1,8 @@
 """Names of persistent objects as C has them, by the debug information of clang: `ring.slots[3].text[8]`."""
 import re
-from collections.abc import Callable
+from collections.abc import Callable, Iterator
 from concurrent.futures import ThreadPoolExecutor
-from functools import cache
+from functools import cache, cached_property
 
 from lowering.commands import jobs
 from lowering.languages import is_source
@@ -10,11 +10,14 @@ from lowering.names import demangled
 
 from . import kept_texts
 from .clang import emit_text
+from .places import Place
 from .program import Program
 from .reading import compiled_files
+from .stored_types import StoredTypes
 
 NODE = re.compile(r"^!(\d+) = (?:distinct )?!(DI\w+|)(?:\((.*)\)|\{(.*)\})$", re.M)
 VARIABLE = re.compile(r'^@("[^"]*"|[-\w$.]+) = .*!dbg !(\d+)', re.M | re.ASCII)
+CLASSES = ("DW_TAG_structure_type", "DW_TAG_class_type", "DW_TAG_union_type")
 SAME_TYPE = ("DW_TAG_typedef", "DW_TAG_const_type", "DW_TAG_volatile_type", "DW_TAG_atomic_type")
 
 
@@ -22,11 +25,17 @@ class Types:
     """The types of the globals of one C file."""
 
     def __init__(self, text: str) -> None:
+        self.text = text
         self.nodes = {number: fields or items or "" for number, _, fields, items in NODE.findall(text)}
         self.variables: dict[str, str | None] = {}
         for name, number in VARIABLE.findall(text):
             variable = self.link(number, "var") or number
             self.variables[name.strip('"')] = self.link(variable, "type")
+
+    @cached_property
+    def stored(self) -> StoredTypes:
+        """The types of the stores of the file."""
+        return StoredTypes(self.text, self)
 
     def node(self, number: str | None) -> str:
         """The fields or the elements of a node; an empty text if there is none."""
@@ -68,22 +77,22 @@ class Types:
         tag = self.tag(number)
         if number and tag == "DW_TAG_array_type":
             return self.in_array(number, offset)
-        if tag not in ("DW_TAG_structure_type", "DW_TAG_class_type", "DW_TAG_union_type"):
-            return ""
-        for member in self.items(number):
-            if (
-                self.tag(member) not in ("DW_TAG_member", "DW_TAG_inheritance")
-                or "DIFlagStaticMember" in self.nodes[member]
-            ):
-                continue
-            start, size = self.value(member, "offset") // 8, self.value(member, "size") // 8
-            if self.tag(member) == "DW_TAG_inheritance":
-                size = self.bytes(self.link(member, "baseType"))
-            if start <= offset < start + size:
+        for start, bytes_, member in self.members(number):
+            if start <= offset < start + bytes_:
                 name = re.search(r'\bname: "([^"]*)"', self.nodes[member])
                 inner = self.within(self.link(member, "baseType"), offset - start)
                 return (f".{name[1]}" if name else "") + inner
         return ""
+
+    def members(self, number: str | None) -> Iterator[tuple[int, int, str]]:
+        """The offset, the size and the number of each member and each base of a class; of other types nothing."""
+        for member in self.items(number) if self.tag(number) in CLASSES else []:
+            if "DIFlagStaticMember" in self.nodes[member]:
+                continue
+            if self.tag(member) == "DW_TAG_inheritance":
+                yield self.value(member, "offset") // 8, self.bytes(self.link(member, "baseType")), member
+            elif self.tag(member) == "DW_TAG_member":
+                yield self.value(member, "offset") // 8, self.value(member, "size") // 8, member
 
     def in_array(self, number: str, offset: int) -> str:
         """The same in an array: the indices of the element, and the path in it."""
@@ -124,6 +133,18 @@ class Names:
         if not types or not number:
             return shown(item.name) + (f"+{offset}" if offset else "")
         return shown(re.sub(r"\.\d+$", "", item.name)) + types.within(number, offset)
+
+    def of_store(self, address: int, place: Place | None) -> str:
+        """The name of what a store of the user's at a place stores: in an arena that of the object which the pointer names."""
+        name, found = self.of(address), self.program.object_at(address)
+        if not found or not place or not place.exact:
+            return name
+        item, offset = found
+        types, number = self.type_of(item.name, item.size)
+        if not types or not types.stored.is_byte(number, offset):
+            return name
+        described = {unit.stored.described(place, address, item) for unit in self.types()} - {""}
+        return described.pop() if len(described) == 1 else name
 
     def type_of(self, name: str, size: int) -> tuple[Types | None, str | None]:
         """The type of the only global with this name, or with this name without a linker's number, and with this size."""

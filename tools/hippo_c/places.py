@@ -61,6 +61,14 @@ class Places:
         found = [place_of(frame) for frame in named if frame.line and self.is_users(frame.file)]
         return found or [head_of(function)]
 
+    def of_store(self, site: Site) -> Place | None:
+        """The place of a store itself, if that is the user's."""
+        instruction, places = self.program.instruction(site), self.of(site)
+        if not places or not instruction or not instruction.frames:
+            return None
+        first = instruction.frames[0]
+        return places[0] if (first.file, first.line, first.column) == places[0][:3] else None
+
     def is_users_function(self, function: Function) -> bool:
         """Whether a function stands in a file of the user's."""
         return function.place is not None and self.is_users(function.place.file)

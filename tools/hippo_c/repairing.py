@@ -9,6 +9,7 @@ from lowering.names import shortened
 
 from . import depfile, running
 from .checking import printer_of
+from .clones import counted, print_clones, why_many
 from .crashed_inputs import check_crashed
 from .debuginfo import plain, with_debug_info
 from .diagnostics import Printer, amount
@@ -170,15 +171,11 @@ def print_repair(printer: Printer, session: Session, found: Repair, callers: dic
         rows[f"{site}"] = (
             session.places.first((site,)) or callers.get(site),
             f"{hoisted(session, site, found.clones[clone])} goes to a clone that "
-            "flushes what it stores, and a fence is added after it",
+            f"flushes what it stores, and a fence is added after it{why_many(found, site)}",
         )
     for place, text in sorted(rows.values(), key=lambda row: (row[0] is None, row[0] or ())):
         printer.diagnostic(place, "note", text)
-    for clone, original in found.clones.items():
-        flushes = sum(item.clone == clone and not item.is_fence for item in found.insertions)
-        function = session.program.functions[original]
-        what = "a call by pointer" if function.is_dispatch else f"'{shortened(function.name_in_c)}'"
-        printer.line(f"clone of {what}: {counted(flushes, 'flush', 'flushes')}")
+    print_clones(printer, found)
 
 
 def hoisted(session: Session, site: Site, original: str) -> str:
@@ -193,11 +190,6 @@ def hoisted(session: Session, site: Site, original: str) -> str:
 def of_helper(session: Session, site: Site) -> str:
     """` of 'memcpy'` for a site in a function that is not the user's."""
     return "" if session.places.of(site) else f" of '{shortened(session.program.functions[site[0]].name_in_c)}'"
-
-
-def counted(number: int, one: str, many: str) -> str:
-    """A number with the word for one or for many."""
-    return f"{number:,} {one if number == 1 else many}"
 
 
 def print_counts(

@@ -2,6 +2,7 @@
 make or destroy in each run."""
 import re
 from dataclasses import dataclass, field
+from typing import Any
 
 from .throws import without_throws
 
@@ -20,17 +21,36 @@ STORE = re.compile(r"store .*, (ptr [^,]*(?:\(.*\))?)")
 
 @dataclass
 class Facts:
-    """What a file is noted or refused for. The names of globals are as LLVM spells them."""
+    """What a file is noted or refused for. The names of globals are as LLVM spells them. `inline` has for source files whose text before
+    the passes was seen the functions that have their bodies there, and that another file may define."""
 
     throws: bool = False
     made: set[str] = field(default_factory=set)
     destroyed: set[str] = field(default_factory=set)
+    inline: dict[str, set[str]] = field(default_factory=dict)
 
     def add(self, other: "Facts") -> None:
         """Joins the facts of another file."""
         self.throws |= other.throws
         self.made |= other.made
         self.destroyed |= other.destroyed
+        self.inline.update(other.inline)
+
+    def written(self) -> dict[str, Any]:
+        """The facts as JSON has them."""
+        inline = {file: sorted(names) for file, names in self.inline.items()}
+        return {
+            "throws": self.throws,
+            "made": sorted(self.made),
+            "destroyed": sorted(self.destroyed),
+            "inline": inline,
+        }
+
+
+def facts_of(written: dict[str, Any]) -> Facts:
+    """The facts that JSON has."""
+    inline = {file: set(names) for file, names in written["inline"].items()}
+    return Facts(written["throws"], set(written["made"]), set(written["destroyed"]), inline)
 
 
 def changed(text: str) -> tuple[str, Facts]:

@@ -13,7 +13,7 @@ import re
 from collections.abc import Callable
 from functools import cache
 
-from .before_passes import Facts
+from .before_passes import Facts, facts_of
 from .commands import WRITE_FAULT, Failure, output_of
 from .outputs import write_whole
 
@@ -51,13 +51,7 @@ def kept(folder: str, command: list[str], make: Callable[[], tuple[str, Facts]])
         return found
     read = {name: digest_of(name) for name in files_read(command)}
     text, facts = make()
-    entry = {
-        "read": read,
-        "text": text,
-        "throws": facts.throws,
-        "made": sorted(facts.made),
-        "destroyed": sorted(facts.destroyed),
-    }
+    entry = {"read": read, "text": text, **facts.written()}
     try:
         os.makedirs(folder, exist_ok=True)
     except OSError as error:
@@ -75,7 +69,7 @@ def read_entry(path: str) -> tuple[str, Facts] | None:
             digest_of(name) != known for name, known in entry["read"].items()
         ):
             return None
-        return entry["text"], Facts(entry["throws"], set(entry["made"]), set(entry["destroyed"]))
+        return entry["text"], facts_of(entry)
     except (OSError, ValueError, KeyError, AttributeError, TypeError):
         return None
 

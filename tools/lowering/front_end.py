@@ -12,7 +12,7 @@ from .compile_cache import kept
 from .definitions import MAIN, check_definitions, check_mains, persistent_declarations, read
 from .divisions import with_checks
 from .ends import WORK
-from .inline import link_inline
+from .inline import INLINE, link_inline
 from .languages import FLAGS, command_for, compiler, is_cpp, is_source
 from .module_cache import kept_unit
 from .names import LOOKS_PERSISTENT, unescaped
@@ -86,8 +86,12 @@ def program_of(options: Options) -> Program:
     linked = runtime.link(linked, text)
     text = read(linked)
     if undefined(text):
-        commands = [command_for(file, "-O1", options, TOOLS) for file in options.files if is_source(file)]
-        linked, inline = link_inline(linked, text, commands, options.level, folder)
+        sources = [
+            (command_for(file, "-O1", options, TOOLS), facts.inline.get(file))
+            for file in options.files
+            if is_source(file)
+        ]
+        linked, inline = link_inline(linked, text, sources, options.level, folder)
         if inline:
             own |= inline
             linked = runtime.link(linked, read(linked))
@@ -188,6 +192,8 @@ def module_of_unit(unit: Unit, options: Options, target: str) -> tuple[str, Fact
 def optimised(text: str, file: str, options: Options) -> tuple[str, Facts]:
     """The module of a text before LLVM's passes, which is changed before them, and its facts."""
     before, facts = changed(text)
+    if options.level != "-O0":  # at this level clang writes no such bodies
+        facts.inline[file] = {name.strip('"') for name in INLINE.findall(before)}
     name, *flags = compiler(file)
     optimise = [name, options.level, *FLAGS, *flags, "-w", *OF_TEXT]
     if calls_setjmp(before):

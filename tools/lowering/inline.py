@@ -10,13 +10,18 @@ from .throws import without_throws
 INLINE = re.compile(r'^define available_externally [^@\n]*@("[^"\n]*"|[-A-Za-z$._0-9]+)\(', re.M)
 
 
-def link_inline(program: str, text: str, commands: list[list[str]], level: str, folder: str) -> tuple[str, set[str]]:
+def link_inline(
+    program: str, text: str, sources: list[tuple[list[str], set[str] | None]], level: str, folder: str
+) -> tuple[str, set[str]]:
     """The name of a file with the program and the inline functions that it needs, and the names of these functions.
 
-    The commands compile the C files. They run without LLVM's passes, which would drop the bodies; the passes run afterwards.
+    A source is the command that compiles a file, and the names of its inline functions if they are known. The commands run without
+    LLVM's passes, which would drop the bodies; the passes run afterwards.
     """
     needed, found = undefined(text), set()
-    for number, command in enumerate(commands):
+    for number, (command, known) in enumerate(sources):
+        if known is not None and not needed & known:
+            continue
         body, _ = without_throws(output_of([*command, "-w", "-Xclang", "-disable-llvm-passes", "-o", "-"]))
         names = {name.strip('"') for name in INLINE.findall(body)}
         if not needed & names:

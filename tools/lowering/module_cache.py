@@ -15,7 +15,7 @@ import time
 from collections.abc import Callable
 from typing import Any
 
-from .before_passes import Facts
+from .before_passes import Facts, facts_of
 from .reads import READS, read_list
 from .up_to_date import State, digest_of, identity_of_tools, is_unchanged, state_of
 
@@ -65,13 +65,12 @@ def kept_unit(command: list[str], make: Callable[[], tuple[str, Facts]]) -> tupl
     if entry := read_entry(path):
         text, state, facts = entry
         READS.note(state)
-        return text, Facts(facts["throws"], set(facts["made"]), set(facts["destroyed"]))
+        return text, facts_of(facts)
     text, found = make()
     made = READS.take(command[-1])
     READS.note(made)
     if made:
-        facts = {"throws": found.throws, "made": sorted(found.made), "destroyed": sorted(found.destroyed)}
-        write_entry(path, text, made, facts)
+        write_entry(path, text, made, found.written())
     return text, found
 
 

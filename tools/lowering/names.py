@@ -64,9 +64,9 @@ def last_part(name: str) -> str:
 
 def without_arguments(name: str) -> str:
     """A name without the arguments of templates, and without what stands in a function, such as a lambda."""
-    name = re.split(r"::(?:\$_|'lambda|\{lambda|'unnamed)", name)[0]
     while (shorter := re.sub(r"(?<!operator)(?<!operator<)(?<!operator-)<[^<>]*>", "", name)) != name:
         name = shorter
+    name = re.split(r"::(?:\$_|'lambda|\{lambda|'unnamed)", name)[0]
     return re.sub(r"(?<!operator)\(.*?\)(?: const)?(?=::|$)", "", name.replace("(anonymous namespace)::", ""))
 
 

@@ -1,4 +1,5 @@
 """Refusals: the parts of a program that cannot be lowered, with advice for each kind."""
+import re
 from dataclasses import dataclass, field
 
 ADVICE = {
@@ -29,9 +30,10 @@ ADVICE = {
     "library": "write it out, or leave it out under #ifdef: the runtime has the parts of the C++ library that storage needs",
     "limit": "hippo has this limit",
 }
-# Kinds that say which part of the C++ library has no form; where one of them is at a line, those that say less are left out.
-OF_LIBRARY = ("stream", "threads", "exception", "files")
-GENERAL = ("library", "option", "missing", "atomic")
+# Of the refusals at one place in the C++ library, those of the highest rank say which part has no form; the others are left out.
+RANKS = {"stream": 2, "threads": 2, "files": 2, "exception": 1, "library": 0, "option": 0, "missing": 0, "atomic": 0}
+# How a place with a line ends.
+AT_LINE = re.compile(r":\d+: $")
 
 
 class Refused(Exception):
@@ -48,8 +50,11 @@ class Refusals:
     """The refusals of a program by kind, in each kind by reason, and for each reason its places, all in the order of discovery."""
 
     kinds: dict[str, dict[str, list[str]]] = field(default_factory=dict)
-    explained: set[str] = field(default_factory=set)
-    general: dict[str, str] = field(default_factory=dict)
+    ranked: dict[str, tuple[str, int]] = field(default_factory=dict)  # lines, each with its place and its rank
+    highest: dict[str, int] = field(default_factory=dict)  # the highest rank at a place
+    of_files: set[str] = field(
+        default_factory=set
+    )  # lines whose place is a whole file, where others of their reason say more
     MOST_PLACES = 10
 
     def add(self, refusal: Refused, place: str = "", at: str = "") -> None:
@@ -65,10 +70,17 @@ class Refusals:
         is_end = name.startswith("~") and any(f": {name[1:]}: " in line for line in places)
         if not is_end and not any(line.startswith(place) for line in places):
             places.append(f'{place}{name.lstrip("~")}: {refusal}')
-            if refusal.kind in OF_LIBRARY:
-                self.explained.add(place)
-            elif refusal.kind in GENERAL:
-                self.general[places[-1]] = place
+            if not AT_LINE.search(place):
+                self.of_files.add(places[-1])
+            if refusal.kind in RANKS:
+                rank = RANKS[refusal.kind]
+                self.ranked[places[-1]] = (place, rank)
+                self.highest[place] = max(rank, self.highest.get(place, 0))
+
+    def says_less(self, line: str) -> bool:
+        """Whether another line for the same place says more."""
+        place, rank = self.ranked.get(line, ("", 0))
+        return rank < self.highest.get(place, 0)
 
     def text(self) -> list[str]:
         """The lines to be shown: places by reason, and after each kind what to do."""
@@ -76,7 +88,8 @@ class Refusals:
         for kind, reasons in self.kinds.items():
             before = len(shown)
             for reason, given in reasons.items():
-                lines = [line for line in given if self.general.get(line) not in self.explained]
+                lines = [line for line in given if not self.says_less(line)]
+                lines = [line for line in lines if line not in self.of_files] or lines
                 shown += lines[: self.MOST_PLACES]
                 if len(lines) > self.MOST_PLACES:
                     shown.append(f"{reason}: and {len(lines) - self.MOST_PLACES} more places")

@@ -77,26 +77,25 @@ class Runtime:
             used.update(name for _, name in WORDS_FROM_INPUT)
         if self.options.heap_on_stack:
             used.add(HEAP_ON_STACK)
-        if used:
-            program = self.with_uses(program, text, used)
-            needed |= used
+        user = self.with_uses(program, text, used) if used else program
+        needed |= used
         compiled = self.compile_needed(needed, self.files(needed))
         if not compiled:
             return program
         library, target = f"{self.folder}/runtime.bc", f"{self.folder}/with_runtime.ll"
         output_of(["llvm-link-19", "-o", library, *compiled])
-        output_of(["llvm-link-19", "-S", "--only-needed", "-o", target, program, library])
+        output_of(["llvm-link-19", "-S", "--only-needed", "-o", target, user, library])
         return target
 
     def with_uses(self, program: str, text: str, names: set[str]) -> str:
-        """The name of a file with the program and a use of these functions, which only the lowering calls: what floats need, and
-        hippo_run_atexit, which `main` calls at its end."""
-        uses, target = f"{self.folder}/uses.ll", f"{self.folder}/with_uses.ll"
+        """The name of a file, of bitcode, with the program and a use of these functions, which only the lowering calls: what floats
+        need, and hippo_run_atexit, which `main` calls at its end."""
+        uses, target = f"{self.folder}/uses.ll", f"{self.folder}/with_uses.bc"
         lines = [f"declare void @{name}()" for name in sorted(names)]
         listed = USED.format(count=len(names), names=", ".join(f"ptr @{name}" for name in sorted(names)))
         with open(uses, "w", encoding="latin-1") as file:
             file.write("\n".join([*re.findall("^target .*$", text, re.M), listed, *lines, ""]))
-        output_of(["llvm-link-19", "-S", "-o", target, program, uses])
+        output_of(["llvm-link-19", "-o", target, program, uses])
         return target
 
     def files(self, needed: set[str]) -> list[str]:

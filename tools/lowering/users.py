@@ -12,7 +12,11 @@ if TYPE_CHECKING:
     from .module import Module
 
 SYSTEM = ("/usr/include/", "/usr/lib/", "/usr/local/include/")
+# How the place ends of what clang makes for a whole file, such as the end of its global objects.
+OF_FILE = ":0: "
 NAMED = re.compile(GLOBAL_NAME)
+OF_TYPE = re.compile(r"(?:vtable|typeinfo|VTT|typeinfo name) for ")
+INTERNAL = re.compile(r"_[_A-Z]")
 SHORT = re.compile(r"\bbasic_(?=\w*(?:stream|buf|string|regex|ios)\b)")
 
 
@@ -50,7 +54,8 @@ class Users:
                 elif use.user not in seen:
                     seen.add(use.user)
                     waiting.append(use.user)
-        return found
+        exact = [(place, named) for place, named in found if not place.endswith(OF_FILE)]
+        return exact or [(place.removesuffix(OF_FILE) + ": ", named) for place, named in found]
 
 
 def is_of_system(place: str) -> bool:
@@ -66,7 +71,20 @@ def shown(name: str) -> str:
     end = ""
     if len(parts) > 1 and parts[-1].lstrip("~") == parts[-2]:
         end = "~" if parts.pop().startswith("~") else ""
-    return end + re.sub(r"^(?:vtable|typeinfo|VTT|typeinfo name) for ", "", SHORT.sub("", "::".join(parts)))
+    parts[0] = OF_TYPE.sub("", parts[0])
+    return end + SHORT.sub("", "::".join(public(parts)))
+
+
+def public(parts: list[str]) -> list[str]:
+    """The parts of a name of the library that a program may write: `std::thread` of `std::thread::_State`, `std::future` of what its base
+    has."""
+    kept = [part for part in parts if not INTERNAL.match(part)]
+    if parts[0] != "std" or len(parts) == len(kept):
+        return parts
+    if len(kept) > 1:
+        return kept
+    based = re.fullmatch(r"_+(\w+)_base", parts[1])
+    return ["std", based[1]] if based else parts
 
 
 def refuse_global(module: Module, refusal: Refused, line: str) -> None:

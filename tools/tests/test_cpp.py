@@ -1,6 +1,7 @@
 #!/usr/bin/env python3
 """Each C++ program in `cpp/` prints, lowered at each level, what clang's own build of it prints (`comparing.py`), or ends as its
-comments say: each `// refused: TEXT` is in the messages of tools/lower, which refuses the program, and no `// no line: TEXT` is;
+comments say: each `// refused: TEXT` is in the messages of tools/lower, which refuses the program with one line for each of its lines
+at most, and no `// no line: TEXT` is;
 `// trap: LINE` is the line of the `throw` at which the run traps, after a part of what the own build prints,
 and with `// traps: in the library` it traps there."""
 import glob
@@ -39,7 +40,7 @@ class Cpp(Comparing):
         os.mkdir(tools)
         for name in ("clang-19", "opt-19", "llvm-link-19", "llvm-as-19", "llvm-cxxfilt-19"):
             os.symlink(shutil.which(name) or name, os.path.join(tools, name))
-        for end, wanted in (("c", 0), ("cpp", 69), ("cc", 69), ("C", 69)):
+        for end, wanted in (("c", 0), ("cpp", 69), ("cc", 69), ("cxx", 69), ("c++", 69), ("C", 69)):
             file = os.path.join(self.folder, f"small.{end}")
             with open(file, "w", encoding="utf-8") as out:
                 out.write("int main(void) { return 0; }\n")
@@ -68,10 +69,12 @@ class Cpp(Comparing):
         """What is wrong with a refusal."""
         code, printed, errors = self.lower(level, file, source)
         unwanted = re.findall("^// no line: (.*)$", source, re.M)
+        places = re.findall(rf"^lower: (\S*{re.escape(os.path.basename(file))}:\d+): ", errors, re.M)
         is_right = (
             (code, printed) == (5, "")
             and all(text in errors for text in texts)
             and not any(text in errors for text in unwanted)
+            and len(places) == len(set(places))
         )
         return "" if is_right else f"{level}: {code}: {errors}"
 

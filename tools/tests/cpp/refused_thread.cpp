@@ -1,4 +1,4 @@
-// refused: refused_thread.cpp:7: std::thread::_State: one thread runs
+// refused: refused_thread.cpp:7: std::thread: one thread runs
 // options: --single-thread
 #include <hippo.h>
 #include <thread>

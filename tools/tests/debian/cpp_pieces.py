@@ -10,6 +10,7 @@ ABSEIL = [
     f"absl/{name}.cc"
     for name in ("base/internal/raw_logging", "base/internal/throw_delegate", "container/internal/raw_hash_set")
 ]
+DOUBLE_CONVERSION = "bignum bignum-dtoa cached-powers double-to-string fast-dtoa fixed-dtoa string-to-double strtod"
 LEVELDB = (
     "db/builder db/dbformat db/filename db/log_reader db/log_writer db/memtable db/write_batch "
     "table/block table/block_builder table/filter_block table/format table/iterator table/merger "
@@ -56,6 +57,9 @@ CPP_PIECES = [
     of_headers("boost_heap", BOOST, "five priority queues"),
     of_headers("boost_rtree", BOOST, "R-tree of boxes", flags=("-Wno-missing-template-arg-list-after-template-kw",)),
     of_headers("boost_lockfree", BOOST, "queues without locks, pool, bitset", *THREAD),
+    of_headers("boost_unordered", BOOST, "hash tables"),
+    of_headers("boost_rings", BOOST, "ring, two-way map, sets of bits and intervals, pool"),
+    of_headers("policy_trees", "libstdc++-12-dev", "trees, hash table and heaps by policies"),
     of_headers("robin_map", "robin-map-dev", "hash table with robin hood hashing"),
     of_headers("hopscotch_map", "libtsl-hopscotch-map-dev", "hash table with hopscotch hashing"),
     of_headers("sparsehash", "libsparsehash-dev", "dense and sparse hash tables", *TEXT),
@@ -64,10 +68,21 @@ CPP_PIECES = [
     of_headers("lemon", "liblemon-dev", "graphs", *THREAD),
     of_headers("nanoflann", "libnanoflann-dev", "index of points"),
     of_headers("queues", "libconcurrentqueue-dev libreaderwriterqueue-dev", "queues without locks", *THREAD),
+    of_headers("utf8", "libutfcpp-dev", "texts in Unicode"),
+    of_headers("flatbuffers", "libflatbuffers-dev", "tables that are read in place", *THREAD, *TEXT),
+    of_headers("msgpack", f"libmsgpack-cxx-dev {BOOST}", "packed values", *THREAD, *TEXT),
     of_headers("json", "nlohmann-json3-dev", "JSON and its binary forms", *THREAD, *TEXT),
     of_headers("format", "libfmt-dev", "texts of numbers", *TEXT, flags=("-DFMT_HEADER_ONLY",)),
     of_sources("abseil_btree", "abseil", "B-trees", ABSEIL[:2], ["."], *THREAD, *TEXT),
     of_sources("abseil_hash", "abseil", "hash tables with SSE2", ABSEIL, ["."], *THREAD, *TEXT),
+    of_sources(
+        "double_conversion",
+        "double-conversion",
+        "texts of numbers",
+        [f"double-conversion/{name}.cc" for name in DOUBLE_CONVERSION.split()],
+        ["."],
+    ),
+    of_sources("tinyxml", "tinyxml2", "XML", ["tinyxml2.cpp"], ["."], *TEXT),
     of_sources("pugixml", "pugixml", "XML", ["src/pugixml.cpp"], ["src"]),
     of_sources(
         "leveldb",

@@ -47,7 +47,11 @@ class Packages:
             found = glob.glob(f"{self.folder}/debs/{package}_*.deb")
             if not found:
                 return None
-            subprocess.run(["dpkg", "-x", found[0], place], check=True)
+            unpacked = f"{found[0]}.unpacked"  # an empty file, which is there when the archive is unpacked completely
+            if not os.path.exists(unpacked):
+                subprocess.run(["dpkg", "-x", found[0], place], check=True)
+                with open(unpacked, "w", encoding="ascii"):
+                    pass
         return place
 
     def apt_get(self, subfolder: str, *words: str) -> None:

@@ -71,6 +71,29 @@ class Repair(Case):
         self.assertIn("clone of 'fill': 1 flush\n", ran.stdout)
         self.assertIn("3 reports before, 0 after;", ran.stdout)
 
+    def test_very_many_clones_have_a_reason(self) -> None:
+        """Where one call makes very many clones, its note says how many and why, and the clones after the first ones are counted."""
+        names = [f"put_{number}" for number in range(40)]
+        functions = "".join(
+            f"static void {name}(long *to) {{ to[0] = {number}; }}\n" for number, name in enumerate(names)
+        )
+        end = "#include <hippo.h>\nPERSISTENT static long kept[8];\n" + functions
+        main = (
+            "int main(void) {{\n  long local[8] = {{0}};\n  int k = (int)read_i64();\n"
+            "  {0}(local);\n  {0}(kept);\n  print_i64(local[0] + k);\n  return 0;\n}}\n"
+        )
+        table = f"static void (*const all[])(long *) = {{{', '.join(names)}}};\n"
+        calls = f"static void all(long *to) {{ {' '.join(f'{name}(to);' for name in names)} }}\n"
+        for text, called, more, why in (
+            (table, "all[k]", 10, "a call by pointer, which may call 40 functions"),
+            (calls, "all", 9, "so many functions that may store"),
+        ):
+            self.write("a.c", end + text + main.format(called))
+            ran = self.hippo_c("repair", "a.c", "-o", "a.ll", "--input", "7", code=0)
+            self.assertIn(f" is added after it; {32 + more} clones in all, since it comes to {why}\n", ran.stdout)
+            self.assertEqual(ran.stdout.count("\nclone of "), 32, ran.stdout)
+            self.assertIn(f"\n{more} more clones: 9 flushes\n", ran.stdout)
+
     def test_a_fence_after_a_flush_by_pointer_is_in_the_line_of_the_call(self) -> None:
         self.write(
             "a.c",

@@ -5,6 +5,7 @@ from __future__ import annotations
 
 from .edit import Edit
 from .of_builds import EDITS as OF_BUILDS
+from .of_cpp import EDITS as OF_CPP
 from .of_explore import EDITS as OF_EXPLORE
 from .of_hippo_c import EDITS as OF_HIPPO_C
 from .of_hippo_c_files import EDITS as OF_HIPPO_C_FILES
@@ -19,6 +20,7 @@ EDITS: list[Edit] = [
     *OF_LOWERING,
     *OF_REFUSALS,
     *OF_RUNTIME,
+    *OF_CPP,
     *OF_HIPPO_C,
     *OF_HIPPO_C_FILES,
     *OF_BUILDS,

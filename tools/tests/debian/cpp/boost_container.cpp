@@ -40,7 +40,7 @@ int main() {
     int number = static_cast<int>(draw(500));
     root.sorted.insert(number);
     root.pairs.emplace(number % 16, static_cast<short>(i));
-    root.stable.insert(root.stable.begin() + draw(i + 1), number);
+    root.stable.insert(root.stable.begin() + draw(static_cast<unsigned>(root.stable.size() + 1)), number);
     root.small.push_back(number);
     root.fixed.insert(root.fixed.begin(), number);
     i & 1 ? root.two_ends.push_back(number) : root.two_ends.push_front(number);

@@ -18,6 +18,15 @@ from clang_case import HIPPO, TESTS, TOOLS
 from comparing import LEVELS, Comparing, given, output_of
 
 
+WEAK = """#include <hippo.h>
+extern "C" __attribute__((weak)) long other(long);
+int main() {
+  print_i64(other ? other(read_i64()) : 5);
+  return 0;
+}
+"""
+
+
 class Cpp(Comparing):
     """One test for each program."""
 
@@ -53,6 +62,24 @@ class Cpp(Comparing):
             )
             self.assertEqual((done.returncode, done.stdout == ""), (wanted, wanted != 0), done.stderr)
             self.assertEqual("clang++-19 is not installed" in done.stderr, wanted == 69, done.stderr)
+
+    def test_a_file_is_compiled_once(self) -> None:
+        """Also where a function stays undefined: the bodies that another file may define are known from the first time."""
+        tools = os.path.join(self.folder, "counted_tools")
+        os.mkdir(tools)
+        log, compiler, file = (os.path.join(tools, name) for name in ("log", "clang++-19", "weak.cpp"))
+        with open(compiler, "w", encoding="utf-8") as script:
+            script.write(f'#!/bin/sh\necho "$*" >>{log}\nexec {shutil.which("clang++-19")} "$@"\n')
+        os.chmod(compiler, 0o755)
+        with open(file, "w", encoding="utf-8") as out:
+            out.write(WEAK)
+        environment = {**os.environ, "PATH": f'{tools}:{os.environ["PATH"]}'}
+        command = [sys.executable, os.path.join(TOOLS, "lower"), "-O1", file]
+        done = subprocess.run(command, capture_output=True, encoding="utf-8", check=False, env=environment)
+        self.assertEqual(done.returncode, 0, done.stderr)
+        self.assertIn("no file defines the weak name other: it is null", done.stderr)
+        with open(log, encoding="utf-8") as read:
+            self.assertEqual(read.read().count(file), 1)
 
     def at_levels(self, source: str, wrong: Callable[[str], str]) -> None:
         """Nothing is wrong at any level."""

@@ -66,7 +66,7 @@ CPP_PIECES = [
     of_headers("plf_colony", "libplf-colony-dev", "blocks with skipfields"),
     of_headers("kdtree", "libkdtree++-dev", "tree of points"),
     of_headers("lemon", "liblemon-dev", "graphs", *THREAD),
-    of_headers("nanoflann", "libnanoflann-dev", "index of points"),
+    of_headers("nanoflann", "libnanoflann-dev", "index of points", *TEXT),
     of_headers("queues", "libconcurrentqueue-dev libreaderwriterqueue-dev", "queues without locks", *THREAD),
     of_headers("utf8", "libutfcpp-dev", "texts in Unicode"),
     of_headers("flatbuffers", "libflatbuffers-dev", "tables that are read in place", *THREAD, *TEXT),

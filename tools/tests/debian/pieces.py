@@ -161,6 +161,13 @@ PIECES = [
         "qdbm_cabin", "qdbm", "lists and maps", files("", "cabin myconf"), own=HEAP, options=["--single-thread", *FILES]
     ),
     Piece(
+        "qdbm_depot",
+        "qdbm",
+        "hash database in a file",
+        files("", "depot myconf"),
+        options=["--single-thread", *FILES, "--pool", "data.depot=256K"],
+    ),
+    Piece(
         "gdbm",
         "gdbm",
         "hash table in a file",

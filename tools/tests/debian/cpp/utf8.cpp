@@ -29,7 +29,7 @@ int main() {
   digest.print();
   print_i64(utf8::distance(store.bytes, more));
   const char *last = more;
-  for (int i = 0; i < 5; i++) digest.add(utf8::prior(last, store.bytes));
+  for (int i = 0; i < 5; i++) digest.add(utf8::prior(last, static_cast<const char *>(store.bytes)));
   digest.print();
   persistent::persist(&store, sizeof store);
   return 0;

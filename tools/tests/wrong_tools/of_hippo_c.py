@@ -5,6 +5,7 @@ from .edit import Edit
 
 CHECKING, REPORTS, IMAGES = "tools/hippo_c/checking.py", "tools/hippo_c/reports.py", "tools/hippo_c/images.py"
 CHECK, CRASH = "hippo_c_tests.test_check", "hippo_c_tests.test_crash"
+TRAPS = "hippo_c_tests.test_traps.Traps"
 PROGRAM = "hippo_c_tests.test_program"
 
 EDITS = [
@@ -22,7 +23,7 @@ EDITS = [
         CHECKING,
         '    return 0 if all(checked.ended.startswith("stop") for checked in results) else 2\n',
         '    return 0 if all(checked.ended != "cut" for checked in results) else 2\n',
-        f"{CHECK}.Traps.test_a_trap_without_a_report_is_not_clean",
+        f"{TRAPS}.test_a_trap_without_a_report_is_not_clean",
     ),
     Edit(
         "run_that_trapped_ends_with_0",
@@ -30,7 +31,7 @@ EDITS = [
         CHECKING,
         "    return 0 if ended.code == 0 else 2\n",
         "    return 0\n",
-        f"{CHECK}.Traps.test_memory",
+        f"{TRAPS}.test_memory",
     ),
     Edit(
         "reports_end_with_0",

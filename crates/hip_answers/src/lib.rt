@@ -10,6 +10,6 @@ mod texts;
 
 pub use delivery::{finish, refuse};
 pub use endings::{put_ending, status_of_ending};
-pub use refusal::{TraceFileRefusal, status_of_trace};
-pub use status::{FileRole, Status, status_of_failure};
+pub use refusal::TraceFileRefusal;
+pub use status::{FileRole, Status};
 pub use texts::put_number;

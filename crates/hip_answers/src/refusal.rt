@@ -1,6 +1,3 @@
-ghost use Rattle.std.specs.Prelude.{◌≡◌};
-ghost use Rattle.hip_answers.specs.TraceFiles.{status_of_trace};
-
 use crate::status::{FileRole, Status};
 use hip_program_files::Failure;
 use hip_run_traces::MisfitKind;
@@ -15,18 +12,23 @@ pub enum TraceFileRefusal {
 }
 
 /// The status of a trace that is not loaded.
-pub fn status_of_trace(failure: Failure<TraceFileRefusal>) -> Status
-    ensures { result ≡ status_of_trace failure }
-{
-    match failure {
-        Failure::Refused(TraceFileRefusal::Missing) => Status::Missing {
-            file: FileRole::Trace,
-        },
-        Failure::Refused(TraceFileRefusal::Misfit { entry, kind }) => Status::Misfit {
-            entry,
-            kind,
-        },
-        Failure::ReadFault => Status::ReadFault,
-        Failure::NoMemory => Status::NoMemory,
+impl From<Failure<TraceFileRefusal>> for Status {
+    ghost use Rattle.std.specs.Prelude.{◌≡◌};
+    ghost use Rattle.hip_answers.specs.TraceFiles.{status_of_trace};
+
+    ghost from_gives = { λ failure status. status ≡ status_of_trace failure };
+
+    fn from(failure: Failure<TraceFileRefusal>) -> Status {
+        match failure {
+            Failure::Refused(TraceFileRefusal::Missing) => Status::Missing {
+                file: FileRole::Trace,
+            },
+            Failure::Refused(TraceFileRefusal::Misfit { entry, kind }) => Status::Misfit {
+                entry,
+                kind,
+            },
+            Failure::ReadFault => Status::ReadFault,
+            Failure::NoMemory => Status::NoMemory,
+        }
     }
 }

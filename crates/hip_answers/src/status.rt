@@ -1,10 +1,11 @@
 ghost use Rattle.std.specs.Prelude.{◌≡◌};
-ghost use Rattle.hip_answers.specs.Statuses.{code_of, status_of_failure};
+ghost use Rattle.hip_answers.specs.Statuses.{code_of};
 
+use hip_io::WriteFault;
 use hip_program_files::{Failure, LoadRefusal, ProgramRefusal};
 use hip_run_traces::MisfitKind;
 use hip_runs::TrapKind;
-use hip_types::PickRefusal;
+use hip_types::{NoMemory, PickRefusal};
 
 /// The file that a status is about.
 #[derive(Clone, Copy, PartialEq, Eq)]
@@ -90,16 +91,43 @@ impl Status {
 }
 
 /// The status of a program that is not loaded.
-pub fn status_of_failure(failure: Failure<LoadRefusal>) -> Status
-    ensures { result ≡ status_of_failure failure }
-{
-    match failure {
-        Failure::Refused(LoadRefusal::Missing) => Status::Missing {
-            file: FileRole::Program,
-        },
-        Failure::Refused(LoadRefusal::TooLarge) => Status::TooLarge,
-        Failure::Refused(LoadRefusal::Bad(refusal)) => Status::BadProgram { refusal },
-        Failure::ReadFault => Status::ReadFault,
-        Failure::NoMemory => Status::NoMemory,
+impl From<Failure<LoadRefusal>> for Status {
+    ghost use Rattle.std.specs.Prelude.{◌≡◌};
+    ghost use Rattle.hip_answers.specs.Statuses.{status_of_failure};
+
+    ghost from_gives = { λ failure status. status ≡ status_of_failure failure };
+
+    fn from(failure: Failure<LoadRefusal>) -> Status {
+        match failure {
+            Failure::Refused(LoadRefusal::Missing) => Status::Missing {
+                file: FileRole::Program,
+            },
+            Failure::Refused(LoadRefusal::TooLarge) => Status::TooLarge,
+            Failure::Refused(LoadRefusal::Bad(refusal)) => Status::BadProgram { refusal },
+            Failure::ReadFault => Status::ReadFault,
+            Failure::NoMemory => Status::NoMemory,
+        }
+    }
+}
+
+impl From<WriteFault> for Status {
+    ghost use Rattle.std.specs.Prelude.{◌≡◌};
+    ghost use Rattle.hip_answers.specs.declared.status.Status.TheVariants as statuses;
+
+    ghost from_gives = { λ _ status. status ≡ statuses.WriteFault };
+
+    fn from(_: WriteFault) -> Status {
+        Status::WriteFault
+    }
+}
+
+impl From<NoMemory> for Status {
+    ghost use Rattle.std.specs.Prelude.{◌≡◌};
+    ghost use Rattle.hip_answers.specs.declared.status.Status.TheVariants as statuses;
+
+    ghost from_gives = { λ _ status. status ≡ statuses.NoMemory };
+
+    fn from(_: NoMemory) -> Status {
+        Status::NoMemory
     }
 }

@@ -1,4 +1,5 @@
 pub mod Failing
+pub mod Longer
+pub mod Recorded
 pub mod Runs
 pub mod Traces
-pub mod Recorded

@@ -1,6 +1,6 @@
 -- What loading a program and the trace of one of its runs answers.
-use Rattle.std.specs.Prelude.{ℕ, ◌≡◌, ◌⊎◌, Bool, List, Result, Ok, Err}
-use Rattle.hip_answers.specs.Answers.{Answer, HasAnswered, sinks}
+use Rattle.std.specs.Prelude.{ℕ, ◌⊎◌, Bool, List, Result, Ok, Err}
+use Rattle.hip_answers.specs.Answers.{Answer}
 use Rattle.hip_answers.specs.Fetches.{FetchesFiles}
 use Rattle.hip_answers.specs.Programs.{IsUnloaded, IsUnread}
 use Rattle.hip_answers.specs.declared.status.Status.{Status}
@@ -10,6 +10,7 @@ use Rattle.hip_program_files.specs.LoadedPrograms.{IsProgramOf}
 use Rattle.hip_program_files.specs.Outside.{CountsFetches}
 use Rattle.hip_answers.specs.TraceFiles.{LacksTrace}
 use Rattle.hip_command_io.specs.LoadedTraces.{HasLoadedTrace}
+use Rattle.hip_command_io.specs.Results.{GivesResult}
 use Rattle.hip_ledger.specs.declared.sought.Sought.{Sought}
 use Rattle.hip_command_io.specs.declared.run.LoadedRun.{LoadedRun}
 
@@ -25,15 +26,14 @@ LacksRun old new program_name trace_name answer =
     IsUnloaded old new program_name answer
     ⊎ (IsUnread old new program_name answer ⊎ LacksTrace old new program_name trace_name answer)
 
--- What loading a run answers. Notes are as they were, or the refusal is the whole answer of the command, whether or not
--- the command writes its text before the whole text is made.
-abbrev pub LoadsRun : List ℕ → List ℕ → Sought → CabinetState → CabinetState → SinkState → SinkState
-    → Result LoadedRun Status → Type 0
-LoadsRun program_name trace_name sought old new notes notes_new (Ok loaded) =
-    HasLoadedRun program_name trace_name sought old new loaded × (notes_new ≡ notes)
-LoadsRun program_name trace_name sought old new notes notes_new (Err status) =
+-- What loading a run answers. A refusal is the whole result of the command, whatever out is, and whether or not the
+-- command writes its text before the whole text is made.
+abbrev pub LoadsRun : List ℕ → List ℕ → Sought → CabinetState → CabinetState → Result LoadedRun Status → Type 0
+LoadsRun program_name trace_name sought old new (Ok loaded) =
+    HasLoadedRun program_name trace_name sought old new loaded
+LoadsRun program_name trace_name sought old new (Err status) =
     (begins : Bool) → (out : SinkState)
-    → HasAnswered (LacksRun old new program_name trace_name) begins old new (sinks out out notes notes_new) status
+    → GivesResult (LacksRun old new program_name trace_name) begins old new out out (Err status)
 
 -- What loading a run fetches: both files, or as many as the status of the refusal says.
 abbrev pub FetchesRun : Result LoadedRun Status → CabinetState → CabinetState → Type 0

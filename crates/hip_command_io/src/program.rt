@@ -1,3 +1,5 @@
+//! A program in a file.
+
 ghost use Rattle.hip_program_files.specs.LoadedPrograms.{Loads, ReadsProgram};
 ghost use Rattle.hip_program_files.specs.Outside.{CountsFetches};
 

@@ -1,3 +1,5 @@
+//! The trace of a run, in a file.
+
 ghost use Rattle.std.specs.Prelude.{◌≡◌, IsTrue};
 ghost use Rattle.hip_replay.specs.Replays.{Replays};
 ghost use Rattle.hip_trace.specs.Reads.{ReaderState};

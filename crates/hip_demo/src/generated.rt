@@ -17,11 +17,13 @@ pub(crate) fn load_generated(alloc: Global, seed: u64, size: u64) -> Result<Chec
     requires small { size ≤ LARGEST_SIZE }
     ensures { IfOk result (λ checked. checked ≡ generated_program seed size) }
 {
+    // Lemma: the text that is generated reads as a sound program.
     generated_programs_are_sound();
     let text = generate(alloc, seed, size)?;
     match read_program(alloc, text.as_slice()) {
         Ok(checked) => Ok(checked),
         Err(Failure::NoMemory) => Err(NoMemory),
+        // The text reads as a sound program, and no file is read.
         Err(Failure::Refused(_)) => unreachable!(),
         Err(Failure::ReadFault) => unreachable!(),
     }

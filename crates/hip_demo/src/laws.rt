@@ -9,6 +9,7 @@ use hip_runs::findings_are_one;
 pub fn demos_are_one()
     ensures { DemosAreOne }
 {
+    // Lemmas: a run finds one thing, and has one trace.
     findings_are_one();
     each_run_has_one_trace();
 }

@@ -63,11 +63,13 @@ pub(crate) fn replay_text(
     requires { (I : Input) × IsTraceOf checked.now text I }
     ensures { IfOk result (λ replayed. HasReplayedText checked.now text replayed) }
 {
+    // Lemmas: a run has one trace, and a text one first misfit.
     each_run_has_one_trace();
     misfits_are_one();
     let mut cabinet = with_trace(alloc, text)?;
     match cabinet.fetch("trace") {
         Fetched::Ready => {}
+        // The cabinet has this file, and a cabinet in memory does not fail.
         Fetched::Missing => unreachable!(),
         Fetched::Failed => unreachable!(),
     }
@@ -75,6 +77,7 @@ pub(crate) fn replay_text(
     match replay(alloc, checked, Sought::Findings, &mut reader, &mut cabinet) {
         Ok(replayed) => Ok(replayed),
         Err(ReplayRefusal::NoMemory) => Err(NoMemory),
+        // The text is the trace of a run, and a cabinet in memory does not fail.
         Err(ReplayRefusal::Misfit { .. }) => unreachable!(),
         Err(ReplayRefusal::ReadFault) => unreachable!(),
     }

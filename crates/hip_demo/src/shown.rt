@@ -40,6 +40,7 @@ fn find(alloc: Global, checked: &Checked, input: &Input) -> Result<Replayed, NoM
     requires valid { IsValid checked.now input.now }
     ensures { IfOk result (λ replayed. HasFoundAgain checked.now input.now replayed) }
 {
+    // Lemmas: a run has one trace, which is read back, and the program is sound.
     each_run_has_one_trace();
     written_traces_are_read_back();
     let _program = checked.program();
@@ -53,6 +54,7 @@ fn mend(alloc: Global, checked: &Checked, replayed: Replayed) -> Result<Shown, N
     requires valid { IsValid checked.now replayed.input }
     ensures { IfOk result (λ shown. HasShown checked.now replayed.input shown) }
 {
+    // Lemmas: an input of the program is one of the repaired program, what a repair cures, and the program is sound.
     inputs_stay_valid();
     repairs_cure();
     let _program = checked.program();

@@ -1,3 +1,5 @@
+//! What a stream writes to.
+
 ghost use Rattle.std.specs.Prelude.{true, false, refl};
 
 use std::alloc::Allocator;

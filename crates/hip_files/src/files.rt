@@ -1,3 +1,5 @@
+//! A cabinet over files that are opened by their names.
+
 ghost use Rattle.std.specs.Prelude.{◌≡◌, ◌<◌, length, true, None, IsTrue, is_some};
 ghost use Rattle.hip_files.specs.Openers.{TookNext, opened_state, remaining_of};
 
@@ -79,6 +81,7 @@ fn take_next<F: Read>(file: &mut Option<F>, buf: &mut [u8]) -> Taken
 {
     match file {
         Some(file) => read_some(file, buf),
+        // The clause `current` says that there is a file.
         None => unreachable!(),
     }
 }

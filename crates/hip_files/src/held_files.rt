@@ -1,3 +1,5 @@
+//! Files in memory, opened by their names.
+
 ghost use Rattle.std.specs.Prelude.{◌≡◌, ◌<◌, length, IfSome, IsNone, MatchOption, None};
 ghost use Rattle.hip_io.specs.Cabinets.{file_of};
 ghost use Rattle.hip_files.specs.Openers.{IsFirstNamed};

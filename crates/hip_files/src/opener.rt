@@ -1,3 +1,5 @@
+//! What opens a file by its name.
+
 ghost use Rattle.std.specs.Prelude.{◌≡◌, List, [], false};
 
 use std::fs::File;

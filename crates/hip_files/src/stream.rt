@@ -1,3 +1,5 @@
+//! A sink over a device, which holds the last bytes back.
+
 ghost use Rattle.std.specs.Prelude.{◌≡◌, ◌≤◌, [], true, length, take};
 ghost use Rattle.std.specs.Io.KnownBytes.{Appends, Keeps, append_known};
 ghost use Rattle.hip_io.specs.Counts.{Rose};

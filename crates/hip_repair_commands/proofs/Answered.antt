@@ -1,18 +1,18 @@
--- What loading many traces gives, as answers of `many`.
+-- What loading many traces gives, as results of `many`.
 use Rattle.std.proofs.Common.{◌≡◌, ◌+◌, ◌-◌, ◌^◌, ℕ, min, false, List, length, Option, Ok, Err, inl, inr, refl, sym, ap, ◌∙◌, subst, arith}
-use Rattle.std.specs.Prelude.{IfSome}
+use Rattle.std.specs.Prelude.{IfSome, Result}
+use Rattle.std.specs.Result.{IsErrAnd}
 use Rattle.std.proofs.lemmas.List.{length-map}
 use Rattle.std.specs.List.{All}
-use Rattle.hip_answers.specs.Answers.{Answer, AnswersOnRun, Finishes, HasAnswered, PutsLine, Refused, Sinks, outcome_of}
+use Rattle.hip_answers.specs.Answers.{Answer, HasAnswered, PutsLine, Refused, Sinks, outcome_of, sinks}
 use Rattle.hip_answers.specs.Fetches.{FetchesFiles, fetches_by}
 use Rattle.hip_answers.specs.Laws as answers
+use Rattle.hip_answers.specs.Programs.{LacksProgram}
 use Rattle.hip_answers.specs.declared.status.Status.{Status}
 use Rattle.hip_answers.specs.declared.status.Status.TheVariants as statuses
 use Rattle.hip_io.specs.Cabinets.{CabinetState}
-use Rattle.hip_io.specs.Sinks.{AppendsAll, AppendsPrefix, SinkState, Writes}
+use Rattle.hip_io.specs.Sinks.{AppendsAll, AppendsPrefix, SinkState}
 use Rattle.hip_io.specs.declared.cabinet.NamedFile.{NamedFile}
-use Rattle.hip_io.specs.declared.sink.Put.{Put}
-use Rattle.hip_io.specs.declared.sink.Put.TheVariants as puts
 use Rattle.hip_grammar.specs.Show.{show}
 use Rattle.hip_tree.specs.declared.program.Program.{Program}
 use Rattle.hip_program_files.specs.Laws.{fetches_then, met_then}
@@ -23,7 +23,12 @@ use Rattle.hip_program_files.specs.declared.failure.Failure.TheVariants as failu
 use Rattle.hip_many.specs.declared.reason.Reason.{Reason}
 use Rattle.hip_repair_commands.specs.AskedRuns.{AsksAll, FetchesTraces, HasAskedAll, fetches_of, status_of_traces}
 use Rattle.hip_repair_commands.specs.Many.{HasRepairedMany, ManyAnswers, status_in}
-use Rattle.hip_repair_commands.specs.ManyLines.{many_notes}
+use Rattle.hip_command_io.specs.Notes.{many_notes}
+use Rattle.hip_command_io.specs.ResultLaws.{given_by, on_exit}
+use Rattle.hip_command_io.specs.Results.{GivesOnRun, GivesResult}
+use Rattle.hip_command_io.specs.StageLaws.{wrote_part, wrote_whole}
+use Rattle.hip_command_io.specs.declared.counts.Counts.{Counts}
+use Rattle.hip_command_io.specs.declared.counts.Counts.TheVariants as results
 use Rattle.hip_run_repairs.specs.RunRepairs.{IsRepairForAll}
 use Rattle.hip_repair_commands.specs.ManyRuns.{AreRunsOf, IsAfterRuns, TracedRun, plans_of, reports_of}
 use Rattle.hip_repair_commands.specs.declared.many_runs.AllAsked.{AllAsked}
@@ -46,6 +51,13 @@ then_made {old} {mid} {new} n once (inl none) = record { count = none.1 ∙ once
     capped a m e = omega (arith, e)
 then_made n once (inr more) = fetches_then 1 n once more
 
+-- ---- a program that is none
+
+pub unloaded_many : (old new : CabinetState) (p : List ℕ) (names : List (List ℕ)) (a : Answer) → LacksProgram old new p a
+    → ManyAnswers old new p names a
+unloaded_many old new p names a (inl u) = inl u
+unloaded_many old new p names a (inr u) = inr (inl u)
+
 -- ---- a trace that is none
 
 follows_alike : {files other : Option (List NamedFile)} {P : Program} {names : List (List ℕ)} {number : ℕ}
@@ -56,10 +68,10 @@ follows_alike {files} {other} {P} {names} {number} {name} same b =
 
 module _ {old mid new : CabinetState} {p : List ℕ} {names : List (List ℕ)} (P : Program) (met : HasMet false false old mid)
     (program : IsProgramOf old.files p P) (fetched : CountsFetches 1 old mid) where
-  pub untraced : (s : Sinks) (failure : Failure NumberedRefusal) → AsksAll P names mid new (Err failure)
-      → s.out_new ≡ s.out → PutsLine (status_of_traces failure) s.notes s.notes_new
+  lacks : (failure : Failure NumberedRefusal) → AsksAll P names mid new (Err failure) → (s : Sinks) → s.out_new ≡ s.out
+      → PutsLine (status_of_traces failure) s.notes s.notes_new
       → HasAnswered (ManyAnswers old new p names) false old new s (status_of_traces failure)
-  untraced s (failures.Refused refusal) h kept line =
+  lacks (failures.Refused refusal) h s kept line =
       answers.refused s (status_in refusal.number refusal.why) (is_refused refusal.why)
       (inr (inr (inl (record {
         program = P;
@@ -76,7 +88,7 @@ module _ {old mid new : CabinetState} {p : List ℕ} {names : List (List ℕ)} (
       is_refused : (why : TraceFileRefusal) → outcome_of (status_in refusal.number why) ≡ Refused
       is_refused traces.Missing = refl
       is_refused (traces.Misfit entry kind) = refl
-  untraced s failures.ReadFault h kept line =
+  lacks failures.ReadFault h s kept line =
       answers.refused s statuses.ReadFault refl (inr (inr (inr (inl (record {
         program = P;
         loaded = program;
@@ -88,14 +100,22 @@ module _ {old mid new : CabinetState} {p : List ℕ} {names : List (List ℕ)} (
         unread = subst (λ (fs : Option (List NamedFile)). FailsToRead fs h.name P new) met.files h.unread;
         is = refl;
       }))))) kept line
-  untraced s failures.NoMemory h kept line = answers.ran_out s (met_then met h) kept line
+  lacks failures.NoMemory h s kept line = answers.ran_out s (met_then met h) kept line
 
-  -- The answer of a command on the runs that were loaded.
-  pub answered : (s : Sinks) (status : Status) (asked : AllAsked) (h : HasAskedAll P names mid new asked)
-      → AnswersOnRun (HasRepairedMany P h.runs) false s status
-      → HasAnswered (ManyAnswers old new p names) false old new s status
-  answered s status asked h on_run =
-      answers.answered_by s status (λ a texts. inr (inr (inr (inr (record {
+  pub untraced : {out : SinkState} (failure : Failure NumberedRefusal) → AsksAll P names mid new (Err failure)
+      → GivesResult (ManyAnswers old new p names) false old new out out (Err (status_of_traces failure))
+  untraced {out} failure h = record {
+    answered = λ notes notes_new status w.
+        subst (λ (x : Status). HasAnswered (ManyAnswers old new p names) false old new (sinks out out notes notes_new) x)
+        (sym w.is) (lacks failure h (sinks out out notes notes_new) refl w.line);
+  }
+
+  -- The result of a command on the runs that were loaded.
+  pub answered : {out out_new : SinkState} (given : Result Counts Status) (asked : AllAsked)
+      (h : HasAskedAll P names mid new asked) → GivesOnRun (HasRepairedMany P h.runs) false out out_new given
+      → GivesResult (ManyAnswers old new p names) false old new out out_new given
+  answered given asked h on_run =
+      given_by given (λ a texts. inr (inr (inr (inr (record {
         program = P;
         loaded = program;
         runs = h.runs;
@@ -114,9 +134,9 @@ many_runs files P names runs are =
 
 module _ (P : Program) (runs : List TracedRun) (traces reports : ℕ) (made : ManyRepair)
     (many : traces ≡ length runs) (total : reports ≡ reports_of runs) (by : IsRepairForAll P (plans_of P runs) made)
-    (cured : All (λ r. IsCuredBy P r.input made.repair.plan (direct P)) runs) (s : Sinks) where
+    (cured : All (λ r. IsCuredBy P r.input made.repair.plan (direct P)) runs) where
   -- How many traces there are, what `repair` writes, and the reasons.
-  abbrev pub counts : List ℕ
+  abbrev counts : List ℕ
   counts = many_notes P traces reports made.repair.plan (length made.repair.repaired.clones) made.reasons
 
   -- The answer of `many`: the repaired program, and the notes.
@@ -139,16 +159,20 @@ module _ (P : Program) (runs : List TracedRun) (traces reports : ℕ) (made : Ma
     cured = cured;
   }
 
-  pub repaired : (tried : Put) (cut : SinkState) (result : Status)
-      → AppendsAll s.out s.out_new (show made.repair.repaired.checked) → Writes puts.Done tried s.notes cut counts
-      → Finishes tried statuses.Done cut s.notes_new result → AnswersOnRun (HasRepairedMany P runs) false s result
-  repaired tried cut result out notes f old new met =
-      answers.finished s answer tried cut result row refl out notes.how f
+  -- What the command answers beside the program.
+  abbrev made_counts : Counts
+  made_counts =
+      results.Many (record { checked = P; traces = traces; reports = reports; made = made })
 
-  pub repaired_part : AppendsPrefix s.out s.out_new (show made.repair.repaired.checked)
-      → PutsLine statuses.WriteFault s.notes s.notes_new
-      → AnswersOnRun (HasRepairedMany P runs) false s statuses.WriteFault
-  repaired_part out line old new met = answers.cut_out s answer row refl out line
+  pub repaired : {out out_new : SinkState} → AppendsAll out out_new (show made.repair.repaired.checked)
+      → GivesOnRun (HasRepairedMany P runs) false out out_new (Ok made_counts)
+  repaired whole = λ old new met. wrote_whole answer row made_counts refl refl refl whole
+
+  pub repaired_part : {out out_new : SinkState} (given : Result Counts Status) → AppendsPrefix out out_new (show made.repair.repaired.checked)
+      → IsErrAnd given (λ s. s ≡ statuses.WriteFault) → GivesOnRun (HasRepairedMany P runs) false out out_new given
+  repaired_part {out} {out_new} given part exit = λ old new met.
+      on_exit (λ (r : Result Counts Status). GivesResult (HasRepairedMany P runs) false old new out out_new r) given
+      statuses.WriteFault exit (wrote_part answer row refl part)
 
 -- ---- fetches
 

@@ -1,12 +1,11 @@
--- What was written of the reports, as an answer of `check`.
-use Rattle.std.proofs.Common.{◌≡◌, false, length, refl, sym, ap, ◌∙◌}
-use Rattle.hip_answers.specs.Answers.{Answer, AnswersOnRun, Finishes, PutsLine, Sinks}
-use Rattle.hip_answers.specs.Laws.{cut_out, finished}
-use Rattle.hip_answers.specs.declared.status.Status.{Status}
+-- What was written of the reports, as a result of `check`.
+use Rattle.std.proofs.Common.{◌≡◌, false, length, Err, Ok, refl, sym, ap, ◌∙◌}
+use Rattle.hip_answers.specs.Answers.{Answer}
 use Rattle.hip_answers.specs.declared.status.Status.TheVariants as statuses
-use Rattle.hip_io.specs.Sinks.{AppendsAll, AppendsPrefix, SinkState, Writes}
-use Rattle.hip_io.specs.declared.sink.Put.{Put}
-use Rattle.hip_io.specs.declared.sink.Put.TheVariants as puts
+use Rattle.hip_command_io.specs.Results.{GivesOnRun}
+use Rattle.hip_command_io.specs.StageLaws.{wrote_part, wrote_whole}
+use Rattle.hip_command_io.specs.declared.counts.Counts.TheVariants as counts
+use Rattle.hip_io.specs.Sinks.{AppendsAll, AppendsPrefix, SinkState}
 use Rattle.hip_tree.specs.declared.program.Program.{Program}
 use Rattle.hip_repair_answers.specs.Answers.{HasChecked}
 use Rattle.hip_report_lines.specs.Counts.{check_counts}
@@ -23,9 +22,9 @@ reported_alike P I f found same a h = record {
   notes_is = h.notes_is ∙ ap (λ rs. check_counts (length rs)) (sym same);
 }
 
-module _ (P : Program) (I : Input) (found : Findings) (s : Sinks) where
+module _ (P : Program) (I : Input) (found : Findings) where
   -- The answer of `check`: the reports, and on notes how many they are.
-  abbrev pub answer : Answer
+  abbrev answer : Answer
   answer =
       record {
         status = statuses.Done;
@@ -36,13 +35,10 @@ module _ (P : Program) (I : Input) (found : Findings) (s : Sinks) where
   row : HasChecked P I found answer
   row = record { status_is = refl; out_is = refl; notes_is = refl }
 
-  pub reported : (tried : Put) (cut : SinkState) (result : Status)
-      → AppendsAll s.out s.out_new (report_lines P found.reports)
-      → Writes puts.Done tried s.notes cut (check_counts (length found.reports))
-      → Finishes tried statuses.Done cut s.notes_new result → AnswersOnRun (HasChecked P I found) false s result
-  reported tried cut result out notes f old new met = finished s answer tried cut result row refl out notes.how f
+  pub reported : {out out_new : SinkState} → AppendsAll out out_new (report_lines P found.reports)
+      → GivesOnRun (HasChecked P I found) false out out_new (Ok (counts.Reports (length found.reports)))
+  reported whole = λ old new met. wrote_whole answer row (counts.Reports (length found.reports)) refl refl refl whole
 
-  pub reported_part : AppendsPrefix s.out s.out_new (report_lines P found.reports)
-      → PutsLine statuses.WriteFault s.notes s.notes_new
-      → AnswersOnRun (HasChecked P I found) false s statuses.WriteFault
-  reported_part out line old new met = cut_out s answer row refl out line
+  pub reported_part : {out out_new : SinkState} → AppendsPrefix out out_new (report_lines P found.reports)
+      → GivesOnRun (HasChecked P I found) false out out_new (Err statuses.WriteFault)
+  reported_part part = λ old new met. wrote_part answer row refl part

@@ -2,7 +2,6 @@ pub mod Answered
 pub mod Cures
 pub mod Faults
 pub mod Loads
-pub mod Longer
 pub mod OneMany
 pub mod SomeMany
 pub mod Checks

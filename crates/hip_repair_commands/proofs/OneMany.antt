@@ -21,7 +21,7 @@ use Rattle.hip_repair_commands.specs.ManyLaws.{ManyAreOne}
 use Rattle.hip_repair_commands.specs.Many.{HasRepairedMany, ManyAnswers, status_in}
 use Rattle.hip_repairs.specs.Direct.{direct}
 use Rattle.hip_repairs.specs.Repaired.{repaired}
-use Rattle.hip_repair_commands.specs.ManyLines.{many_notes}
+use Rattle.hip_command_io.specs.Notes.{many_notes}
 use Rattle.hip_repair_commands.specs.ManyRunLaws.{heads, one_runs, tails}
 use Rattle.hip_repair_commands.specs.ManyRuns.{AreRunsOf, IsAfterRuns, IsRunOf, TracedRun, plans_of, reports_of}
 use Rattle.hip_repair_answers.specs.Laws.Repairs.{answer_is}

@@ -1,12 +1,16 @@
--- What was written of a repaired program, as an answer of `repair`.
-use Rattle.std.proofs.Common.{ℕ, false, List, length, refl, ap, ◌∙◌}
-use Rattle.hip_answers.specs.Answers.{Answer, AnswersOnRun, Finishes, PutsLine, Sinks}
-use Rattle.hip_answers.specs.Laws.{cut_out, finished}
+-- What was written of a repaired program, as a result of `repair`.
+use Rattle.std.proofs.Common.{◌≡◌, ℕ, false, List, length, Ok, refl, ap, ◌∙◌}
+use Rattle.std.specs.Prelude.{Result}
+use Rattle.std.specs.Result.{IsErrAnd}
+use Rattle.hip_answers.specs.Answers.{Answer}
 use Rattle.hip_answers.specs.declared.status.Status.{Status}
 use Rattle.hip_answers.specs.declared.status.Status.TheVariants as statuses
-use Rattle.hip_io.specs.Sinks.{AppendsAll, AppendsPrefix, SinkState, Writes}
-use Rattle.hip_io.specs.declared.sink.Put.{Put}
-use Rattle.hip_io.specs.declared.sink.Put.TheVariants as puts
+use Rattle.hip_command_io.specs.ResultLaws.{on_exit}
+use Rattle.hip_command_io.specs.Results.{GivesOnRun, GivesResult}
+use Rattle.hip_command_io.specs.StageLaws.{wrote_part, wrote_whole}
+use Rattle.hip_command_io.specs.declared.counts.Counts.{Counts}
+use Rattle.hip_command_io.specs.declared.counts.Counts.TheVariants as results
+use Rattle.hip_io.specs.Sinks.{AppendsAll, AppendsPrefix, SinkState}
 use Rattle.hip_grammar.specs.Show.{show}
 use Rattle.hip_tree.specs.declared.program.Program.{Program}
 use Rattle.hip_repair_answers.specs.Answers.{HasRepaired}
@@ -22,13 +26,13 @@ use Rattle.hip_runs.specs.declared.input.Input.{Input}
 use Rattle.hip_runs.specs.declared.report.Findings.{Findings}
 
 module _ (P : Program) (I : Input) (found : Findings) (repair : Repair) (is : IsRepairFor P found repair)
-    (cured : IsCured P I found) (s : Sinks) where
+    (cured : IsCured P I found) where
   -- How many reports, flushes, fences, hoisted calls and clones there are.
-  abbrev pub counts : List ℕ
+  abbrev counts : List ℕ
   counts = repair_counts (length found.reports) repair.plan (length repair.repaired.clones)
 
   -- The answer of `repair`: the repaired program, and the counts on notes.
-  abbrev pub answer : Answer
+  abbrev answer : Answer
   answer = record { status = statuses.Done; out = show repair.repaired.checked; notes = counts }
 
   row : HasRepaired P I found answer
@@ -42,12 +46,14 @@ module _ (P : Program) (I : Input) (found : Findings) (repair : Repair) (is : Is
     cured = cured;
   }
 
-  pub repaired : (tried : Put) (cut : SinkState) (result : Status)
-      → AppendsAll s.out s.out_new (show repair.repaired.checked) → Writes puts.Done tried s.notes cut counts
-      → Finishes tried statuses.Done cut s.notes_new result → AnswersOnRun (HasRepaired P I found) false s result
-  repaired tried cut result out notes f old new met = finished s answer tried cut result row refl out notes.how f
+  pub repaired : {out out_new : SinkState} → AppendsAll out out_new (show repair.repaired.checked)
+      → GivesOnRun (HasRepaired P I found) false out out_new
+      (Ok (results.Repair (length found.reports) repair.plan (length repair.repaired.clones)))
+  repaired whole = λ old new met. wrote_whole answer row (results.Repair (length found.reports) repair.plan
+      (length repair.repaired.clones)) refl refl refl whole
 
-  pub repaired_part : AppendsPrefix s.out s.out_new (show repair.repaired.checked)
-      → PutsLine statuses.WriteFault s.notes s.notes_new
-      → AnswersOnRun (HasRepaired P I found) false s statuses.WriteFault
-  repaired_part out line old new met = cut_out s answer row refl out line
+  pub repaired_part : {out out_new : SinkState} (given : Result Counts Status) → AppendsPrefix out out_new (show repair.repaired.checked)
+      → IsErrAnd given (λ s. s ≡ statuses.WriteFault) → GivesOnRun (HasRepaired P I found) false out out_new given
+  repaired_part {out} {out_new} given part exit = λ old new met.
+      on_exit (λ (r : Result Counts Status). GivesResult (HasRepaired P I found) false old new out out_new r) given
+      statuses.WriteFault exit (wrote_part answer row refl part)

@@ -14,7 +14,7 @@ use Rattle.hip_many.specs.Union.{HasAll, IsUnion}
 use Rattle.hip_repair_commands.proofs.Cures.{PlansCure, cures}
 use Rattle.hip_repair_commands.specs.ManyLaws.{ManyAreAnswered}
 use Rattle.hip_repairs.specs.Repaired.{repaired}
-use Rattle.hip_repair_commands.specs.ManyLines.{many_notes}
+use Rattle.hip_command_io.specs.Notes.{many_notes}
 use Rattle.hip_repair_commands.specs.ManyRuns.{AreRunsOf, TracedRun, plans_of, reports_of}
 use Rattle.hip_repairs.specs.Choice.{Contains, plan_for, wants_fence, wants_flush, wants_hoist}
 use Rattle.hip_repairs.specs.CloneNumbers.{clone_numbers}

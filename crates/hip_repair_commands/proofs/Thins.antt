@@ -1,12 +1,17 @@
--- What was written of a repaired program, as an answer of `thin`.
-use Rattle.std.proofs.Common.{◌≡◌, ℕ, false, List, length, refl, sym, ap, ◌∙◌}
-use Rattle.hip_answers.specs.Answers.{Answer, AnswersOnRun, Finishes, PutsLine, Sinks}
-use Rattle.hip_answers.specs.Laws.{cut_out, finished}
+-- What was written of a repaired program, as a result of `thin`.
+use Rattle.std.proofs.Common.{◌≡◌, ℕ, false, List, length, Ok, refl, sym, ap, ◌∙◌}
+use Rattle.std.specs.Prelude.{Result}
+use Rattle.std.specs.Result.{IsErrAnd}
+use Rattle.hip_answers.specs.Answers.{Answer}
 use Rattle.hip_answers.specs.declared.status.Status.{Status}
 use Rattle.hip_answers.specs.declared.status.Status.TheVariants as statuses
-use Rattle.hip_io.specs.Sinks.{AppendsAll, AppendsPrefix, SinkState, Writes}
-use Rattle.hip_io.specs.declared.sink.Put.{Put}
-use Rattle.hip_io.specs.declared.sink.Put.TheVariants as puts
+use Rattle.hip_command_io.specs.Notes.{thin_counts}
+use Rattle.hip_command_io.specs.ResultLaws.{on_exit}
+use Rattle.hip_command_io.specs.Results.{GivesOnRun, GivesResult}
+use Rattle.hip_command_io.specs.StageLaws.{wrote_part, wrote_whole}
+use Rattle.hip_command_io.specs.declared.counts.Counts.{Counts}
+use Rattle.hip_command_io.specs.declared.counts.Counts.TheVariants as results
+use Rattle.hip_io.specs.Sinks.{AppendsAll, AppendsPrefix, SinkState}
 use Rattle.hip_grammar.specs.Show.{show}
 use Rattle.hip_tree.specs.declared.program.Program.{Program}
 use Rattle.hip_repair_answers.specs.Laws.Repairs.{Makes}
@@ -19,7 +24,7 @@ use Rattle.hip_runs.specs.Validity.{IsValid}
 use Rattle.hip_runs.specs.declared.input.Input.{Input}
 use Rattle.hip_runs.specs.declared.report.Findings.{Findings}
 use Rattle.hip_run_repairs.specs.Spared.{spared_count}
-use Rattle.hip_repair_commands.specs.Thin.{HasThinned, IsThinned, thin_counts, thinned_for}
+use Rattle.hip_repair_commands.specs.Thin.{HasThinned, IsThinned, thinned_for}
 use Rattle.hip_run_repairs.specs.RunRepairs.{IsThinnedFor}
 use Rattle.hip_run_repairs.specs.declared.thin_run.Thinned.{Thinned}
 use Rattle.hip_sound.specs.Sound.{IsSound}
@@ -29,7 +34,7 @@ pub itself : (plan : Plan) → Contains plan plan
 itself plan = record { flush_after = λ s h. h; fence_after = λ s h. h; hoist = λ s h. h }
 
 module _ (P : Program) (I : Input) (found : Findings) (thinned : Thinned) (is : IsThinnedFor P found thinned)
-    (cured : IsThinned P I found) (s : Sinks) where
+    (cured : IsThinned P I found) where
   -- How many reports, flushes, fences, hoisted calls, clones and spared stores there are.
   abbrev counts : List ℕ
   counts = thin_counts (length found.reports) thinned.repair.plan (length thinned.repair.repaired.clones) thinned.spared
@@ -51,15 +56,17 @@ module _ (P : Program) (I : Input) (found : Findings) (thinned : Thinned) (is : 
     cured = cured;
   }
 
-  pub written : (tried : Put) (cut : SinkState) (result : Status)
-      → AppendsAll s.out s.out_new (show thinned.repair.repaired.checked) → Writes puts.Done tried s.notes cut counts
-      → Finishes tried statuses.Done cut s.notes_new result → AnswersOnRun (HasThinned P I found) false s result
-  written tried cut result out notes f old new met = finished s answer tried cut result row refl out notes.how f
+  pub written : {out out_new : SinkState} → AppendsAll out out_new (show thinned.repair.repaired.checked)
+      → GivesOnRun (HasThinned P I found) false out out_new
+      (Ok (results.Thin (length found.reports) thinned.repair.plan (length thinned.repair.repaired.clones) thinned.spared))
+  written whole = λ old new met. wrote_whole answer row (results.Thin (length found.reports) thinned.repair.plan
+      (length thinned.repair.repaired.clones) thinned.spared) refl refl refl whole
 
-  pub written_part : AppendsPrefix s.out s.out_new (show thinned.repair.repaired.checked)
-      → PutsLine statuses.WriteFault s.notes s.notes_new
-      → AnswersOnRun (HasThinned P I found) false s statuses.WriteFault
-  written_part out line old new met = cut_out s answer row refl out line
+  pub written_part : {out out_new : SinkState} (given : Result Counts Status) → AppendsPrefix out out_new (show thinned.repair.repaired.checked)
+      → IsErrAnd given (λ s. s ≡ statuses.WriteFault) → GivesOnRun (HasThinned P I found) false out out_new given
+  written_part {out} {out_new} given part exit = λ old new met.
+      on_exit (λ (r : Result Counts Status). GivesResult (HasThinned P I found) false old new out out_new r) given
+      statuses.WriteFault exit (wrote_part answer row refl part)
 
 -- ---- the laws of the answers
 

@@ -1,7 +1,6 @@
 pub mod AskedRuns
 pub mod ManyLaws
 pub mod Many
-pub mod ManyLines
 pub mod ManyRunLaws
 pub mod ManyRuns
 pub mod Thin

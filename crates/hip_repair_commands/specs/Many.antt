@@ -13,7 +13,7 @@ use Rattle.hip_program_files.specs.LoadedPrograms.{IsProgramOf}
 use Rattle.hip_program_files.specs.Outside.{CountsFetches, HasMet}
 use Rattle.hip_many.specs.Reasons.{reasons}
 use Rattle.hip_many.specs.Union.{IsUnion}
-use Rattle.hip_repair_commands.specs.ManyLines.{many_notes}
+use Rattle.hip_command_io.specs.Notes.{many_notes}
 use Rattle.hip_repair_commands.specs.ManyRuns.{AreRunsOf, IsAfterRuns, TracedRun, plans_of, reports_of}
 use Rattle.hip_repair_answers.specs.Cured.{IsCuredBy}
 use Rattle.hip_answers.specs.TraceFiles.{FailsToRead, HasNoTrace, is_missing}

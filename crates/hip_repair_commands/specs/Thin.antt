@@ -1,5 +1,5 @@
 -- The answers of `thin`.
-use Rattle.std.specs.Prelude.{ℕ, ◌≡◌, List, ◌++◌, length, codes}
+use Rattle.std.specs.Prelude.{ℕ, ◌≡◌, List, length}
 use Rattle.hip_answers.specs.Answers.{Answer}
 use Rattle.hip_answers.specs.declared.status.Status.TheVariants.{Done}
 use Rattle.hip_io.specs.Cabinets.{CabinetState}
@@ -10,8 +10,7 @@ use Rattle.hip_repair_answers.specs.Cured.{IsCuredBy}
 use Rattle.hip_repairs.specs.Choice.{plan_for}
 use Rattle.hip_repairs.specs.CloneNumbers.{clone_numbers}
 use Rattle.hip_repairs.specs.Repaired.{repaired}
-use Rattle.hip_repairs.specs.declared.plan.Plan.{Plan}
-use Rattle.hip_report_lines.specs.Counts.{count_line, repair_counts}
+use Rattle.hip_command_io.specs.Notes.{thin_counts}
 use Rattle.hip_runs.specs.declared.input.Input.{Input}
 use Rattle.hip_runs.specs.declared.report.Findings.{Findings}
 use Rattle.hip_run_repairs.specs.Spared.{spared_count}
@@ -24,10 +23,6 @@ thinned_for P found = repaired P (plan_for P found) (low_stores P)
 -- What that repair does, on the run's input.
 abbrev pub IsThinned : Program → Input → Findings → Type 0
 IsThinned P I found = IsCuredBy P I (plan_for P found) (low_stores P)
-
--- The counts of `thin`: those of `repair`, and how many stores are spared.
-abbrev pub thin_counts : ℕ → Plan → ℕ → ℕ → List ℕ
-thin_counts reports plan clones spared = repair_counts reports plan clones ++ count_line (codes "spared") spared
 
 -- Out has the canonical text of the repaired program, and notes how many reports, flushes, fences, hoisted calls,
 -- clones and spared stores there are. The repaired program does no harm, is clean on the trace's input and has its

@@ -4,7 +4,6 @@
 mod check;
 mod many;
 mod many_laws;
-mod many_lines;
 mod many_runs;
 mod numbered_refusal;
 mod repair;

@@ -10,6 +10,7 @@ use hip_repairs::direct_stores_stay_outside;
 pub fn many_are_one()
     ensures { ManyAreOne }
 {
+    // Lemma: plans have one union.
     unions_are_one();
 }
 
@@ -23,6 +24,7 @@ pub fn many_faults_hide_no_misfit()
 pub fn many_are_answered()
     ensures { ManyAreAnswered }
 {
+    // Lemmas: what a plan cures, and that the direct stores stay outside.
     plans_cure();
     direct_stores_stay_outside();
 }

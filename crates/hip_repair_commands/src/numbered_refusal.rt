@@ -1,3 +1,5 @@
+//! Why one of many traces is refused.
+
 ghost use Rattle.std.specs.Prelude.{◌≡◌};
 ghost use Rattle.hip_repair_commands.specs.AskedRuns.{numbered, status_of_traces};
 ghost use Rattle.hip_repair_commands.specs.Many.{status_in};

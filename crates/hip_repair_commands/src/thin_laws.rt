@@ -19,6 +19,7 @@ pub fn thins_cure()
         → IsFound P I found →
         IsThinned P I found }
 {
+    // Lemmas: what a plan cures, and that the low stores stay outside.
     plans_cure();
     low_stores_stay_outside();
 }
@@ -32,5 +33,6 @@ pub fn thins_are_one()
     ensures faults { FaultsHideNone HasThinned }
     ensures runs { AnswersRuns HasThinned }
 {
+    // Lemma: what the repair of `thin` cures.
     thins_cure();
 }

@@ -20,6 +20,7 @@ pub fn crash_faults_hide_no_misfit()
 pub fn crashes_are_answered()
     ensures { CrashesAreAnswered }
 {
+    // Lemma: picks that fit give an image.
     fitting_picks_give_images();
 }
 
@@ -29,5 +30,6 @@ pub fn crash_misses_nothing()
     ensures picks { PicksGiveEveryImage }
     ensures runs { CrashRunsEveryImage }
 {
+    // Lemma: what a crash may leave in a state, it may leave at an entry.
     crashes_come_at_entries();
 }

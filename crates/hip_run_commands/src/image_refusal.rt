@@ -1,3 +1,5 @@
+//! Why no crash image is picked.
+
 ghost use Rattle.std.specs.Prelude.{◌≡◌};
 ghost use Rattle.hip_run_commands.specs.ImagesAtEntries.{failure_of_picks, status_of_image};
 

@@ -1,3 +1,5 @@
+//! The crash image that picks give at an entry of a trace.
+
 ghost use Rattle.std.specs.Prelude.{◌≡◌};
 ghost use Rattle.hip_run_commands.specs.ImagesAtEntries.{HasEntries, TraceHasEntry, PicksImage, StateAtEntry};
 ghost use Rattle.hip_runs.specs.Validity.{IsValid};
@@ -29,18 +31,12 @@ pub(crate) fn image_at(
     if entry == 0 || entries < entry as u128 {
         return Err(Failure::Refused(ImageRefusal::NoEntry { entries }));
     }
-    let mut machine = match Machine::new(alloc, checked, input) {
-        Ok(machine) => machine,
-        Err(_) => return Err(Failure::NoMemory),
-    };
-    let mut log = match CrashLog::new(alloc, checked, input) {
-        Ok(log) => log,
-        Err(_) => return Err(Failure::NoMemory),
-    };
+    let mut machine = Machine::new(alloc, checked, input)?;
+    let mut log = CrashLog::new(alloc, checked, input)?;
     image_later(alloc, &mut log, &mut machine, entry, picks)
 }
 
-// The image that picks give at an entry, for a log and a machine before the first step.
+/// The image that picks give at an entry, for a log and a machine before the first step.
 fn image_later<'a>(
     alloc: Global,
     log: &mut CrashLog<'a>,
@@ -53,13 +49,11 @@ fn image_later<'a>(
     requires has { TraceHasEntry log.old.program log.old.input entry }
     ensures { PicksImage log.old.program log.old.input entry picks.now result }
 {
-    match advance_to(log, machine, entry as u128) {
-        Ok(()) => image_now(alloc, log, entry, picks),
-        Err(_) => Err(Failure::NoMemory),
-    }
+    advance_to(log, machine, entry as u128)?;
+    image_now(alloc, log, entry, picks)
 }
 
-// The image that picks give, for a log that has reached an entry.
+/// The image that picks give, for a log that has reached an entry.
 fn image_now(
     alloc: Global,
     log: &CrashLog<'_>,

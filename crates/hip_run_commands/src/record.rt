@@ -1,48 +1,52 @@
 //! `record`: the trace of a program's run.
 
-ghost use Rattle.hip_answers.specs.Answers.{HasAnswered, IsDelivered, sinks};
+ghost use Rattle.hip_answers.specs.Answers.{IsDelivered};
 ghost use Rattle.hip_answers.specs.Fetches.{FetchesFiles};
+ghost use Rattle.hip_command_io.specs.Results.{GivesResult, status_of};
 ghost use Rattle.hip_run_commands.specs.Record.{RecordAnswers};
 ghost use Rattle.hip_globals.specs.Addresses.{IsBase};
 ghost use Rattle.std.specs.Prelude.{◌≡◌, ◌≤◌, true, length};
 
-use hip_answers::{Status, refuse, status_of_failure};
-use hip_command_io::{load_program, put_trace};
+use hip_answers::Status;
+use hip_command_io::{Counts, load_program, put_trace};
 use hip_io::{Cabinet, Sink};
 use hip_runs::{MOST_NUMBERS, MOST_TURNS, first_input};
-use hip_types::{NoMemory, Row};
+use hip_types::Row;
 use std::alloc::Global;
 
-/// Runs the program of a file, with its region at a base, and writes the trace of the run as it runs, a line for each
-/// entry; then it writes to notes how the run has ended.
+/// Where a run begins: the base of its region, the most turns that it takes, and the numbers that it reads.
+#[derive(Drop)]
+pub struct RunStart {
+    pub base: u64,
+    pub limit: u64,
+    pub numbers: Row<i64>,
+}
+
+/// Runs the program of a file, writes the trace of the run as it runs, a line for each entry, and answers how the run
+/// has ended.
 #[inline(never)]
-pub fn record_file<C: Cabinet, S: Sink, N: Sink>(
+pub fn record_file<C: Cabinet, S: Sink>(
     alloc: Global,
     program: &str,
-    base: u64,
-    limit: u64,
-    numbers: Row<i64>,
+    start: RunStart,
     cabinet: &mut C,
     out: &mut S,
-    notes: &mut N,
-) -> Status
-    requires base { IsBase base }
-    requires limit { limit ≤ MOST_TURNS }
-    requires numbers { length numbers ≤ MOST_NUMBERS }
-    ensures answered { HasAnswered
-        (RecordAnswers (C.state cabinet.old) (C.state cabinet.new) program.now base limit numbers)
-        true (C.state cabinet.old) (C.state cabinet.new)
-        (sinks (S.state out.old) (S.state out.new) (N.state notes.old) (N.state notes.new)) result }
-    ensures fetches { FetchesFiles 1 result (C.state cabinet.old) (C.state cabinet.new) }
-    ensures delivered { S.held out.old ≡ 0 → IsDelivered result (S.held out.new) }
+) -> Result<Counts, Status>
+    requires base { IsBase start.base }
+    requires limit { start.limit ≤ MOST_TURNS }
+    requires numbers { length start.numbers ≤ MOST_NUMBERS }
+    ensures gives { GivesResult
+        (RecordAnswers (C.state cabinet.old) (C.state cabinet.new) program.now start.base start.limit start.numbers)
+        true (C.state cabinet.old) (C.state cabinet.new) (S.state out.old) (S.state out.new) result }
+    ensures fetches { FetchesFiles 1 (status_of result) (C.state cabinet.old) (C.state cabinet.new) }
+    ensures delivered { S.held out.old ≡ 0 → IsDelivered (status_of result) (S.held out.new) }
 {
-    let checked = match load_program(alloc, cabinet, program) {
-        Ok(checked) => checked,
-        Err(failure) => return refuse(notes, status_of_failure(failure)),
-    };
-    let input = match first_input(alloc, &checked, base, limit, numbers) {
-        Ok(input) => input,
-        Err(NoMemory) => return refuse(notes, Status::NoMemory),
-    };
-    put_trace(alloc, &checked, &input, out, notes)
+    let RunStart {
+        base,
+        limit,
+        numbers,
+    } = start;
+    let checked = load_program(alloc, cabinet, program)?;
+    let input = first_input(alloc, &checked, base, limit, numbers)?;
+    put_trace(alloc, &checked, &input, out)
 }

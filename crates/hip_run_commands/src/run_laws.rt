@@ -8,6 +8,7 @@ use hip_program_files::files_give_one_answer;
 pub fn runs_are_one()
     ensures { RunsAreOne }
 {
+    // Lemma: a file gives one program, or one refusal.
     files_give_one_answer();
 }
 
@@ -15,5 +16,6 @@ pub fn runs_are_one()
 pub fn records_are_one()
     ensures { RecordsAreOne }
 {
+    // Lemma: a file gives one program, or one refusal.
     files_give_one_answer();
 }

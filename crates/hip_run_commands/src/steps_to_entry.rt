@@ -1,3 +1,5 @@
+//! The steps of a run up to an entry of its trace.
+
 ghost use Rattle.std.specs.Prelude.{◌≡◌, OnOk};
 ghost use Rattle.hip_run_commands.specs.StepsToEntry.{ReachesEntry};
 ghost use Rattle.hip_run_commands.specs.ImagesAtEntries.{TraceHasEntry};

@@ -1,6 +1,7 @@
 mod SentOut
 mod OneAnswer
 mod WhatIsAnswered
+mod Misused
 mod Named
 mod OnFiles
 mod Later

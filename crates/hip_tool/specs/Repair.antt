@@ -11,7 +11,7 @@ use Rattle.hip_histories.specs.SameSteps.{TakesSameSteps}
 use Rattle.hip_vol.specs.LowStores.{low_stores}
 use Rattle.hip_many.specs.Reasons.{reasons}
 use Rattle.hip_many.specs.Union.{IsUnion}
-use Rattle.hip_repair_commands.specs.ManyLines.{many_notes}
+use Rattle.hip_command_io.specs.Notes.{many_notes, thin_counts}
 use Rattle.hip_repair_commands.specs.ManyRuns.{TracedRun, plans_of, reports_of}
 use Rattle.hip_repair_laws.specs.Local.{IsLocal, IsPlanned, IsReportedSite}
 use Rattle.hip_survival.specs.Kept.{ChecksSurvive, CoveredSurvive, IsStoredSince}
@@ -32,7 +32,6 @@ use Rattle.hip_runs.specs.Validity.{IsValid}
 use Rattle.hip_runs.specs.declared.input.Input.{Input}
 use Rattle.hip_runs.specs.declared.report.Findings.{Findings}
 use Rattle.hip_survival.specs.Survival.{Survives}
-use Rattle.hip_repair_commands.specs.Thin.{thin_counts}
 use Rattle.hip_tree.specs.declared.program.Program.{Program}
 use Rattle.hip_tree.specs.declared.site.Site.{Site}
 

@@ -33,6 +33,7 @@ use hip_words::files_are_plain;
 pub fn headline()
     ensures { Headline }
 {
+    // Lemmas: what each order answers, and that plain words are an order.
     orders_are_answered();
     files_are_plain();
 }
@@ -44,6 +45,7 @@ pub fn headline()
 pub fn orders_are_answered()
     ensures { OrdersAreAnswered }
 {
+    // Lemmas: what each command answers, and what holds of the program that a repair writes.
     many_are_one();
     many_are_answered();
     repairs_are_local();
@@ -69,5 +71,6 @@ pub fn orders_are_answered()
 pub fn crashes_are_exhaustive()
     ensures { CrashesAreExhaustive }
 {
+    // Lemma: each content that a crash may leave is that of some picks.
     crash_misses_nothing();
 }

@@ -14,6 +14,7 @@ use hip_run_traces::each_run_has_one_trace;
 pub fn answers_are_one()
     ensures { AnswersAreOne }
 {
+    // Lemmas: the answers of each command are one.
     runs_are_one();
     records_are_one();
     repairs_are_one();
@@ -29,6 +30,7 @@ pub fn answers_are_one()
 pub fn commands_agree()
     ensures { CommandsAgree }
 {
+    // Lemmas: plans have one union, and a run has one trace.
     unions_are_one();
     each_run_has_one_trace();
 }

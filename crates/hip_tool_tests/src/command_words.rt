@@ -1,3 +1,5 @@
+//! Words of the command line, and the orders that they give.
+
 use hip_words::{Order, WordsRefusal, read_words};
 use std::alloc::{AllocError, Global};
 use std::test::Fail;

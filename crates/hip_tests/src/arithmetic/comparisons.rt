@@ -1,3 +1,5 @@
+//! Comparisons of integers of each width.
+
 use hip_types::Pred::{Eq, Ne, Sge, Sgt, Sle, Slt, Uge, Ugt, Ule, Ult};
 use hip_types::Width::{W1, W8, W16, W32, W64};
 use hip_types::{Pred, Width};

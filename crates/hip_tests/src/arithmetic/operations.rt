@@ -1,3 +1,5 @@
+//! Operations on integers of each width.
+
 use hip_num::NumTrap::{self, DivOverflow, DivZero, ShiftRange};
 use hip_types::BinaryOp::{Add, And, Ashr, Lshr, Mul, Or, Sdiv, Shl, Srem, Sub, Udiv, Urem, Xor};
 use hip_types::Width::{W1, W8, W16, W32, W64};

@@ -1,20 +1,18 @@
 use Rattle.std.proofs.Common.{refl}
-use Rattle.hip_answers.specs.Answers.{sinks}
+use Rattle.hip_command_io.specs.StageLaws.{no_memory}
 use Rattle.hip_demo.proofs.Demonstrating.{shown_whole, was_cut}
 use Rattle.hip_demo.proofs.command.demo.Goals as goal
 
-pub returns-in-Done-clause-answered : goal.returns-in-Done-clause-answered
-returns-in-Done-clause-answered g c = λ files.
-    let notes = g.N.Sink.state c.args.notes.now in
-    let s = sinks (g.S.Sink.state c.args.out.now) (g.S.Sink.state c.put_shown.new.out) notes notes in
-    shown_whole c.args.seed c.args.size
-    (c.generated_programs_are_sound.ensures c.args.seed c.args.size c.requires.small) s files c.in-Ok.shown
-    c.in-Ok.ensures (record { how = c.in-Done.ensures.how }) refl
+pub returns-in_err-shown-clause-gives : goal.returns-in_err-shown-clause-gives
+returns-in_err-shown-clause-gives g c = λ files.
+    no_memory c.from_residual.result (record { files = refl; misses = refl; faults = refl }) c.from_residual.ensures.1
 
-pub returns-in-Ok-clause-answered : goal.returns-in-Ok-clause-answered
-returns-in-Ok-clause-answered g c = λ files.
-    let s = sinks (g.S.Sink.state c.args.out.now) (g.S.Sink.state c.put_shown.new.out)
-    (g.N.Sink.state c.args.notes.now) (g.N.Sink.state c.refuse.new.notes) in
-    rw c.refuse.ensures.status (was_cut c.args.seed c.args.size
-    (c.generated_programs_are_sound.ensures c.args.seed c.args.size c.requires.small) s files c.in-Ok.shown
-    c.in-Ok.ensures (record { how = c.in-Failed.ensures.how }) c.refuse.ensures.line)
+pub returns-in-Done-clause-gives : goal.returns-in-Done-clause-gives
+returns-in-Done-clause-gives g c = λ files.
+    shown_whole c.args.seed c.args.size (c.generated_programs_are_sound.ensures c.args.seed c.args.size c.requires.small)
+    files c.in_ok-shown.shown c.in_ok-shown.ensures c.in-Done.ensures.how
+
+pub returns-clause-gives : goal.returns-clause-gives
+returns-clause-gives g c = λ files.
+    was_cut c.args.seed c.args.size (c.generated_programs_are_sound.ensures c.args.seed c.args.size c.requires.small)
+    files c.in_ok-shown.shown c.in_ok-shown.ensures c.in-Failed.ensures.how

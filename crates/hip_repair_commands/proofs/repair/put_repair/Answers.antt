@@ -1,25 +1,20 @@
-use Rattle.hip_answers.specs.Answers.{sinks}
 use Rattle.hip_repair_commands.proofs.Repairs.{repaired, repaired_part}
 use Rattle.hip_repair_commands.proofs.repair.put_repair.Goals as goal
 
-pub returns-in-Ok-clause-answered : goal.returns-in-Ok-clause-answered
-returns-in-Ok-clause-answered g c =
+pub returns-in_err-write-clause-gives : goal.returns-in_err-write-clause-gives
+returns-in_err-write-clause-gives g c =
     let P = c.args.checked.now in
     let I = c.args.replayed.now.input in
     let found = c.args.replayed.now.findings in
-    let s = sinks (g.S.Sink.state c.args.out.now) (g.S.Sink.state c.write.new.out) (g.N.Sink.state c.args.notes.now) (g.N.Sink.state c.finish.new.notes) in
-    repaired P I found c.args.repair.now c.requires.repair
-    (c.repairs_cure.ensures P I found c.program-program.ensures.sound c.requires.valid c.requires.found) s
-    c.put_repair_counts-tried.result (g.N.Sink.state c.put_repair_counts-tried.new.notes) c.finish.result
-    (rw c.program.ensures.is at c.in-Ok.ensures.wrote)
-    (rw (c.len-reports.ensures, c.reports.ensures, c.len-clones.ensures) at c.put_repair_counts-tried.ensures) c.finish.ensures
+    repaired_part P I found c.args.repair c.requires.repair
+    (c.repairs_cure.ensures P I found c.program-program.ensures.sound c.requires.valid c.requires.found) c.from_residual.result
+    (rw c.program.ensures.is at c.in_err-write.ensures.wrote) c.from_residual.ensures.1
 
-pub returns-in-Err-clause-answered : goal.returns-in-Err-clause-answered
-returns-in-Err-clause-answered g c =
+pub returns-clause-gives : goal.returns-clause-gives
+returns-clause-gives g c =
     let P = c.args.checked.now in
     let I = c.args.replayed.now.input in
     let found = c.args.replayed.now.findings in
-    let s = sinks (g.S.Sink.state c.args.out.now) (g.S.Sink.state c.write.new.out) (g.N.Sink.state c.args.notes.now) (g.N.Sink.state c.refuse.new.notes) in
-    rw c.refuse.ensures.status (repaired_part P I found c.args.repair.now c.requires.repair
-    (c.repairs_cure.ensures P I found c.program-program.ensures.sound c.requires.valid c.requires.found) s
-    (rw c.program.ensures.is at c.in-Err.ensures.wrote) c.refuse.ensures.line)
+    rw (c.len.ensures, c.reports.ensures, c.len-2.ensures) (repaired P I found c.args.repair c.requires.repair
+    (c.repairs_cure.ensures P I found c.program-program.ensures.sound c.requires.valid c.requires.found)
+    (rw c.program.ensures.is at c.in_ok-write.ensures.wrote))

@@ -1,28 +1,34 @@
-use Rattle.std.proofs.Common.{inr, ap, ◌∙◌, arith}
-use Rattle.hip_answers.specs.Answers.{sinks}
-use Rattle.hip_answers.specs.FetchLaws.{ending_has_all, has_all, lacks_program, with_all}
+use Rattle.std.proofs.Common.{inl, inr, ap, ◌∙◌, arith}
+use Rattle.hip_answers.specs.FetchLaws.{ending_has_all}
 use Rattle.hip_answers.specs.Fetches.{fetches_by}
-use Rattle.hip_answers.specs.declared.status.Status.TheVariants.{NoMemory}
+use Rattle.hip_command_io.specs.ResultLaws.{given_with_all}
+use Rattle.hip_command_io.specs.StageLaws.{no_memory, no_memory_fetched, no_program, no_program_fetched}
 use Rattle.hip_run_commands.proofs.Records.{of_record}
 use Rattle.hip_run_commands.proofs.record.record_file.Goals as goal
 
-pub returns-clause-answered : goal.returns-clause-answered
-returns-clause-answered g c =
-    let s = sinks (g.S.Sink.state c.args.out.now) (g.S.Sink.state c.put_trace.new.out) (g.N.Sink.state c.args.notes.now) (g.N.Sink.state c.put_trace.new.notes) in
-    of_record c.in-Ok.checked c.in-Ok-first_input.input s c.put_trace.result c.in-Ok.ensures.loads.0 c.in-Ok.ensures.loads.1 c.in-Ok-first_input.ensures.is
-    c.put_trace.ensures.answered
+pub returns-in_err-checked-clause-gives : goal.returns-in_err-checked-clause-gives
+returns-in_err-checked-clause-gives g c =
+    no_program c.args.program.now _ c.from_residual.result (λ a u. inl u) c.in_err-checked.ensures.loads c.from_residual.ensures.1
 
-pub returns-in-Err-clause-fetches : goal.returns-in-Err-clause-fetches
-returns-in-Err-clause-fetches g c =
-    rw (c.refuse.ensures.status, c.status_of_failure.ensures) (lacks_program 1 (omega arith) c.in-Err.failure c.in-Err.ensures.fetches)
+pub returns-in_err-input-clause-gives : goal.returns-in_err-input-clause-gives
+returns-in_err-input-clause-gives g c =
+    no_memory c.from_residual-in_err-input.result c.in_ok-checked.ensures.loads.0 c.from_residual-in_err-input.ensures.1
 
-pub returns-in-Err-first_input-clause-fetches : goal.returns-in-Err-first_input-clause-fetches
-returns-in-Err-first_input-clause-fetches g c =
-    rw c.refuse-in-Err-first_input.ensures.status (with_all 1 NoMemory (inr c.in-Ok.ensures.fetches) (tt {0}))
+pub returns-clause-gives : goal.returns-clause-gives
+returns-clause-gives g c =
+    of_record c.in_ok-checked.checked c.in_ok-input.input c.put_trace.result c.in_ok-checked.ensures.loads.0
+    c.in_ok-checked.ensures.loads.1 c.in_ok-input.ensures.is c.put_trace.ensures.gives
+
+pub returns-in_err-checked-clause-fetches : goal.returns-in_err-checked-clause-fetches
+returns-in_err-checked-clause-fetches g c =
+    no_program_fetched 1 (omega arith) _ c.from_residual.result c.in_err-checked.ensures.fetches c.from_residual.ensures.1
+
+pub returns-in_err-input-clause-fetches : goal.returns-in_err-input-clause-fetches
+returns-in_err-input-clause-fetches g c =
+    no_memory_fetched 1 c.from_residual-in_err-input.result (inr c.in_ok-checked.ensures.fetches) c.from_residual-in_err-input.ensures.1
 
 pub returns-clause-fetches : goal.returns-clause-fetches
 returns-clause-fetches g c =
-    let s = sinks (g.S.Sink.state c.args.out.now) (g.S.Sink.state c.put_trace.new.out) (g.N.Sink.state c.args.notes.now) (g.N.Sink.state c.put_trace.new.notes) in
-    has_all 1 s c.put_trace.result (inr c.in-Ok.ensures.fetches)
+    given_with_all 1 c.put_trace.result (inr c.in_ok-checked.ensures.fetches)
     (λ a h. ap (fetches_by 1) h.status_is ∙ ending_has_all 1 h.ending)
-    (c.put_trace.ensures.answered _ _ c.in-Ok.ensures.loads.0)
+    (c.put_trace.ensures.gives _ _ c.in_ok-checked.ensures.loads.0)

@@ -1,50 +1,41 @@
-use Rattle.std.proofs.Common.{inr, refl, ap, ◌∙◌, arith}
-use Rattle.hip_answers.specs.Answers.{sinks}
-use Rattle.hip_answers.specs.FetchLaws.{ending_has_all, finished_with_all, lacks_program, with_all}
-use Rattle.hip_answers.specs.Fetches.{fetches_by}
-use Rattle.hip_answers.specs.declared.status.Status.TheVariants.{NoMemory, WriteFault}
-use Rattle.hip_run_commands.proofs.Runs.{has_run, ran_out, was_cut}
+use Rattle.std.proofs.Common.{inl, inr, arith}
+use Rattle.hip_command_io.specs.StageLaws.{ended_fetched, no_memory, no_memory_fetched, no_program, no_program_fetched, stopped_delivered, stopped_fetched}
+use Rattle.hip_run_commands.proofs.Runs.{has_run, has_stopped}
 use Rattle.hip_run_commands.proofs.run.run_file.Goals as goal
 
-pub returns-in-Ok-print_run-clause-answered : goal.returns-in-Ok-print_run-clause-answered
-returns-in-Ok-print_run-clause-answered g c =
-    has_run c.in-Ok.checked c.in-Ok-first_input.input _ c.in-Ok.ensures.loads.0 c.in-Ok.ensures.loads.1 c.in-Ok-first_input.ensures.is
-    c.in-Ok-print_run.ending c.status_of_ending.result c.put_ending-tried.result (g.N.Sink.state c.put_ending-tried.new.out) c.finish.result
-    c.in-Ok-print_run.ensures.prints c.status_of_ending.ensures c.put_ending-tried.ensures c.finish.ensures
+pub returns-in_err-checked-clause-gives : goal.returns-in_err-checked-clause-gives
+returns-in_err-checked-clause-gives g c =
+    no_program c.args.program.now _ c.from_residual.result (λ a u. inl u) c.in_err-checked.ensures.loads c.from_residual.ensures.1
 
-pub returns-in-Err-WriteFault-clause-answered : goal.returns-in-Err-WriteFault-clause-answered
-returns-in-Err-WriteFault-clause-answered g c =
-    let s = sinks (g.S.Sink.state c.args.out.now) (g.S.Sink.state c.print_run.new.out) (g.N.Sink.state c.args.notes.now) (g.N.Sink.state c.refuse-in-Err-WriteFault.new.notes) in
-    rw c.refuse-in-Err-WriteFault.ensures.status (was_cut c.in-Ok.checked c.in-Ok-first_input.input s c.in-Ok.ensures.loads.0 c.in-Ok.ensures.loads.1 c.in-Ok-first_input.ensures.is
-    (rw c.in-Err-WriteFault.field-0-is at c.in-Err-WriteFault.ensures.prints) c.refuse-in-Err-WriteFault.ensures.line)
+pub returns-in_err-input-clause-gives : goal.returns-in_err-input-clause-gives
+returns-in_err-input-clause-gives g c =
+    no_memory c.from_residual-in_err-input.result c.in_ok-checked.ensures.loads.0 c.from_residual-in_err-input.ensures.1
 
-pub returns-clause-answered : goal.returns-clause-answered
-returns-clause-answered g c =
-    let s = sinks (g.S.Sink.state c.args.out.now) (g.S.Sink.state c.print_run.new.out) (g.N.Sink.state c.args.notes.now) (g.N.Sink.state c.refuse-in-Err-NoMemory.new.notes) in
-    rw c.refuse-in-Err-NoMemory.ensures.status (ran_out c.in-Ok.checked c.in-Ok-first_input.input s c.in-Ok.ensures.loads.0 c.in-Ok.ensures.loads.1 c.in-Ok-first_input.ensures.is
-    (rw c.in-Err-NoMemory.field-0-is at c.in-Err-NoMemory.ensures.prints) c.refuse-in-Err-NoMemory.ensures.line)
+pub returns-in-Ok-clause-gives : goal.returns-in-Ok-clause-gives
+returns-in-Ok-clause-gives g c =
+    has_run c.in_ok-checked.checked c.in_ok-input.input _ _ c.in_ok-checked.ensures.loads.0 c.in_ok-checked.ensures.loads.1
+    c.in_ok-input.ensures.is c.in-Ok.ending c.in-Ok.ensures.prints
 
-pub returns-clause-delivered : goal.returns-clause-delivered
-returns-clause-delivered g c = λ start fault.
-    rw c.in-Err-NoMemory.field-0-is at c.in-Err-NoMemory.ensures.delivered
+pub returns-clause-gives : goal.returns-clause-gives
+returns-clause-gives g c =
+    rw c.status_of_recording.ensures (has_stopped c.in_ok-checked.checked c.in_ok-input.input _ _ c.in_ok-checked.ensures.loads.0
+    c.in_ok-checked.ensures.loads.1 c.in_ok-input.ensures.is c.in-Err.refusal c.in-Err.ensures.prints)
 
-pub returns-in-Err-clause-fetches : goal.returns-in-Err-clause-fetches
-returns-in-Err-clause-fetches g c =
-    rw (c.refuse.ensures.status, c.status_of_failure.ensures) (lacks_program 1 (omega arith) c.in-Err.failure c.in-Err.ensures.fetches)
+pub returns-in_err-checked-clause-fetches : goal.returns-in_err-checked-clause-fetches
+returns-in_err-checked-clause-fetches g c =
+    no_program_fetched 1 (omega arith) _ c.from_residual.result c.in_err-checked.ensures.fetches c.from_residual.ensures.1
 
-pub returns-in-Err-first_input-clause-fetches : goal.returns-in-Err-first_input-clause-fetches
-returns-in-Err-first_input-clause-fetches g c =
-    rw c.refuse-in-Err-first_input.ensures.status (with_all 1 NoMemory (inr c.in-Ok.ensures.fetches) (tt {0}))
+pub returns-in_err-input-clause-fetches : goal.returns-in_err-input-clause-fetches
+returns-in_err-input-clause-fetches g c =
+    no_memory_fetched 1 c.from_residual-in_err-input.result (inr c.in_ok-checked.ensures.fetches) c.from_residual-in_err-input.ensures.1
 
-pub returns-in-Ok-print_run-clause-fetches : goal.returns-in-Ok-print_run-clause-fetches
-returns-in-Ok-print_run-clause-fetches g c =
-    finished_with_all 1 c.put_ending-tried.result c.status_of_ending.result _ _ c.finish.result (inr c.in-Ok.ensures.fetches)
-    (ap (fetches_by 1) c.status_of_ending.ensures ∙ ending_has_all 1 c.in-Ok-print_run.ending) c.finish.ensures
-
-pub returns-in-Err-WriteFault-clause-fetches : goal.returns-in-Err-WriteFault-clause-fetches
-returns-in-Err-WriteFault-clause-fetches g c =
-    rw c.refuse-in-Err-WriteFault.ensures.status (with_all 1 WriteFault (inr c.in-Ok.ensures.fetches) refl)
+pub returns-in-Ok-clause-fetches : goal.returns-in-Ok-clause-fetches
+returns-in-Ok-clause-fetches g c = ended_fetched 1 c.in-Ok.ending (inr c.in_ok-checked.ensures.fetches)
 
 pub returns-clause-fetches : goal.returns-clause-fetches
 returns-clause-fetches g c =
-    rw c.refuse-in-Err-NoMemory.ensures.status (with_all 1 NoMemory (inr c.in-Ok.ensures.fetches) (tt {0}))
+    rw c.status_of_recording.ensures (stopped_fetched 1 c.in-Err.refusal (inr c.in_ok-checked.ensures.fetches))
+
+pub returns-clause-delivered : goal.returns-clause-delivered
+returns-clause-delivered g c = λ start.
+    rw c.status_of_recording.ensures (stopped_delivered c.in-Err.refusal _ c.in-Err.ensures.delivered)

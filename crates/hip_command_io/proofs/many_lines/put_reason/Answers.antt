@@ -1,5 +1,5 @@
 use Rattle.hip_io.specs.Laws.SinkLaws.{and_then}
-use Rattle.hip_repair_commands.proofs.many_lines.put_reason.Goals as goal
+use Rattle.hip_command_io.proofs.many_lines.put_reason.Goals as goal
 
 pub returns : goal.returns
 returns g c =

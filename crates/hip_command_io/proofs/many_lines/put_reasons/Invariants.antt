@@ -1,7 +1,7 @@
 use Rattle.std.proofs.Common.{take}
 use Rattle.hip_io.specs.Sinks.{Writes}
-use Rattle.hip_repair_commands.specs.ManyLines.{reason_lines}
-use Rattle.hip_repair_commands.proofs.many_lines.put_reasons.Given as goal
+use Rattle.hip_command_io.specs.Notes.{reason_lines}
+use Rattle.hip_command_io.proofs.many_lines.put_reasons.Given as goal
 
 abbrev pub invariant-each : goal.invariant-each
 invariant-each g l =

@@ -1,5 +1,5 @@
 use Rattle.hip_io.specs.Laws.SinkLaws.{and_then}
-use Rattle.hip_repair_commands.proofs.thin.put_thin_counts.Goals as goal
+use Rattle.hip_command_io.proofs.counts.put_thin_counts.Goals as goal
 
 pub returns : goal.returns
 returns g c = and_then c.put_repair_counts-put.ensures c.put_count.ensures

@@ -1,4 +1,4 @@
--- What `many` writes to the notes.
+-- What `thin` and `many` write to the notes.
 use Rattle.std.specs.Prelude.{ℕ, List, ◌++◌, codes}
 use Rattle.std.specs.List.{flat_map}
 use Rattle.hip_tree.specs.declared.program.Program.{Program}
@@ -8,6 +8,10 @@ use Rattle.hip_many.specs.declared.reason.Sort.TheVariants.{Fence, Flush, Hoist}
 use Rattle.hip_repairs.specs.declared.plan.Plan.{Plan}
 use Rattle.hip_report_lines.specs.Counts.{count_line, repair_counts}
 use Rattle.hip_report_lines.specs.Reports.{numbered, site_text}
+
+-- The counts of `thin`: those of `repair`, and how many stores are spared.
+abbrev pub thin_counts : ℕ → Plan → ℕ → ℕ → List ℕ
+thin_counts reports plan clones spared = repair_counts reports plan clones ++ count_line (codes "spared") spared
 
 -- The word for what a plan does at a site.
 abbrev pub sort_word : Sort → List ℕ

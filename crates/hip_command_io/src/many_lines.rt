@@ -1,15 +1,15 @@
-//! What goes to the notes.
+//! What `many` writes to the notes.
 
 ghost use Rattle.std.specs.Prelude.{◌≡◌, ◌++◌, codes, length};
+ghost use Rattle.hip_command_io.specs.Notes.{many_notes, reason_line, reason_lines, sort_word};
 ghost use Rattle.hip_io.specs.Sinks.{Writes};
-ghost use Rattle.hip_repair_commands.specs.ManyLines.{many_notes, reason_line, reason_lines, sort_word};
 ghost use Rattle.hip_report_lines.specs.Reports.{numbered};
 
+use crate::counts::ManyCounts;
 use hip_answers::put_number;
 use hip_io::{Put, Sink, put_after};
 use hip_many::{Reason, Sort};
 use hip_report_lines::{put_count, put_repair_totals, put_site};
-use hip_run_repairs::ManyRepair;
 use hip_tree::Program;
 
 fn sort_word(sort: Sort) -> &'static [u8]
@@ -58,19 +58,19 @@ fn put_reasons<N: Sink>(before: Put, notes: &mut N, program: &Program, reasons: 
 
 /// How many traces, reports, flushes, fences, hoisted calls and clones there are, and a line for each reason. Takes no
 /// memory.
-pub(crate) fn put_notes<N: Sink>(
-    notes: &mut N,
-    program: &Program,
-    traces: usize,
-    reports: u128,
-    made: &ManyRepair,
-) -> Put
+pub(crate) fn put_many_counts<N: Sink>(notes: &mut N, counts: &ManyCounts) -> Put
     ensures { Writes Put.Done result (N.state notes.old) (N.state notes.new)
-        (many_notes program.now traces reports made.now.repair.plan (length made.now.repair.repaired.clones)
-        made.now.reasons) }
+        (many_notes counts.now.checked counts.now.traces counts.now.reports counts.now.made.repair.plan
+        (length counts.now.made.repair.repaired.clones) counts.now.made.reasons) }
 {
-    let put = put_count(Put::Done, notes, b"traces", traces);
+    let made = &counts.made;
+    let put = put_count(Put::Done, notes, b"traces", counts.traces);
     let clones = made.repair.repaired.clones.len();
-    let put = put_repair_totals(put, notes, reports, &made.repair.plan, clones);
-    put_reasons(put, notes, program, made.reasons.as_slice())
+    let put = put_repair_totals(put, notes, counts.reports, &made.repair.plan, clones);
+    put_reasons(
+        put,
+        notes,
+        counts.checked.program(),
+        made.reasons.as_slice(),
+    )
 }

@@ -68,6 +68,27 @@ SHAPES = [
         ("run",),
         {},
     ),
+    Shape(
+        "asserts beside 2,500 loose lines, a store before each",
+        shapes.asserts_beside_loose_lines,
+        (325, 1_300, 5_200),
+        ("check",),
+        {"check": 100},
+    ),
+    Shape(
+        "loose lines, all flushed after each store",
+        shapes.flushes_of_loose_lines,
+        (1_250, 5_000, 20_000),
+        ("run", "record", "check"),
+        {"check": 100},
+    ),
+    Shape(
+        "loose lines, each reported at the end",
+        shapes.loose_lines,
+        (12_500, 50_000, 200_000),
+        ("check",),
+        {"check": 100},
+    ),
     Shape("blocks with an edge back", shapes.back_edges, (6_250, 25_000, 100_000), ("run",), {}),
     Shape(
         "stores to one word",

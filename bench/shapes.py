@@ -4,6 +4,7 @@ from __future__ import annotations
 
 DECLARED = """declare void @print_i64(i64)
 declare void @pm_assert(ptr, i64)
+declare void @pmem_flush(ptr, i64)
 declare void @llvm.x86.clwb(ptr)
 declare void @llvm.x86.sse.sfence()
 """
@@ -145,6 +146,21 @@ def fences_beside_loose_lines(count: int) -> str:
     flushes = "  store i64 1, ptr @y\n  call void @llvm.x86.clwb(ptr @y)\n  call void @llvm.x86.sse.sfence()\n"
     body = loop("i", count, stores, "entry", "stored") + loop("k", 100_000, flushes, "stored", "over")
     return program(body, region(count, "[8 x i64]"), '@y = global i64 0, section ".pm", align 64')
+
+
+def asserts_beside_loose_lines(asserts: int) -> str:
+    """2,500 cache lines that are never flushed, and this many asserts of all of them, with a store before each."""
+    store = at("%i", 2_500, "[8 x i64]") + "  store i64 1, ptr %at\n"
+    again = "  store i64 %k, ptr @x\n  call void @pm_assert(ptr @x, i64 160000)\n"
+    body = loop("i", 2_500, store, "entry", "stored") + loop("k", asserts, again, "stored", "over")
+    return program(body, region(2_500, "[8 x i64]"))
+
+
+def flushes_of_loose_lines(count: int) -> str:
+    """This many stores, each into a new cache line, with a flush of the range of all lines after each, and no fence."""
+    store = at("%i", count, "[8 x i64]") + "  store i64 1, ptr %at\n"
+    flush = f"  call void @pmem_flush(ptr @x, i64 {64 * count})\n"
+    return program(loop("i", count, store + flush, "entry", "over"), region(count, "[8 x i64]"))
 
 
 def back_edges(count: int) -> str:

@@ -15,6 +15,7 @@ from typing import Any
 TOP = Path(__file__).resolve().parents[2]
 sys.path.insert(0, str(TOP / "bench"))
 
+import counting  # noqa: E402
 import growth  # noqa: E402
 import interpreter  # noqa: E402
 import measuring  # noqa: E402
@@ -69,6 +70,11 @@ class Programs(unittest.TestCase):
                 self.assertEqual(assembles(text), "")
                 self.assertNotIn("declare", text)
 
+    def test_programs_whose_instructions_are_counted(self) -> None:
+        for name, program in counting.PROGRAMS.items():
+            with self.subTest(name):
+                self.assertEqual(assembles(program.text()), "")
+
     def test_programs_that_run_in_rounds(self) -> None:
         for name in native.ROUNDS:
             with self.subTest(name):
@@ -96,6 +102,12 @@ class Sizes(unittest.TestCase):
     def test_inputs_are_as_long_as_they_say(self) -> None:
         self.assertEqual(len(native.numbers_of("undo", 4)), 1 + 3 * 4)
         self.assertEqual(native.numbers_of("store", 4), [8, 4, 37, 0])
+
+    def test_each_turn_of_a_shape_stores_into_a_line_of_its_own(self) -> None:
+        text = shapes.flushes_of_loose_lines(5)
+        self.assertIn("call void @pmem_flush(ptr @x, i64 320)", text)
+        self.assertIn("[5 x [8 x i64]]", text)
+        self.assertIn("call void @pm_assert(ptr @x, i64 160000)", shapes.asserts_beside_loose_lines(5))
 
 
 class Command(unittest.TestCase):
@@ -157,6 +169,17 @@ class Figures(unittest.TestCase):
         self.assertGreaterEqual(
             measuring.spent(measuring.Command(("sh", "-c", "read a; exit $a"), code=3, input=self.three())), 0
         )
+
+    def test_instructions_of_a_command_that_fails_are_not_counted(self) -> None:
+        if shutil.which("valgrind") is None:
+            self.skipTest("valgrind is not installed")
+        with self.assertRaisesRegex(measuring.Missed, "callgrind ended with code 1"):
+            counting.instructions(measuring.Command(("false",)))
+        few, many = (
+            counting.instructions(measuring.Command(("dd", "if=/dev/zero", "bs=1", f"count={count}")))
+            for count in (10, 1000)
+        )
+        self.assertGreater(many, few + 990)
 
     def three(self) -> str:
         """A file with the number 3."""

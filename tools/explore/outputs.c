@@ -16,6 +16,7 @@ static u32 *starts, operation_count, *printed_operations, *printed_events;
 static u32 skipped, skipped_without; // the prints of the runs before those that are compared
 static u32 operation;                // of the crash; 0 before the first one
 static int is_acknowledged, is_comparing;
+static u32 acknowledging; // the number of the last print of the operation before the crash, from 1 on
 static int ends_without; // whether the run without the operation ends well, so that its prints say something
 static u64 causes[MOST_CAUSES];
 static u32 cause_count, prepared; // the operation whose inputs are made
@@ -130,7 +131,8 @@ u64 begin_outputs(u64 told, u32 prints_before) {
   operation = at_event ? current.events[at_event - 1].operation : 0;
   if (operation > operation_count) operation = operation_count;
   is_acknowledged = 0;
-  for (u32 i = 0; i < printed_count && i < prints_before; i++) is_acknowledged |= operation && printed_operations[i] == operation;
+  for (u32 i = 0; i < printed_count && i < prints_before; i++)
+    if (operation && printed_operations[i] == operation) is_acknowledged = 1, acknowledging = i + 1;
   if (prepared != operation) {
     run_without(operation);
     resume_after(operation);
@@ -173,14 +175,14 @@ int judge_outputs(const struct leaf *leaf, const u32 *chosen) {
   if (!is_acknowledged && !ends_without) return 0;
   if (!is_acknowledged && prints_are(expected, skipped_without, expected_count, skip)) return 0;
   if (!is_new_cause()) return 1;
-  printf("outputs acknowledged=%d operation=%u skips=%u,%u,%u told=%llu", is_acknowledged, operation, skipped, skipped_without, skip,
-         (unsigned long long)current.told);
+  printf("outputs acknowledged=%d print=%u operation=%u skips=%u,%u,%u told=%llu", is_acknowledged, is_acknowledged ? acknowledging : 0, operation,
+         skipped, skipped_without, skip, (unsigned long long)current.told);
   write_list("input", numbers_, number_count);
   write_start();
   write_list("without", without, without_count);
   write_list("resumed", resumed, resumed_count);
-  printf(" at=%u", at_event ? current.events[at_event - 1].site : 0);
-  for (u32 path = at_event ? current.events[at_event - 1].path : ROOT; path > ROOT; path = path_parent(path)) printf("/%u", path_call(path));
+  printf(" at=");
+  if (at_event) write_site(&current.events[at_event - 1]);
   write_cuts(chosen);
   putchar('\n');
   fflush(stdout);

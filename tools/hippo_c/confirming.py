@@ -1,16 +1,16 @@
 """What hippo confirms of the engine's findings: each report by a check of its input, each failure by runs from the same images."""
 from __future__ import annotations
 
-import copy
 import os
 from collections.abc import Iterable
 from dataclasses import dataclass, field
 
 from . import running
-from .crash_answers import with_image
 from .debuginfo import plain
 from .findings import Behaviour, Failure, Found, Key, Outputs, Refused, Report, shortened
-from .following import ENDED, Crash, Following, image_of_trace
+from .following import ENDED, Crash, image_of_trace
+from .judging import Judge
+from .numbers import DEFAULT_TURNS
 from .pool_starts import Start
 from .program import Site, parse_site
 from .reports import Group
@@ -32,21 +32,24 @@ class ShownGroup:
 
 @dataclass
 class ShownFailure:
-    """A failure that hippo confirmed."""
+    """A failure that hippo confirmed; `lost_print` is the number of the print whose operation is lost, and its site, if that is why."""
 
     failure: Failure
     crashes: list[Crash]
+    lost_print: tuple[int, Site] | None = None
 
 
 @dataclass
 class ShownOutputs:
-    """Outputs after a crash that hippo confirmed: what the run printed, and what the runs without a crash print."""
+    """Outputs after a crash that hippo confirmed: what the run printed, and what the runs without a crash print. `lost_print` is as for a
+    failure."""
 
     outputs: Outputs
     crashes: list[Crash]
     printed: list[str]
     wanted: list[str]
     wanted_without: list[str]
+    lost_print: tuple[int, Site] | None = None
 
 
 @dataclass
@@ -71,13 +74,13 @@ def keys_of(group: Group) -> Iterable[Key]:
 
 
 class Confirming:
-    """Confirms findings; the files of hippo's runs are in the folder of the session."""
+    """Confirms findings; the files of hippo's runs are in the folder of the session. With `checks_status` main must return the same number
+    after a power cut."""
 
-    def __init__(self, session: Session) -> None:
+    def __init__(self, session: Session, checks_status: bool = False) -> None:
         self.session, self.answer = session, Confirmed()
         self.seen: set[Key] = set()
-        self.recorded: tuple[list[int], int, Start] | None = None  # whose trace the file crashed.trace has
-        self.sessions: dict[Start, Session] = {(): session}
+        self.judge = Judge(session, checks_status)
         self.by_user: dict[tuple[object, ...], ShownGroup] = {}
 
     def confirm(self, found: Found, given: list[list[int]]) -> Confirmed:
@@ -112,23 +115,9 @@ class Confirming:
             self.answer.interrupted = True
         return self.answer
 
-    def at(self, start: Start) -> Session:
-        """The session of the program with other bytes of its pools before a run."""
-        if start not in self.sessions:
-            path, _ = self.session.record([], "given.bytes.trace")
-            image = image_of_trace(path, self.session.program.region_size())
-            for offset, byte in start:
-                image[offset] = byte
-            session = self.sessions[start] = copy.copy(self.session)
-            session.program = with_image(self.session.program, image)
-            session.text_path = self.session.file(f"start.{len(self.sessions)}.ll")
-            with whole_file(session.text_path) as file:
-                file.write(plain(session.program).encode("latin-1"))
-        return self.sessions[start]
-
     def check(self, numbers: list[int], start: Start) -> None:
         """Checks an input by hippo, and takes in its groups."""
-        checked = self.at(start).check(numbers, "explored.trace", coverage=False)
+        checked = self.judge.at(start).check(numbers, "explored.trace", coverage=False)
         self.answer.checked += 1
         for group in checked.groups:
             self.seen.update(keys_of(group))
@@ -146,47 +135,45 @@ class Confirming:
 
     # ---- crashes
 
-    def follow(
-        self, found: Report | Failure | Outputs | Refused | Behaviour, limit: int
-    ) -> tuple[list[Crash], Following]:
-        """The crashes of a finding one after another, with the words of hippo for each, and the last run."""
-        session, path = self.at(found.start), self.session.file("crashed.trace")
-        if self.recorded != (found.numbers, limit, found.start):
-            running.hippo(
-                ["record", session.text_path, "--limit", str(limit), "--", *map(str, found.numbers)], path, ENDED
-            )
-            self.recorded = (found.numbers, limit, found.start)
-        following, crashes = Following(session, path, found.numbers, limit, found.told), []
-        for events, picks in found.cuts:
-            crashes.append(Crash(following.header() + events, picks))
-            if not following.crash(crashes[-1]):
-                break
-        return crashes, following
-
     def confirm_failure(self, failure: Failure) -> None:
-        """Shows a failure if the run from the image ends in hippo as in the engine."""
-        crashes, following = self.follow(failure, failure.limit)
-        if len(crashes) == len(failure.cuts) and following.ended.how == failure.ended:
-            self.answer.failures.append(ShownFailure(failure, crashes))
-        else:
+        """Shows a failure if the run from the image fails in hippo as in the engine."""
+        followed = self.judge.follow(failure, failure.limit)
+        is_one = followed.is_whole and followed.how == failure.ended and self.judge.fails(followed, failure.limit)
+        own = (
+            self.judge.with_own_path(failure, followed)
+            if is_one and self.judge.has_true_notes(failure, followed)
+            else None
+        )
+        if own is None:
             self.answer.refused += 1
+        else:
+            self.answer.failures.append(ShownFailure(own, followed.crashes, self.judge.lost_print(failure)))
 
     def confirm_behaviour(self, behaviour: Behaviour) -> None:
-        """Keeps a behaviour if the run from its image ends in hippo as in the engine."""
-        crashes, following = self.follow(behaviour, behaviour.limit)
-        if len(crashes) == len(behaviour.cuts) and following.ended.how == behaviour.ended:
-            self.answer.behaviours.append((behaviour, crashes))
-        else:
+        """Keeps a behaviour if the run from its image ends in hippo as in the engine, and reads what is in the image."""
+        followed = self.judge.follow(behaviour, behaviour.limit)
+        is_one = (
+            followed.is_whole
+            and followed.how == behaviour.ended
+            and self.judge.fails(followed, behaviour.limit) == behaviour.is_failing
+            and self.judge.has_true_reads(behaviour, followed)
+        )
+        own = self.judge.with_own_path(behaviour, followed) if is_one else None
+        if own is None:
             self.answer.refused += 1
+        else:
+            self.answer.behaviours.append((own, followed.crashes))
 
     def confirm_after_crash(self, report: Report) -> None:
         """Shows a report of a run from an image if `hippo check` of that run has it."""
-        crashes, following = self.follow(report, report.limit or self.session.request.limit or 1_000_000_000)
-        if following.ended.how != "cut":
+        followed = self.judge.follow(report, report.limit or self.session.request.limit or DEFAULT_TURNS)
+        following = followed.following
+        if followed.how != "cut":
             report.limit = None
-        lines = running.lines_of(["check", following.text, following.path]) if following.ended.code in ENDED else []
+        is_run = followed.is_whole and following.ended.code in ENDED
+        lines = running.lines_of(["check", following.text, following.path]) if is_run else []
         if any(key_of_line(line) == report.key for line in list(lines)):
-            self.answer.after_crashes.append((report, crashes))
+            self.answer.after_crashes.append((report, followed.crashes))
             self.seen.add(report.key)
         else:
             self.answer.refused += 1
@@ -201,9 +188,15 @@ class Confirming:
         refused = (
             one
             for one in sorted(found.refused, key=lambda one: short_first(one.numbers))[:MOST_EXAMPLES]
-            if self.follow(one, one.limit)[1].ended.how == one.ended
+            if self.is_refused(one)
         )
         self.answer.trapping, self.answer.refusing = next(traps, None), next(refused, None)
+
+    def is_refused(self, one: Refused) -> bool:
+        """Whether the next run fails from what the run leaves, although nothing is lost."""
+        followed = self.judge.follow(one, one.limit)
+        is_one = followed.is_whole and followed.how == one.ended and self.judge.fails(followed, one.limit)
+        return is_one and not self.judge.lost(followed)
 
     def printed(self, text: str, numbers: list[int], skip: int) -> list[str]:
         """What hippo prints for a run, without the first prints."""
@@ -212,22 +205,24 @@ class Confirming:
 
     def confirm_outputs(self, outputs: Outputs) -> None:
         """Shows outputs if the runs of hippo differ in the same way."""
-        crashes, following = self.follow(outputs, self.session.request.limit or 1_000_000_000)
-        program = following.program() if len(crashes) == len(outputs.cuts) and following.ended.code in ENDED else None
-        if program is None:
+        followed = self.judge.follow(outputs, self.session.request.limit or DEFAULT_TURNS)
+        is_run = followed.is_whole and followed.following.ended.code in ENDED
+        program = followed.following.program() if is_run else None
+        if program is None or not self.judge.has_operation(outputs, followed, program):
             self.answer.refused += 1
             return
         text = self.session.file("resumed.ll")
         with whole_file(text) as file:
             file.write(plain(program).encode("latin-1"))
         printed = self.printed(text, outputs.resumed, outputs.skips[2])
-        first = self.at(outputs.start).text_path
+        first = self.judge.at(outputs.start).text_path
         wanted = self.printed(first, outputs.numbers, outputs.skips[0])
         other = wanted if outputs.is_acknowledged else self.printed(first, outputs.without, outputs.skips[1])
         if printed in (wanted, other):
             self.answer.refused += 1
-        else:
-            self.answer.outputs.append(ShownOutputs(outputs, crashes, printed, wanted, other))
+            return
+        lost = self.judge.print_of(outputs) if outputs.is_acknowledged else None
+        self.answer.outputs.append(ShownOutputs(outputs, followed.crashes, printed, wanted, other, lost))
 
 
 def short_first(numbers: list[int]) -> tuple[int, list[int]]:

@@ -3,9 +3,10 @@ from __future__ import annotations
 
 import argparse
 
+from .again import Again
 from .confirming import Confirmed, Confirming
 from .diagnostics import Printer, amount, images_in_words
-from .explore_answers import Again, print_failure
+from .explore_answers import print_failure, print_outputs
 from .explore_options import words_of
 from .exploring import check_engine, run_engine
 from .findings import Found
@@ -18,7 +19,7 @@ NONE_TRIED = (
 
 
 def try_images(options: argparse.Namespace, session: Session, printer: Printer) -> int:
-    """Tries the images that crashes may leave: 0 if no run fails, 1 if one does, 2 if none was tried."""
+    """Tries the images that crashes may leave: 0 if no run fails, 1 if one does or loses an operation, 2 if none was tried."""
     numbers = session.request.inputs[0]
     session.progress.say("building the engine")
     engine = Engine(session.program, session.new_folder(), tuple(options.recover))
@@ -29,15 +30,17 @@ def try_images(options: argparse.Namespace, session: Session, printer: Printer) 
     found, interrupted = run_engine(session, engine, [numbers], words, options)
     session.progress.say("confirming")
     found.reports = {}
-    confirmed = Confirming(session).answer_for(found, [])
+    confirmed = Confirming(session, options.status).answer_for(found, [])
     session.progress.wipe()
     again = Again(options, session)
     for failure in confirmed.failures:
         print_failure(printer, session, failure, again)
+    for outputs in confirmed.outputs:
+        print_outputs(printer, session, outputs, again)
     print_verdict(printer, found, confirmed)
     if interrupted or confirmed.interrupted:
         return 130
-    if confirmed.failures:
+    if confirmed.failures or confirmed.outputs:
         return 1
     return 0 if found.summary.get("behaviours") else 2
 
@@ -58,5 +61,7 @@ def print_verdict(printer: Printer, found: Found, confirmed: Confirmed) -> None:
             f'{whole}{images_in_words(counts["images"])} of {points}: {amount(counts["behaviours"], "behaviour")}{left}; '
             f'{counts["failing"]:,} fail, by {amount(len(confirmed.failures), "cause")}'
         )
+    if confirmed.outputs:
+        printer.line(f'{amount(len(confirmed.outputs), "operation")} lost or half done after a power cut')
     if confirmed.refused:
         printer.line(f'{amount(confirmed.refused, "failure")} of the engine not confirmed by hippo, and not shown')

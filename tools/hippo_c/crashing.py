@@ -54,6 +54,7 @@ def add_options(command: argparse.ArgumentParser) -> None:
     """The options of crash that other commands do not have."""
     add_images(command)
     add_recoveries(command)
+    add_next_cuts(command)
     debugging.add_options(command)
 
 
@@ -94,6 +95,11 @@ def add_recoveries(command: argparse.ArgumentParser) -> None:
         help="an image also fails if main returns another number than in the recorded run",
     )
     command.add_argument(
+        "--atomic",
+        action="store_true",
+        help="each command that the program reads must be done or not done after a power cut",
+    )
+    command.add_argument(
         "--crashes", type=from_to(1, 4), default=2, metavar="N", help="power cuts one after another that are tried (2)"
     )
     command.add_argument(
@@ -109,6 +115,10 @@ def add_recoveries(command: argparse.ArgumentParser) -> None:
         metavar="N",
         help="stop after N runs in place of a time, so that equal words give equal answers",
     )
+
+
+def add_next_cuts(command: argparse.ArgumentParser) -> None:
+    """The options of one run: what comes after its power cut, and what it is told."""
     command.add_argument(
         "--then",
         nargs="+",
@@ -167,6 +177,8 @@ def points_to_try(
     options: argparse.Namespace, path: str, first: int, last: int
 ) -> tuple[Choice, Iterator[list[Point]]]:
     """What is chosen, and the images of each crash point: the one of --pick, or random ones."""
+    if options.atomic:
+        raise Trouble("--atomic needs a run that ends, without --sample, --images, --entries and --pick")
     if options.picks is not None:
         return Choice(first, last, 0, 0, entries=1), iter([[single_point(options, first, last)]])
     choice = Choice(first, last, options.seed, 2 if options.sample is None else options.sample, options.images)

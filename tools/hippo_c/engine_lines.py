@@ -51,7 +51,7 @@ class Reader:
         """A failure; the shortest input of a cause counts."""
         ended = ended_of(fields)
         path = () if ended == "cut" else (self.sites[int(fields["site"])], *self.path(fields["path"]))
-        at = tuple(self.sites[int(site)] for site in fields["at"].split("/")) if fields["at"] else ()
+        at = self.at(fields["at"])
         failure = Failure(
             fields["cause"],
             int(fields["level"]),
@@ -71,7 +71,7 @@ class Reader:
 
     def take_outputs(self, fields: dict[str, str]) -> None:
         """Outputs after a crash; the shortest input of a place counts."""
-        at = tuple(self.sites[int(site)] for site in fields["at"].split("/"))
+        at = self.at(fields["at"])
         first, second, third = numbers(fields["skips"])
         outputs = Outputs(
             fields["acknowledged"] == "1",
@@ -84,10 +84,11 @@ class Reader:
             cuts(fields["cuts"]),
             int(fields["told"]),
             start_in(fields),
+            int(fields["print"]),
         )
-        known = self.found.outputs.get((at[0], outputs.is_acknowledged))
+        known = self.found.outputs.get((at[:1], outputs.is_acknowledged))
         if known is None or len(outputs.numbers) < len(known.numbers):
-            self.found.outputs[(at[0], outputs.is_acknowledged)] = outputs
+            self.found.outputs[(at[:1], outputs.is_acknowledged)] = outputs
 
     def take_trapped(self, fields: dict[str, str]) -> None:
         """An input whose run traps, or takes more turns than the search allows; those with other bytes of a pool are only counted by the engine."""
@@ -111,7 +112,7 @@ class Reader:
         """A behaviour of a crash point."""
         ended = ended_of(fields)
         path = (self.sites[int(fields["site"])], *self.path(fields["path"])) if ended.startswith("trap") else ()
-        at = tuple(self.sites[int(site)] for site in fields["at"].split("/")) if fields["at"] else ()
+        at = self.at(fields["at"])
         reads = [
             Read(int(address), int(size), int(value, 16))
             for address, size, value in (part.split(":") for part in fields["reads"].split(",") if part)
@@ -151,6 +152,10 @@ class Reader:
     def path(self, text: str) -> Iterable[Site]:
         """The sites of a list of numbers."""
         return (self.sites[number] for number in numbers(text))
+
+    def at(self, text: str) -> tuple[Site, ...]:
+        """The site of an entry and its calls, as SITE/CALL..; nothing before the first entry."""
+        return tuple(self.sites[int(site)] for site in text.split("/")) if text else ()
 
     def lost(self, text: str) -> list[LostStore]:
         """Stores that an image lacks, as ADDRESS:SIZE:SITE/CALL..."""

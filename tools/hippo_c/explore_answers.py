@@ -3,19 +3,16 @@ from __future__ import annotations
 
 import argparse
 import re
-import shlex
 from collections.abc import Sized
 
+from .again import Again
 from .confirming import Confirmed, ShownFailure, ShownGroup, ShownOutputs
 from .diagnostics import Printer, amount, images_in_words, message_of, print_calls, print_merged, show_place
-from .findings import Failure, Found, Outputs, Report
-from .following import Crash
+from .findings import Found
 from .places import Place
-from .pool_starts import PoolFiles, Start
-from .program import show_site
+from .program import Site, show_site
 from .session import Session
 from .traps import MEANING
-from .words import FROM_INPUT, decoded, reads_words
 
 MOST_LOST = 4
 MOST_CALLS = 4
@@ -57,91 +54,6 @@ def print_answer(
         print_missed(printer, session, found)
 
 
-class Again:
-    """The commands that show a finding again."""
-
-    def __init__(self, options: argparse.Namespace, session: Session, pools: PoolFiles | None = None) -> None:
-        request, self.pools = session.request, pools
-        self.has_words = FROM_INPUT in request.lower and reads_words(session.program)
-        self.files, self.lower, self.boundaries = (
-            request.files,
-            request.lower,
-            [boundary.given for boundary in request.boundaries],
-        )
-        self.status = ["--status"] if options.status else []
-        self.limit = session.limit_words()
-        self.clang = ["--", *request.clang] if request.clang else []
-
-    def check(self, numbers: list[int], start: Start = ()) -> str:
-        """The check of an input."""
-        return self.command("check", numbers, self.limit, start)
-
-    def crash(self, found: Report | Failure | Outputs, crashes: list[Crash], limit: int | None) -> str:
-        """The run after power cuts."""
-        numbers, told = found.numbers, found.told
-        words = [*(["--limit", str(limit)] if limit else self.limit), *self.status]
-        left_out = len(numbers) - len(self.split(numbers)[1])
-        for number, crash in enumerate(crashes):
-            picks = [f"{line}:{upto}" for line, upto in crash.picks]
-            entry = str(crash.entry - left_out)
-            words += ["--then", entry, *picks] if number else ["--entries", entry, "--pick", *picks]
-        return self.command("crash", numbers, [*words, *(["--prints", str(told)] if told else [])], found.start)
-
-    def repair(self, corpus: str) -> str:
-        """The repair for all inputs of a corpus."""
-        return shlex.join(
-            [
-                "hippo-c",
-                "repair",
-                *self.files,
-                *self.lower,
-                *self.boundaries,
-                "--inputs",
-                corpus,
-                "-o",
-                "repaired.o",
-                *self.clang,
-            ]
-        )
-
-    def command(self, name: str, numbers: list[int], words: list[str], start: Start) -> str:
-        """A command on an input; with other bytes of pools it needs files that have them."""
-        lower = self.pools.lower_for(start) if self.pools else self.lower
-        if lower is None:
-            return f'with --pools FOLDER, for {amount(len(start), "other byte")} of the pools'
-        lower = [word for word in lower if word != FROM_INPUT or not self.has_words]
-        return shlex.join(
-            [
-                "hippo-c",
-                name,
-                *self.files,
-                *lower,
-                *self.boundaries,
-                *self.input(numbers),
-                *words,
-                *self.arguments(numbers),
-                *self.clang,
-            ]
-        )
-
-    def split(self, numbers: list[int]) -> tuple[list[str], list[int]]:
-        """The words of the command line in an input, and its other numbers."""
-        return decoded(numbers) if self.has_words else ([], numbers)
-
-    def input(self, numbers: list[int]) -> list[str]:
-        """The option with the numbers."""
-        left = self.split(numbers)[1]
-        return ["--input", *map(str, left)] if left else []
-
-    def arguments(self, numbers: list[int]) -> list[str]:
-        """The option with the words of the command line."""
-        return ["--args", *self.split(numbers)[0]] if self.has_words else []
-
-    def words(self, numbers: list[int]) -> str:
-        """An input as the options that give it."""
-        return shlex.join([*self.input(numbers), *self.arguments(numbers)]) or "--input"
-
-
 def print_group(printer: Printer, session: Session, shown: ShownGroup, checked: int, again: Again) -> None:
     """A warning for a group, with the notes of `check`."""
     group = shown.group
@@ -172,7 +84,7 @@ def print_failure(printer: Printer, session: Session, shown: ShownFailure, again
         if failure.level == 1
         else f"after a power cut, and another one in the recovery {where},"
     )
-    printer.diagnostic(place, "error", f"{when} the next run fails: {ending_in_words(failure.ended)}", True)
+    printer.diagnostic(place, "error", f"{when} {what_fails(session, shown)}", True)
     print_calls(printer, session.places.along(failure.at), MOST_CALLS)
     places = session.places.along(failure.path)
     if places:
@@ -194,12 +106,24 @@ def print_failure(printer: Printer, session: Session, shown: ShownFailure, again
     printer.line(f"  see it again: {again.crash(failure, shown.crashes, limit)}")
 
 
+def what_fails(session: Session, shown: ShownFailure) -> str:
+    """What a power cut does: an acknowledged operation is lost, or the next run fails for another reason."""
+    if shown.lost_print:
+        return lost_in_words(session, shown.lost_print)
+    return f"the next run fails: {ending_in_words(shown.failure.ended)}"
+
+
+def lost_in_words(session: Session, lost: tuple[int, Site]) -> str:
+    """The loss of an acknowledged operation: the number of its print, and where it stands."""
+    place = session.places.first(lost[1:])
+    return f'an acknowledged operation is lost: print {lost[0]:,}{f" ({place.short})" if place else ""}'
+
+
 def print_outputs(printer: Printer, session: Session, shown: ShownOutputs, again: Again) -> None:
     """An error for an operation that a power cut leaves neither done nor not done, or that is lost although it was acknowledged."""
     outputs = shown.outputs
-    what = "is lost, although it printed a number before" if outputs.is_acknowledged else "is neither done nor not done"
     printer.diagnostic(
-        session.places.first(outputs.at), "error", f"after a power cut here operation {outputs.operation} {what}", True
+        session.places.first(outputs.at), "error", f"after a power cut here {what_differs(session, shown)}", True
     )
     for numbers, name in (
         (shown.printed, "the next run prints"),
@@ -210,6 +134,13 @@ def print_outputs(printer: Printer, session: Session, shown: ShownOutputs, again
             printer.line(f'  {name}: {" ".join(numbers[:MOST_PRINTS])}{" .." if len(numbers) > MOST_PRINTS else ""}')
     printer.line(f'  the next run reads: {" ".join(map(str, outputs.resumed))}')
     printer.line(f"  its image: {again.crash(outputs, shown.crashes, None)}")
+
+
+def what_differs(session: Session, shown: ShownOutputs) -> str:
+    """What a power cut does to an operation."""
+    if shown.lost_print:
+        return lost_in_words(session, shown.lost_print)
+    return f"operation {shown.outputs.operation} is neither done nor not done"
 
 
 def ending_in_words(ended: str) -> str:

@@ -7,16 +7,18 @@ import json
 from typing import Any
 
 from . import fingerprints
+from .again import Again
 from .answer import answer_of, place_of
 from .behaviours import crash_points_of, points_in_html
 from .checking import write_text
 from .confirming import Confirmed, ShownFailure, ShownOutputs
 from .diagnostics import Printer, amount, images_in_words
-from .explore_answers import Again, ending_in_words
+from .explore_answers import ending_in_words, what_differs, what_fails
 from .findings import Found, Report
 from .following import Crash
 from .history import histories_of
 from .page import escaped, page_of
+from .program import Site
 from .sarif import RULES, location_of, sarif_of
 from .session import Checked, Session
 
@@ -78,6 +80,8 @@ def failure_of(session: Session, shown: ShownFailure, again: Again) -> dict[str,
     return {
         "ended": failure.ended,
         "meaning": ending_in_words(failure.ended),
+        "message": what_fails(session, shown),
+        "lost_print": print_in(session, shown.lost_print),
         "numbers": failure.numbers,
         "level": failure.level,
         "place": place_of(session.places.first(failure.at)),
@@ -94,6 +98,11 @@ def failure_of(session: Session, shown: ShownFailure, again: Again) -> dict[str,
         ],
         "again": again.crash(failure, shown.crashes, failure.limit if failure.ended == "cut" else None),
     }
+
+
+def print_in(session: Session, lost: tuple[int, Site] | None) -> dict[str, Any] | None:
+    """The print that acknowledged what is lost: its number, and its place."""
+    return {"number": lost[0], "place": place_of(session.places.first(lost[1:]))} if lost else None
 
 
 def after_cut_of(session: Session, report: Report, crashes: list[Crash], again: Again) -> dict[str, Any]:
@@ -119,6 +128,8 @@ def outputs_of(session: Session, shown: ShownOutputs, again: Again) -> dict[str,
     outputs = shown.outputs
     return {
         "acknowledged": outputs.is_acknowledged,
+        "message": what_differs(session, shown),
+        "lost_print": print_in(session, shown.lost_print),
         "operation": outputs.operation,
         "place": place_of(session.places.first(outputs.at)),
         "numbers": outputs.numbers,
@@ -158,16 +169,9 @@ def sarif_with_failures(answer: dict[str, Any]) -> dict[str, Any]:
             (failure["trap"], "the run from the image ends here"),
             *((lost["place"], f"this store to '{lost['object']}' is lost") for lost in failure["lost"]),
         ]
-        run["results"].append(
-            result_of(f'After a power cut here the next run fails: {failure["meaning"]}', failure, related)
-        )
+        run["results"].append(result_of(f'After a power cut here {failure["message"]}', failure, related))
     for outputs in answer["outputs"]:
-        what = (
-            "is lost, although it printed a number before"
-            if outputs["acknowledged"]
-            else "is neither done nor not done"
-        )
-        run["results"].append(result_of(f'After a power cut here operation {outputs["operation"]} {what}', outputs, []))
+        run["results"].append(result_of(f'After a power cut here {outputs["message"]}', outputs, []))
     for report in answer["after_cuts"]:
         calls = [(place, "called here") for place in report["calls"]]
         result = result_of("A store of the run after a power cut is not durable", report, calls)
@@ -201,19 +205,14 @@ def failures_in_html(answer: dict[str, Any]) -> str:
         rows.append(
             row(
                 failure,
-                f'after a power cut here the next run fails: {failure["meaning"]}, at {where(failure["trap"])}; lost: {lost}',
+                f'after a power cut here {failure["message"]}; the next run ends at {where(failure["trap"])}; lost: {lost}',
             )
         )
     for outputs in answer["outputs"]:
-        what = (
-            "is lost, although it printed a number before"
-            if outputs["acknowledged"]
-            else "is neither done nor not done"
-        )
         rows.append(
             row(
                 outputs,
-                f'after a power cut here operation {outputs["operation"]} {what}; the next run prints {" ".join(outputs["printed"])}',
+                f'after a power cut here {outputs["message"]}; the next run prints {" ".join(outputs["printed"])}',
             )
         )
     rows += [

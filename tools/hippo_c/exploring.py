@@ -8,10 +8,11 @@ import subprocess
 import threading
 
 from . import ends, running, words
+from .again import Again
 from .checking import printer_of
 from .crashed_inputs import CrashedInput, rows_of
 from .confirming import Confirmed, Confirming, same_trace
-from .explore_answers import Again, print_answer
+from .explore_answers import print_answer
 from .explore_forms import write_forms
 from .explore_options import bounds_of, words_of
 from .engine_lines import Reader
@@ -51,7 +52,7 @@ def explore(options: argparse.Namespace, request: Request, progress: Progress) -
             said += ["--behaviours", str(options.behaviours)]
         found, interrupted = run_engine(session, engine, seeds, said, options)
         progress.say("confirming")
-        confirmed = Confirming(session).answer_for(found, given)
+        confirmed = Confirming(session, options.status).answer_for(found, given)
         confirmed.interrupted |= interrupted
         if options.corpus:
             write_corpus(options.corpus, given, confirmed, found)

@@ -74,6 +74,7 @@ class Outputs:
     cuts: list[Cut]
     told: int
     start: Start = ()
+    print_number: int = 0  # of the print that acknowledged the operation
 
 
 @dataclass

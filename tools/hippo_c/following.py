@@ -2,6 +2,7 @@
 from __future__ import annotations
 
 import argparse
+import itertools
 import re
 from dataclasses import dataclass
 
@@ -9,7 +10,8 @@ from . import running
 from .crash_answers import LARGEST_IMAGE, meaning, with_image
 from .debuginfo import plain
 from .diagnostics import Printer, print_calls, print_merged
-from .instrument import PRINTS_BEFORE, last_name
+from .hooked import last_name
+from .program_tables import PRINTS_BEFORE
 from .program import REGION_BASE, Program
 from .session import Session
 from .traces import pieces
@@ -42,7 +44,7 @@ class Following:
 
     def header(self) -> int:
         """The number of entries before the first step of the last run."""
-        return sum(1 for entry in pieces(self.path) if entry.startswith(HEADER))
+        return count_of_header(self.path)
 
     def crash(self, crash: Crash) -> bool:
         """Makes the next run; whether hippo makes the image."""
@@ -56,11 +58,14 @@ class Following:
         self.path = out
         return not self.told or self.run_told()
 
-    def program(self) -> Program | None:
-        """The program that begins with the image of the last run, with that number; nothing if the image is too large for a text."""
+    def program(self, path: str = "") -> Program | None:
+        """The program that begins with the image of the last run, or of the run of another trace, with that number; nothing if the image is too
+        large for a text."""
         if self.session.program.region_size() > LARGEST_IMAGE:
             return None
-        changed = with_image(self.session.program, image_of_trace(self.path, self.session.program.region_size()))
+        changed = with_image(
+            self.session.program, image_of_trace(path or self.path, self.session.program.region_size())
+        )
         changed.head = [told_line(line, self.told) for line in changed.head]
         return changed
 
@@ -83,6 +88,11 @@ def told_line(line: str, told: int) -> str:
     return (
         line.replace("global i64 0", f"global i64 {told}", 1) if name and last_name(name[1]) == PRINTS_BEFORE else line
     )
+
+
+def count_of_header(path: str) -> int:
+    """The number of entries of a trace before the first step of its run."""
+    return sum(1 for _ in itertools.takewhile(lambda entry: entry.startswith(HEADER), pieces(path)))
 
 
 def image_of_trace(path: str, size: int) -> bytearray:

@@ -1,8 +1,10 @@
 #!/usr/bin/env python3
-"""Examples and real C, explored and repaired: what hippo-c explore finds from a short input, and what is left after one repair.
+"""Examples and real C, explored and repaired: what hippo-c explore finds from a short input, and whether a loop of repairs and searches ends.
 
 The real C are those pieces of pieces.py whose drivers take the number of rounds and each drawn number from the input (EXPLORED in
-draw.h). It prints a row for each; the exit code is 1 if a report is left after the repair."""
+draw.h). After each search the program is repaired for what it found, and explored again from another seed, until nothing new is reported.
+The traces of the engine on the inputs of each corpus are compared with those of hippo, byte by byte. It prints a row for each program; the
+exit code is 1 if a report is left after the last repair, or if a trace differs."""
 from __future__ import annotations
 
 import argparse
@@ -17,6 +19,13 @@ from pieces import PIECES, Piece  # noqa: E402
 from programs import sources_of  # noqa: E402
 from steps import Differs, clang_flags, run, source_files  # noqa: E402
 from typing import Any
+
+sys.path.insert(0, os.path.abspath(os.path.join(os.path.dirname(__file__), "../..")))
+from hippo_c.confirming import same_trace  # noqa: E402
+from hippo_c.crashed_inputs import rows_of  # noqa: E402
+from hippo_c.native import Engine  # noqa: E402
+from hippo_c.program import Program  # noqa: E402
+from hippo_c.running import hippo_program  # noqa: E402
 
 NAMES = (
     "btrfs_rbtree",
@@ -40,8 +49,11 @@ HEADINGS = (
     "failures",
     "images",
     "behaviours",
-    "groups after the repair",
+    "groups after each repair",
+    "equal traces",
 )
+MOST_REPAIRS = 6
+MOST_TRACES = 200  # that are compared for each text
 # The examples, each with its input.
 EXAMPLES = {
     "examples/ring_buffer/ring.c": "12 -5 3 -10 0",
@@ -53,7 +65,12 @@ EXAMPLES = {
     "examples/key_value_log/log.ll": "",
     "examples/hoisted_copy/copy.ll": "",
     "examples/one_store/one_store.ll": "",
+    "examples/spared_flush/notes.ll": "",
+    "examples/two_inputs/account.ll": "0 25",
+    "examples/totals/totals.c": "5",
+    "examples/hash_table/table.cpp": "",
 }
+STANDARDS = {".cpp": ["--", "-std=c++20"]}
 SEED = ["3", *(str(number * 7 % 23) for number in range(1, 60))]
 TOP = os.path.abspath(os.path.join(os.path.dirname(__file__), "../../.."))
 
@@ -75,29 +92,12 @@ def parse() -> argparse.Namespace:
 
 
 def explored(text: str, folder: str, given: list[str], seed: int, seconds: str) -> dict[str, Any]:
-    """The answer of explore on a lowered text. The first search writes a corpus."""
-    answer = os.path.join(folder, f"answer.{seed}.json")
+    """The answer of explore on a lowered text. Each search writes a corpus of its own."""
+    answer = f"{folder}/answer.{seed}.json"
     bounds = ["--range", "0-2000"] if given is SEED else []
-    corpus = ["--corpus", "corpus"] if seed == 1 else []
-    words = [
-        "explore",
-        text,
-        "--input",
-        *given,
-        "--seed",
-        str(seed),
-        "--time",
-        seconds,
-        *bounds,
-        *corpus,
-        "--behaviours",
-        "0",
-        "--json",
-        answer,
-    ]
-    ended = run(
-        [sys.executable, f"{TOP}/tools/hippo-c", *words], folder, codes=(0, 1, 2)
-    )  # 2 where no image was tried, too
+    words = ["--input", *given, "--seed", str(seed), "--time", seconds, *bounds, "--corpus", f"corpus.{seed}"]
+    command = [sys.executable, f"{TOP}/tools/hippo-c", "explore", text, *words, "--behaviours", "0", "--json", answer]
+    ended = run(command, folder, codes=(0, 1, 2))  # 2 where no image was tried, too
     if not os.path.exists(answer):
         raise Differs(f"hippo-c explore: {ended.stderr.strip()}")
     with open(answer, encoding="utf-8") as file:
@@ -123,29 +123,65 @@ def lowered_piece(piece: Piece, source: str, folder: str) -> str:
     return lowered([*piece.options, *source_files(piece, source), "--", *flags], folder)
 
 
+def corpus_of(folder: str, seed: int) -> list[list[int]]:
+    """The inputs that a search kept, without those with power cuts."""
+    path = f"{folder}/corpus.{seed}"
+    with open(path, encoding="ascii") as file:
+        return [row.numbers for row in rows_of(file.read(), path) if not row.crashes]
+
+
+def equal_traces(text: str, folder: str, inputs: list[list[int]]) -> int:
+    """How many inputs have a trace of the engine; each is that of hippo, byte by byte."""
+    with open(text, encoding="latin-1") as file:
+        engine = Engine(Program(file.read()), folder)
+    for numbers in inputs[:MOST_TRACES]:
+        with open(f"{folder}/hippo.trace", "w", encoding="ascii") as file:
+            words = [hippo_program(), "record", text, "--", *map(str, numbers)]
+            file.write(run(words, folder, codes=tuple(range(128))).stdout)
+        engine.record(numbers, f"{folder}/engine.trace")
+        if not same_trace(f"{folder}/hippo.trace", f"{folder}/engine.trace"):
+            raise Differs(f"the traces of the engine and of hippo differ on {numbers}")
+    return min(len(inputs), MOST_TRACES)
+
+
 def row(name: str, text: str, given: list[str], folder: str, seconds: tuple[str, str]) -> tuple[list[object], int]:
-    """The row of a program, and the number of groups that are left; the seconds are those of the first and of the second search."""
-    repaired = f"{folder}/repaired.ll"
+    """The row of a program, and the number of groups that are left; the seconds are those of the first and of each later search."""
     found = explored(text, folder, given, 1, seconds[0])
-    groups, counts, left = groups_of(found), found["covered"], 0
-    if groups:
-        run([sys.executable, f"{TOP}/tools/hippo-c", "repair", text, "--inputs", "corpus", "-o", repaired], folder)
-        left = groups_of(explored(repaired, folder, given, 2, seconds[1]))
-    with open(f"{folder}/corpus", encoding="ascii") as file:
-        inputs = len(file.read().splitlines())
-    return [
-        name,
-        counts["runs"],
-        inputs,
-        counts["given_blocks"],
-        counts["blocks_ran"],
-        counts["blocks"],
-        groups,
-        len(found["failures"]),
-        f'{counts["images"]:.3g}',
-        counts["behaviours"],
-        left,
-    ], left
+    groups, counts, left = groups_of(found), found["covered"], []
+    inputs = corpus_of(folder, 1)
+    traces = equal_traces(text, folder, inputs)
+    seed, remaining = 1, groups
+    while remaining and seed <= MOST_REPAIRS:
+        repaired = f"{folder}/repaired.{seed}.ll"
+        words = ["repair", text, "--inputs", f"corpus.{seed}", "-o", repaired]
+        run([sys.executable, f"{TOP}/tools/hippo-c", *words], folder)
+        seed, text = seed + 1, repaired
+        remaining = groups_of(explored(text, folder, given, seed, seconds[1]))
+        left.append(remaining)
+        traces += equal_traces(text, folder, corpus_of(folder, seed))
+    cells = [name, counts["runs"], len(inputs), counts["given_blocks"], counts["blocks_ran"], counts["blocks"], groups]
+    images = f'{counts["images"]:.3g}'
+    more = [len(found["failures"]), images, counts["behaviours"], ", ".join(map(str, left)) or "-", traces]
+    return [*cells, *more], remaining
+
+
+def row_of(
+    name: str, pieces: dict[str, Piece], sources: dict[str, str], options: argparse.Namespace
+) -> tuple[str, int]:
+    """The line of the table for a program, and the number of groups that are left."""
+    seconds = (options.time, options.again)
+    with tempfile.TemporaryDirectory() as folder:
+        try:
+            if name in EXAMPLES:
+                path = f"{TOP}/{name}"
+                text = path if name.endswith(".ll") else lowered([path, *STANDARDS.get(name[-4:], [])], folder)
+                cells, left = row(name, text, EXAMPLES[name].split(), folder, seconds)
+            else:
+                text = lowered_piece(pieces[name], sources[pieces[name].package], folder)
+                cells, left = row(name, text, SEED, folder, seconds)
+        except Differs as difference:
+            return f"FAILED {name}: {difference}", 1
+    return "| " + " | ".join(f"{cell:,}" if isinstance(cell, int) else str(cell) for cell in cells) + " |", left
 
 
 def main() -> int:
@@ -155,28 +191,11 @@ def main() -> int:
     pieces = {piece.name: piece for piece in PIECES if piece.name in names}
     sources = sources_of(Packages(options.folder), list(pieces.values()))
     print("| " + " | ".join(HEADINGS) + " |\n|" + "---|" * len(HEADINGS), flush=True)
-    all_left, seconds = 0, (options.time, options.again)
+    all_left = 0
     for name in (name for name in names if name in EXAMPLES or pieces[name].package in sources):
-        with tempfile.TemporaryDirectory() as folder:
-            try:
-                if name in EXAMPLES:
-                    path = f"{TOP}/{name}"
-                    cells, left = row(
-                        name,
-                        path if name.endswith(".ll") else lowered([path], folder),
-                        EXAMPLES[name].split(),
-                        folder,
-                        seconds,
-                    )
-                else:
-                    text = lowered_piece(pieces[name], sources[pieces[name].package], folder)
-                    cells, left = row(name, text, SEED, folder, seconds)
-            except Differs as difference:
-                cells, left = [f"FAILED {name}: {difference}"], 1
+        line, left = row_of(name, pieces, sources, options)
         all_left += left
-        print(
-            "| " + " | ".join(f"{cell:,}" if isinstance(cell, int) else str(cell) for cell in cells) + " |", flush=True
-        )
+        print(line, flush=True)
     return 1 if all_left else 0
 
 

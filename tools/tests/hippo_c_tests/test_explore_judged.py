@@ -1,5 +1,6 @@
 """What the engine of explore says is judged by hippo: another trace, another ending and outputs that are right are not shown."""
 import os
+import re
 import unittest
 import unittest.mock
 
@@ -9,6 +10,7 @@ from .test_native import NativeCase
 
 from hippo_c import confirming, exploring, running
 from hippo_c.engine_lines import Reader
+from hippo_c.judging import Judge
 from hippo_c.native import Engine
 from hippo_c.progress import Progress
 from hippo_c.session import Request, Session
@@ -105,26 +107,64 @@ class Judged(Case):
             with self.assertRaisesRegex(Trouble, "the trace of the engine is not that of hippo"):
                 exploring.check_engine(session, engine, numbers)
 
-    def outputs(self, change: tuple[str, str]) -> tuple[int, int]:
-        """How many outputs after a crash hippo shows, and how many it refuses, after a change of the engine's answer."""
+    def confirmed(self, line: str, session: Session, engine: Engine) -> confirming.Confirmed:
+        """What hippo confirms of a line of the engine."""
+        reader = Reader(engine.sites)
+        reader.take(line)
+        return confirming.Confirming(session).confirm(reader.found, [])
+
+    def test_no_word_of_a_failure_is_believed(self) -> None:
+        session = self.session("seals")
+        engine = Engine(session.program, self.folder)
+        said = self.command(*engine.words("replay", numbers_of("seals"), "--runs", "20000", "--crashes", "1")).stdout
+        line = next(line for line in said.splitlines() if line.startswith("failure "))
+        self.assertEqual(len(self.confirmed(line, session, engine).failures), 1)
+        nothing = ((r"cuts=\S+", "cuts=0"), (r"lost=\S*", "lost="), (r" at=\S*", " at="))
+        for changes in (
+            ((r"level=1", "level=2"),),
+            ((r" site=\d+", " site=0"),),
+            ((r" at=\d+", " at=0"),),
+            ((r"lost=\d+:", "lost=4294967296:"),),
+            ((r"lost=\S+", "lost="),),
+            ((r"told=0", "told=1"),),
+            ((r"input=\S*", "input=0"),),
+            ((r"cuts=(\d+)\S*", r"cuts=\1"), (r" at=\d+", " at=0")),
+            ((r"ending=\w+ status=\d+", "ending=stop status=0"), *nothing),
+            ((r"ending=\w+", "ending=cut"), (r"limit=\d+", "limit=20"), *nothing),
+        ):
+            changed = line
+            for old, new in changes:
+                changed = re.sub(old, new, changed)
+            self.assertNotEqual(changed, line)
+            found = self.confirmed(changed, session, engine)
+            self.assertEqual((found.failures, found.refused), ([], 1), changes)
+
+    def test_no_word_of_an_operation_is_believed(self) -> None:
         session = self.session("stale_pointer")
         engine = Engine(session.program, self.folder)
-        reader = Reader(engine.sites)
         ran = self.command(*engine.words("replay", numbers_of("stale_pointer"), "--runs", "30000", "--atomic", "1"))
-        for line in ran.stdout.splitlines():
-            if line.startswith("outputs "):
-                words = [change[1] if word.startswith(f"{change[0]}=") else word for word in line.split(" ")]
-                reader.take(" ".join(words))
-        self.assertTrue(reader.found.outputs)
-        confirmed = confirming.Confirming(session).confirm(reader.found, [])
-        return len(confirmed.outputs), confirmed.refused
-
-    def test_outputs_that_are_right_are_not_shown(self) -> None:
-        shown, refused = self.outputs(("", ""))
-        self.assertGreater(shown, 0)
-        self.assertEqual(refused, 0)
-        self.assertEqual(self.outputs(("skips", "skips=99,99,99")), (0, shown))
-        self.assertEqual(self.outputs(("cuts", "cuts=9999")), (0, shown))
+        line = next(line for line in ran.stdout.splitlines() if line.startswith("outputs acknowledged=0"))
+        self.assertEqual(len(self.confirmed(line, session, engine).outputs), 1)
+        for change in (
+            (r"skips=\d+", "skips=99"),
+            (r"skips=(\d+),\d+", r"skips=\1,99"),
+            (r"skips=(\d+,\d+),\d+", r"skips=\1,99"),
+            (r"cuts=\d+", "cuts=9999"),
+            (r"cuts=\S+", "cuts=0"),
+            (r"resumed=\S+", "resumed="),
+            (r"resumed=", "resumed=77,"),
+            (r"without=", "without=77,"),
+            (r" at=\d+", " at=0"),
+            (r"told=0", "told=1"),
+            (r"acknowledged=0 print=0", "acknowledged=1 print=99"),
+        ):
+            changed = re.sub(*change, line)
+            self.assertNotEqual(changed, line, change)
+            found = self.confirmed(changed, session, engine)
+            self.assertEqual((found.outputs, found.refused), ([], 1), change)
+        with unittest.mock.patch.object(Judge, "has_operation", return_value=True):
+            found = self.confirmed(re.sub(r"skips=\S+", "skips=99,99,99", line), session, engine)
+        self.assertEqual((found.outputs, found.refused), ([], 1))
 
 
 if __name__ == "__main__":

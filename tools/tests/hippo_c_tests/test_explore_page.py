@@ -1,5 +1,6 @@
 """The behaviours of crash points: as data, on the page, and what hippo does not confirm."""
 import json
+import re
 import unittest
 
 from .common import with_probe
@@ -56,14 +57,21 @@ class Behaviours(BugCase):
         ]
         failing = next(number for number, line in enumerate(lines) if " fails=1 " in line)
         lines = lines[max(failing - 3, 0) : failing + 1]
-        for change in ("", "ending=divzero"):
+        for change in (
+            ("", ""),
+            ("ending=unreachable", "ending=divzero"),
+            (" fails=1 ", " fails=0 "),
+            (r"(reads=\d+:\d+:)\w+", r"\g<1>77"),
+            (r" site=\d+", " site=0"),
+            ("told=0", "told=1"),
+        ):
             reader = Reader(engine.sites)
-            for number, line in enumerate(lines, 1):
-                reader.take(line.replace("ending=unreachable", change) if change and number == len(lines) else line)
+            for line in lines[:-1]:
+                reader.take(line)
+            reader.take(re.sub(*change, lines[-1]))
+            refused = int(bool(change[0]))
             confirmed = confirming.Confirming(session).confirm(reader.found, [])
-            self.assertEqual(
-                (confirmed.refused, len(confirmed.behaviours)), (int(bool(change)), len(lines) - int(bool(change)))
-            )
+            self.assertEqual((confirmed.refused, len(confirmed.behaviours)), (refused, len(lines) - refused), change)
 
     @unittest.skipUnless(BROWSER, "no browser is installed")
     def test_the_page_in_a_browser(self) -> None:

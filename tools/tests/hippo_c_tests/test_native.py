@@ -6,7 +6,7 @@ import unittest.mock
 from .common import EXAMPLES, TOOLS, Case
 
 from hippo_c import native, running
-from hippo_c.instrument import HOOK
+from hippo_c.hooked import HOOK
 from hippo_c.native import Engine
 from hippo_c.program import Program
 from hippo_c.trouble import Trouble
@@ -172,6 +172,35 @@ class Traces(NativeCase):
         self.assertEqual(ran.returncode, 0, ran.stderr)
         self.write("changed.trace", self.read("other.trace").replace("INPUT;12", "INPUT;13"))
         self.assertIn("differs", self.hippo("check", text, self.path("changed.trace")).stderr)
+
+
+# Each run stores far apart, in volatile and in persistent memory, on pages and lines that a later run reads.
+KEEPS = """#include <hippo.h>
+static long volatile_cells[8192];
+PERSISTENT long cells[8192];
+int main(void) {
+  for (long n; (n = read_i64()) >= 0;) {
+    if (volatile_cells[n] || cells[n]) __builtin_trap();
+    volatile_cells[n] = cells[n] = 1;
+  }
+  return 0;
+}
+"""
+
+
+class Restoring(NativeCase):
+    """Each run begins with the memory of the first one."""
+
+    def test_runs_one_after_another(self) -> None:
+        self.write("keeps.c", KEEPS)
+        engine = Engine(self.program(self.path("keeps.c")), self.folder)
+        lines = ["5 600 4000 -1", "8191 7 600 -1", "0 512 1024 -1", "5 600 4000 8191 0 -1"]
+        self.write("given", "".join(f"{line}\n" for line in lines * 3))
+        words = [engine.path, "replay", "--input", self.path("given"), "--runs", "1000000", "--crashes", "0"]
+        said = self.command(*words).stdout
+        self.assertNotIn("trapped", said)
+        self.write("given", "5 5 -1\n")
+        self.assertIn("trapped", self.command(*words).stdout)
 
 
 class Building(NativeCase):

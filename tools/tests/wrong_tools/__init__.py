@@ -7,6 +7,7 @@ from .edit import Edit
 from .of_builds import EDITS as OF_BUILDS
 from .of_cpp import EDITS as OF_CPP
 from .of_explore import EDITS as OF_EXPLORE
+from .of_explore_judged import EDITS as OF_EXPLORE_JUDGED
 from .of_hippo_c import EDITS as OF_HIPPO_C
 from .of_hippo_c_files import EDITS as OF_HIPPO_C_FILES
 from .of_launcher import EDITS as OF_LAUNCHER
@@ -25,6 +26,7 @@ EDITS: list[Edit] = [
     *OF_HIPPO_C_FILES,
     *OF_BUILDS,
     *OF_EXPLORE,
+    *OF_EXPLORE_JUDGED,
     *OF_LAUNCHER,
     *OF_PMDK,
 ]

@@ -11,8 +11,8 @@ from .crash_answers import LARGEST_IMAGE, meaning, with_image
 from .debuginfo import plain
 from .diagnostics import Printer, print_calls, print_merged
 from .hooked import last_name
-from .program_tables import PRINTS_BEFORE
 from .program import REGION_BASE, Program
+from .program_tables import PRINTS_BEFORE
 from .session import Session
 from .traces import pieces
 from .traps import find_trap

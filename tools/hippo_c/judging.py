@@ -3,19 +3,20 @@ where, nor which stores are lost, nor how many numbers were printed before."""
 from __future__ import annotations
 
 import copy
+import itertools
 from dataclasses import dataclass, replace
 from typing import TypeVar
 
 from . import images, operations, running
-from .debuginfo import plain
 from .crash_answers import with_image
+from .debuginfo import plain
 from .findings import Behaviour, Failure, Outputs, Refused, Report
 from .following import ENDED, PAST_INPUT, Crash, Following, count_of_header, image_of_trace
 from .hooked import last_name
-from .program_tables import PRINTS_BEFORE
 from .numbers import DEFAULT_TURNS
 from .pool_starts import Start
 from .program import REGION_BASE, Program, Site
+from .program_tables import PRINTS_BEFORE
 from .ran import Ran, ran
 from .session import Session
 from .traces import pieces, read_trace
@@ -136,19 +137,16 @@ class Judge:
     def sites_at(self, found: Failure | Outputs, followed: Followed, word: str) -> tuple[Site, ...]:
         """The site of the last entry of a kind before the last power cut, or of the last entry; nothing if there is none, or if the image is
         too large for a text."""
-        header, entry, kinds = count_of_header(followed.traces[-1]), followed.crashes[-1].entry, []
-        for number, text in enumerate(pieces(followed.traces[-1]), 1):
-            if number > entry:
-                break
-            if number > header:
-                kinds.append(text.startswith(word))
+        path = followed.traces[-1]
+        made = itertools.islice(pieces(path), count_of_header(path), followed.crashes[-1].entry)
+        kinds = [text.startswith(word) for text in made]
         if not kinds:
             return ()
         at = len(kinds) - 1 - kinds[::-1].index(True) if True in kinds else len(kinds) - 1
         if len(followed.traces) == 1:
             entries = self.ran(found).entries
         else:
-            program = followed.following.program(followed.traces[-1])
+            program = followed.following.program(path)
             if program is None:
                 return found.at[:1]
             entries = ran(program, self.size, found.numbers, at).entries

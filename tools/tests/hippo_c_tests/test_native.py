@@ -197,10 +197,9 @@ class Restoring(NativeCase):
         lines = ["5 600 4000 -1", "8191 7 600 -1", "0 512 1024 -1", "5 600 4000 8191 0 -1"]
         self.write("given", "".join(f"{line}\n" for line in lines * 3))
         words = [engine.path, "replay", "--input", self.path("given"), "--runs", "1000000", "--crashes", "0"]
-        said = self.command(*words).stdout
-        self.assertNotIn("trapped", said)
+        self.assertIn(" trapped=0 ", self.command(*words).stdout)
         self.write("given", "5 5 -1\n")
-        self.assertIn("trapped", self.command(*words).stdout)
+        self.assertIn(" trapped=1 ", self.command(*words).stdout)
 
 
 class Building(NativeCase):

@@ -6,6 +6,7 @@ import unittest
 from .common import Case
 from .explore_case import BUGS
 
+from hippo_c import running
 from hippo_c.engine_lines import Reader
 from hippo_c.findings import Failure
 from hippo_c.judging import Judge
@@ -128,6 +129,15 @@ class Judged(Case):
         self.assertTrue(judge.fails(judge.follow(one, one.limit), one.limit))
         self.assertIsNone(judge.lost_print(one))
         self.assertEqual(failure.level, 1)
+
+    def test_a_run_of_few_turns_is_not_endless(self) -> None:
+        session, failure, _ = self.found(0)
+        judge = Judge(session, False)
+        followed = judge.follow(failure, failure.limit)
+        self.assertTrue(judge.fails(followed, failure.limit))
+        followed.following.ended = running.Ended(running.CUT, "cut\n")
+        self.assertTrue(judge.fails(followed, failure.limit))
+        self.assertFalse(judge.fails(followed, 4_000_000))
 
     def test_another_number_of_prints_is_refused(self) -> None:
         session, failure, line = self.found(0)

@@ -57,7 +57,7 @@ EDITS = [
         JUDGING,
         "            return self.is_endless(followed, limit)\n",
         "            return True\n",
-        FAILURE,
+        f"{OPERATIONS}.Judged.test_a_run_of_few_turns_is_not_endless",
     ),
     Edit(
         "lost_stores_are_believed",

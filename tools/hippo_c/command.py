@@ -82,7 +82,7 @@ def read_words(words: list[str]) -> tuple[argparse.Namespace, list[str], list[st
     words, clang = split(words, "--")
     words, arguments = split(words, "--args")
     form = parser()
-    options = form.parse_args(with_levels(words))
+    options = parsed(form, with_levels(words))
     if not hasattr(options, "files"):
         return options, arguments, clang[1:]
     if options.files or options.build is not None:
@@ -95,11 +95,21 @@ def read_words(words: list[str]) -> tuple[argparse.Namespace, list[str], list[st
         )
     given, more_arguments, more_clang = config.Config(path).words(options.command, commands_of(form))
     place = words.index(options.command) + 1
-    options = form.parse_args(with_levels([*words[:place], *given, *words[place:]]))
+    options = parsed(form, with_levels([*words[:place], *given, *words[place:]]))
     builds.take_files(options)
     if not options.files:
         raise Trouble(f"{os.path.relpath(path)}: it names no {config.SOURCES}")
     return options, arguments or (["--args", *more_arguments] if more_arguments else []), more_clang + clang[1:]
+
+
+def parsed(form: argparse.ArgumentParser, words: list[str]) -> argparse.Namespace:
+    """The options; FILEs may stand before and after other words."""
+    options, rest = form.parse_known_args(words)
+    if any(word.startswith("-") for word in rest) or rest and not hasattr(options, "files"):
+        form.error(f'unrecognized arguments: {" ".join(rest)}')
+    if rest:
+        options.files = [*options.files, *rest]
+    return options
 
 
 def with_levels(words: list[str]) -> list[str]:

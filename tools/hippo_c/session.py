@@ -175,6 +175,8 @@ class Session:
     def lower(self) -> Lowered:
         """Makes the lowered text and reads it."""
         for file in self.request.files:
+            if os.path.isdir(file):
+                raise Trouble(f"{file}: this is a folder", "name its C files, or the folder of a build by -p")
             if not os.path.isfile(file):
                 raise Trouble(f"{file}: no such file")
             if not is_source(file) and not file.endswith(".ll") and not is_object(file):

@@ -97,18 +97,7 @@ class Lists(Project):
 
     def test_arguments_for_clang_before_the_mark(self) -> None:
         """`-I`, `-D`, `-U` and `-std=` need no `--`."""
-        words = [
-            "main.c",
-            "src/store.c",
-            "src/other.c",
-            "-I",
-            "include",
-            "-DSLOTS=4",
-            "-D",
-            "MORE=1",
-            "-UMORE",
-            "-std=gnu11",
-        ]
+        words = "main.c -I include src/store.c -DSLOTS=4 -D MORE=1 -UMORE -std=gnu11 src/other.c".split()
         self.assertIn(REPORT, self.hippo_c("check", *words, code=1).stdout)
 
     def test_errors_of_two_files_do_not_mix(self) -> None:
@@ -121,6 +110,8 @@ class Lists(Project):
 
     def test_bad_lists(self) -> None:
         """Each is a line, and nothing is written."""
+        self.refused("src: this is a folder", "check", "src")
+        self.refused("unrecognized arguments: --no-such", "check", "main.c", "--no-such", "src/store.c")
         self.refused("-p build: no compile_commands.json is there", "check", "-p", "build")
         self.write("build/compile_commands.json", '[\n{"file": "a.c"},\n]')
         for said in ("build/compile_commands.json:2: no command with a directory, a file, and its arguments",):

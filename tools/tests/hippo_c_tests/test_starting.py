@@ -87,6 +87,7 @@ class Watch(Case):
         """It answers again when a header changes and when a source does not compile, and an interrupt ends it."""
         process = self.started("--no-source", stdout=subprocess.PIPE, stderr=subprocess.STDOUT)
         assert process.stdout
+        self.addCleanup(process.stdout.close)
         number = process.stdout.fileno()
         self.assertIn("1 report in 1 group", self.read_until(number, WAITS))
         self.write("n.h", CLEAN)

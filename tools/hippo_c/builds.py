@@ -11,7 +11,7 @@ from lowering.languages import is_source
 
 from .trouble import Trouble
 
-LIST = "compile_commands.json"
+LIST, BUILD = "compile_commands.json", "-p"
 # Arguments for clang that need no `--` before them: the option, what it names, and what it is for.
 FOR_CLANG = (
     ("-I", "FOLDER", "for clang: a folder of headers"),
@@ -24,7 +24,7 @@ FOR_CLANG = (
 def add_options(command: argparse.ArgumentParser) -> None:
     """The options that say how the files are compiled."""
     command.add_argument(
-        "-p", dest="build", metavar="BUILD", help="check the files of BUILD/compile_commands.json, each as it says"
+        BUILD, dest="build", metavar="BUILD", help="check the files of BUILD/compile_commands.json, each as it says"
     )
     command.add_argument("--only", metavar="REGEX", help="of these files only those whose paths have a match")
     for option, metavar, what in FOR_CLANG:
@@ -54,7 +54,18 @@ def take_files(options: argparse.Namespace) -> None:
         *options.files,
         *(file for file in files_of(path, options.only) if os.path.realpath(file) not in given),
     ]
-    options.compile_commands = path
+    options.build = path
+
+
+def words_of(options: argparse.Namespace) -> list[str]:
+    """The words that name the build again, each in one word."""
+    only = [] if options.only is None else [f"--only={options.only}"]
+    return [] if options.build is None else [f"{BUILD}{options.build}", *only]
+
+
+def is_of_build(word: str) -> bool:
+    """Whether a word names the build, or chooses among its files."""
+    return word.startswith("--only=") or word.startswith(BUILD)
 
 
 def files_of(path: str, only: str | None) -> list[str]:

@@ -41,7 +41,8 @@ def inputs_of(options: argparse.Namespace) -> tuple[list[list[int]], list[Crashe
 
 def lower_words(options: argparse.Namespace) -> list[str]:
     """The options that are passed on to tools/lower."""
-    return [*([f"-O{options.level}"] if options.level else []), *lowering_options.words_of(options)]
+    level = [f"-O{options.level}"] if options.level else []
+    return [*level, *builds.words_of(options), *lowering_options.words_of(options)]
 
 
 def request_of(options: argparse.Namespace, clang: list[str], arguments: list[str]) -> Request:
@@ -64,7 +65,7 @@ def request_of(options: argparse.Namespace, clang: list[str], arguments: list[st
         arguments,
         boundaries.boundaries_of(options),
         crashed,
-        compile_commands=options.compile_commands or "",
+        compile_commands=options.compile_commands or options.build or "",
         shares_arguments=options.build is not None,
         is_strict=options.strict or options.command in STRICT,
         traps_unsupported=not options.strict and options.command in TRAPPING,

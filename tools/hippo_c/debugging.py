@@ -112,16 +112,19 @@ def write(path: str, content: bytes) -> None:
 
 def build(session: Session, program: str, more: list[str]) -> None:
     """Builds the files of a session, each by the compiler of its language, with the persistent globals at hippo's base."""
-    given = session.request.clang
-    files = [*session.request.files, os.path.join(running.TOOLS, "external_functions.c"), *more]
+    request = session.request
+    if request.objects.changed:
+        raise Trouble(request.objects.changed[0], "the native program is built from the sources")
+    own = [*request.sources(), *(file for file in request.files if file.endswith(".ll"))]
+    given = {file: request.clang_of(file) for file in own}
+    files = [*own, os.path.join(running.TOOLS, "external_functions.c"), *more]
     with tempfile.TemporaryDirectory(prefix="hippo-c-") as folder:
         objects = [os.path.join(folder, f"{number}.o") for number in range(len(files))]
         for file, target in zip(files, objects):
-            run(
-                [*clang_for(file), *NATIVE, f"-I{running.TOOLS}", *arguments_for(file, given), "-c", file, "-o", target]
-            )
+            words = given.get(file, arguments_for(file, request.clang))
+            run([*clang_for(file), *NATIVE, f"-I{running.TOOLS}", *words, "-c", file, "-o", target])
         last = next(filter(is_cpp, files), files[0])
-        run([*clang_for(last), *NATIVE, *arguments_for(last, given), *objects, "-o", program])
+        run([*clang_for(last), *NATIVE, *arguments_for(last, request.clang), *objects, "-o", program])
 
 
 def run(command: list[str]) -> None:

@@ -15,6 +15,7 @@ from lowering.languages import arguments_for, is_source
 from lowering.objects import is_object
 
 from . import marking, running, sources
+from .builds import is_of_build
 from .built_objects import Objects
 from .boundaries import Boundary, Check, Placing
 from .declared import Declarations, Declared
@@ -59,7 +60,7 @@ class Request:
 
     def words_for_lower(self) -> list[str]:
         """The words of `tools/lower`: those that are given, and what a command assumes that is not strict."""
-        words, arguments = list(self.lower), self.arguments
+        words, arguments = [word for word in self.lower if not is_of_build(word)], self.arguments
         if not self.is_strict and not self.says_output():
             words.append(IGNORE_OUTPUT)
         if not self.is_strict and not arguments and "--args-from-input" not in words:
@@ -67,7 +68,7 @@ class Request:
         if self.traps_unsupported:
             words.append("--trap-unsupported")
         if self.shares_arguments:
-            words.append("--share-arguments")
+            words += [f"--compile-commands={self.compile_commands}", "--share-arguments"]
         clang = ["--", *self.clang] if self.clang else []
         return ["--lines", *words, *self.files, *arguments, *clang]
 

@@ -4,6 +4,7 @@ from __future__ import annotations
 import json
 import os
 import re
+import shlex
 import subprocess
 import sys
 import unittest
@@ -94,6 +95,20 @@ class Lists(Project):
         self.write("hippo.toml", '[hippo]\np = "build"\n')
         ran = self.hippo_c("check", code=1, cwd=self.path("src"))
         self.assertIn(REPORT.replace("src/", "").replace("main.c", "../main.c"), ran.stdout)
+
+    def test_the_command_that_shows_a_failure_again(self) -> None:
+        """It names the build too, so that each file has its own arguments again."""
+        self.commands()
+        self.write("src/other.c", OTHER + "#if MORE != 9\n#error not its own arguments\n#endif\n")
+        text = MAIN.replace("  put(2", "  if (was_put()) __builtin_trap();\n  put(2")
+        self.write("driver.c", text)
+        self.write("include/store.h", HEADER + "int was_put(void);\n")
+        self.write("src/store.c", STORE + "int was_put(void) { return store.slots[2] != 0; }\n")
+        ran = self.hippo_c("crash", "-p", "build", "--only", "^src/", "driver.c", "--sample", "0", code=1)
+        again = self.group_in(r"see it again: (hippo-c [^\n]*)", ran.stdout)
+        self.assertIn("-pbuild/compile_commands.json", again)
+        self.hippo_c(*shlex.split(again)[1:], "--debug", "image", code=1)
+        self.assertTrue(os.access(self.path("image/program"), os.X_OK))
 
     def test_arguments_for_clang_before_the_mark(self) -> None:
         """`-I`, `-D`, `-U` and `-std=` need no `--`."""

@@ -8,6 +8,7 @@ from __future__ import annotations
 import itertools
 import os
 import re
+from functools import cached_property
 from typing import TYPE_CHECKING, NamedTuple
 
 from lowering.names import demangled, shortened
@@ -24,7 +25,9 @@ POINTERS = ("DW_TAG_pointer_type", "DW_TAG_reference_type", "DW_TAG_rvalue_refer
 CLASSES = ("DW_TAG_structure_type", "DW_TAG_class_type", "DW_TAG_union_type")
 NAMED_TYPE = re.compile(r'^(%(?:"[^"]*"|[-\w$.]+)) = type (.*)$', re.M | re.ASCII)
 ASSIGNED = re.compile(r"^  (%\S+) = (\w+) (.*)$", re.M)
-DECLARED = re.compile(r"#dbg_declare\(ptr (%\S+), !(\d+),")
+DECLARED = re.compile(r"#dbg_declare\(ptr (%\S+), !(\d+), !DIExpression\(\),")
+STORE = re.compile(r"^  store [^\n]*, ptr (%[^\s,]+), align \d+, !dbg !(\d+)$", re.M)
+LOCATION = re.compile(r"^!(\d+) = (?:distinct )?!DILocation\(line: (\d+), column: (\d+), scope", re.M)
 NAME = re.compile(r'\bname: "([^"]*)"')
 FLAGS = ("inbounds", "nuw", "nusw")
 # Of how many instructions an address may be the result, and how many places of an object are compared.
@@ -71,15 +74,31 @@ class StoredTypes:
 
     def looked_up(self, place: Place) -> Address | None:
         """The same, from the text."""
-        first = f"line: {place.line}, column: {place.column}, scope"
-        numbers = [number for number, fields in self.types.nodes.items() if fields.startswith(first)]
-        form = rf"^  store [^\n]*, ptr (%\S+), align \d+, !dbg !({'|'.join(numbers)})$"
         found = set()
-        for match in re.finditer(form, self.text, re.M) if numbers else []:
-            if self.file_of(match[2]) == os.path.basename(place.file):
-                start, end = self.text.rfind("\ndefine ", 0, match.start()), self.text.find("\n}", match.end())
-                found.add(self.followed(match[1], Body(self.text[start:end])))
+        for number in self.locations.get((place.line, place.column), []):
+            if number in self.stores and self.file_of(number) == os.path.basename(place.file):
+                found |= {self.followed(register, self.body(start)) for register, start in self.stores[number]}
         return found.pop() if len(found) == 1 else None
+
+    @cached_property
+    def locations(self) -> dict[tuple[int, int], list[str]]:
+        """The numbers of the metadata of places, by their lines and columns."""
+        found: dict[tuple[int, int], list[str]] = {}
+        for number, line, column in LOCATION.findall(self.text):
+            found.setdefault((int(line), int(column)), []).append(number)
+        return found
+
+    @cached_property
+    def stores(self) -> dict[str, list[tuple[str, int]]]:
+        """The stores by the numbers of their places: the register with the address, and where the store stands in the text."""
+        found: dict[str, list[tuple[str, int]]] = {}
+        for match in STORE.finditer(self.text):
+            found.setdefault(match[2], []).append((match[1], match.start()))
+        return found
+
+    def body(self, place: int) -> Body:
+        """The function around a place of the text."""
+        return Body(self.text[self.text.rfind("\ndefine ", 0, place) : self.text.find("\n}", place)])
 
     def file_of(self, number: str | None) -> str:
         """The name of the file of a scope, without its folder."""

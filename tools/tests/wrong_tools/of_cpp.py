@@ -88,7 +88,7 @@ EDITS = [
         "tools/runtime/cpp_memory.c",
         "    if (!handler && may_fail) return NULL;\n",
         "    if (!handler) return NULL;\n",
-        "test_cpp.Cpp.test_full_heap",
+        "test_cpp.Cpp.test_block_beyond_the_heap",
     ),
     Edit(
         "counter_stands_still",

@@ -3,7 +3,7 @@
 
 All are tried by one engine: each call goes through a function that leaves it out if its number is that of a global, whose value is
 changed in the engine. A bug counts as found if a store of the maps is reported that is not reported without the bug, and `hippo check`
-reports it too. It prints a table; the exit code is 1 if hippo does not confirm a report."""
+reports it too. Names are those of maps. It prints a table; the exit code is 1 if hippo does not confirm a report."""
 from __future__ import annotations
 
 import os
@@ -168,7 +168,8 @@ def main() -> int:
         setting = Setting(options.top, options.hippo, options.keep or scratch, None)
         text, calls = removable(text_of(Work(source_of(options), setting)))
         trying = Trying(text, setting)
-        for kind in sorted(set(FILES.values())):
+        calls = [one for one in calls if not options.names or MAP_NAMES[one.kind] in options.names]
+        for kind in sorted({one.kind for one in calls}):
             trying.search(0, Removed(0, "", kind).numbers(), SECONDS_WITHOUT)
         print("| " + " | ".join(HEADINGS) + " |\n|" + "---|" * len(HEADINGS), flush=True)
         found = confirmed = 0

@@ -83,7 +83,7 @@ def prepared(build: Build, source: str, folder: str) -> list[str]:
     for command in build.commands:
         run(list(command), folder)
     driver, heap = f"{HERE}/{build.package}.c", f"{HERE}/persistent_heap.c"
-    return [driver, heap, *build.files, "--ignore-output", "--single-thread", f"-I{HERE}", *build.clang]
+    return [driver, heap, *build.files, "--ignore-output", "--single-thread", "--file-calls", f"-I{HERE}", *build.clang]
 
 
 def native(build: Build, words: list[str], folder: str) -> str:

@@ -86,10 +86,10 @@ def program_of(options: Options) -> Program:
     linked = runtime.link(linked, text)
     text = read(linked)
     if undefined(text):
-        sources = [
-            (command_for(file, "-O1", options, TOOLS), facts.inline.get(file))
-            for file in options.files
-            if is_source(file)
+        sources = [  # a file that calls an inline function sees its body, and its module declares the function
+            (command_for(part, "-O1", options, TOOLS), facts.inline.get(part, undefined(read(file))))
+            for part, file in zip(parts, files)
+            if isinstance(part, str) and is_source(part)
         ]
         linked, inline = link_inline(linked, text, sources, options.level, folder)
         if inline:

@@ -11,16 +11,16 @@ INLINE = re.compile(r'^define available_externally [^@\n]*@("[^"\n]*"|[-A-Za-z$.
 
 
 def link_inline(
-    program: str, text: str, sources: list[tuple[list[str], set[str] | None]], level: str, folder: str
+    program: str, text: str, sources: list[tuple[list[str], set[str]]], level: str, folder: str
 ) -> tuple[str, set[str]]:
     """The name of a file with the program and the inline functions that it needs, and the names of these functions.
 
-    A source is the command that compiles a file, and the names of its inline functions if they are known. The commands run without
+    A source is the command that compiles a file, and names among which are those of its inline functions. The commands run without
     LLVM's passes, which would drop the bodies; the passes run afterwards.
     """
     needed, found = undefined(text), set()
     for number, (command, known) in enumerate(sources):
-        if known is not None and not needed & known:
+        if not needed & known:
             continue
         body, _ = without_throws(output_of([*command, "-w", "-Xclang", "-disable-llvm-passes", "-o", "-"]))
         names = {name.strip('"') for name in INLINE.findall(body)}

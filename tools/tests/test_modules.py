@@ -1,5 +1,6 @@
 """Modules of C files before they are linked: `--wrap`, and the folder of `--cache`."""
 import os
+import shutil
 import subprocess
 import tempfile
 import unittest
@@ -69,6 +70,17 @@ class Modules(ClangCase):
         for name in os.listdir(f"{self.folder}/kept"):
             self.write(f"kept/{name}", "damaged")
         self.assertEqual(self.answer(*words), 28)
+
+    def test_files_that_call_no_inline_function_are_compiled_once(self) -> None:
+        """For a body that no file defines, clang reads the one file again that calls the function."""
+        self.write("calls.c", "inline int twice(int n) { return n + n; }\nint get(int n) { return twice(n); }\n")
+        self.write("use.c", "int get(int n);\nint main(void) { return get(4); }\n")
+        self.write("clang-19", f'#!/bin/sh\necho "$@" >>log\nexec {shutil.which("clang-19")} "$@"\n')
+        os.chmod(f"{self.folder}/clang-19", 0o700)
+        self.assertEqual(self.answer("use.c", "calls.c", tools=f"{self.folder}:{os.environ['PATH']}"), 8)
+        with open(f"{self.folder}/log", encoding="utf-8") as file:
+            log = [line.split() for line in file]
+        self.assertEqual([sum(name in words for words in log) for name in ("use.c", "calls.c")], [1, 2])
 
     def test_a_header_that_hides_another_one(self) -> None:
         """No file that clang read has changed, but another file of that name now comes first."""

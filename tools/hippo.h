@@ -10,6 +10,18 @@
 // that is never read, and from splitting it.
 #define PERSISTENT __attribute__((section(".pm"), used))
 
+// A persistent global or a field that may be lost, with the reason as a string, before or after its name:
+//     PERSISTENT struct pool { long puts PERSISTENT_SCRATCH("recounted at start"); long count; } pool;
+// hippo-c check leaves out the reports of stores to it alone.
+#ifdef __cplusplus
+#define PERSISTENT_SCRATCH(reason)                                                                                     \
+    _Pragma("GCC error \"PERSISTENT_SCRATCH is for C; in C++ write the comment // hippo: volatile, REASON\"")
+#elif defined(__clang__)
+#define PERSISTENT_SCRATCH(reason) __attribute__((btf_decl_tag("hippo:volatile:" reason)))
+#else
+#define PERSISTENT_SCRATCH(reason)
+#endif
+
 #ifdef __cplusplus
 extern "C" {
 #endif

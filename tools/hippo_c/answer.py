@@ -2,7 +2,9 @@
 from typing import Any
 
 from . import about
+from .coverage import Coverage, united
 from .diagnostics import helper_of, message_of, object_of, warnings_of
+from .by_file import files_of
 from .fixes import Suggestion
 from .letters import shown
 from .places import Place
@@ -26,13 +28,19 @@ def answer_of(session: Session, results: list[Checked], found: Suggestions | Non
         "program": about.program(),
         "files": session.request.files,
         "clang": session.request.clang,
+        "suppressions": [
+            {"place": place_of(place), "message": message}
+            for place, message in (session.suppressions.said if session.suppressions else ())
+        ],
+        "lines": (lines := united(checked.coverage for checked in results)) and lines_of(lines),
+        "groups_of_files": files_of(session, results),
         "inputs": [input_of(session, checked, found) for checked in results],
     }
 
 
 def input_of(session: Session, checked: Checked, found: Suggestions | None) -> dict[str, Any]:
     """What was found on one input."""
-    trace, lines = checked.trace, checked.lines_ran
+    trace, coverage = checked.trace, checked.coverage
     return {
         "numbers": checked.numbers,
         "ended": checked.ended,
@@ -41,7 +49,7 @@ def input_of(session: Session, checked: Checked, found: Suggestions | None) -> d
         "asserts": trace.asserts,
         "flushes": trace.flushes,
         "fences": trace.fences,
-        "lines": lines and {"ran": lines[0], "all": lines[1], "whole": lines[2]},
+        "lines": coverage and lines_of(coverage),
         "left_out": {"groups": checked.left_out[0], "reports": checked.left_out[1]},
         "warnings": warnings_of(session, checked),
         "trap": trap_of(session, checked),
@@ -54,11 +62,27 @@ def input_of(session: Session, checked: Checked, found: Suggestions | None) -> d
             }
             for declared in checked.declared
         ],
+        "suppressed": [
+            {
+                "place": place_of(item.by.place),
+                "reason": shown(item.by.reason),
+                "by": item.by.kind,
+                "reports": item.reports,
+                "groups": [declared_group(session, checked, group) for group in item.groups],
+            }
+            for item in checked.suppressed
+        ],
     }
 
 
+def lines_of(coverage: Coverage) -> dict[str, Any]:
+    """How many lines ran, of how many, and those that did not, by files."""
+    ran, lines, whole = coverage.counts
+    return {"ran": ran, "all": lines, "whole": whole, "not_run": coverage.missed()}
+
+
 def declared_group(session: Session, checked: Checked, group: Group) -> dict[str, Any]:
-    """A group of bytes that are declared volatile, which has neither a fingerprint nor a suggestion."""
+    """A group that the program leaves out, which has neither a fingerprint nor a suggestion."""
     return {
         key: value
         for key, value in group_of(session, checked, group, None).items()
@@ -83,18 +107,21 @@ def group_of(session: Session, checked: Checked, group: Group, found: Suggestion
     """A group of equal reports; numbers of entries are those of the first one."""
     name, size = object_of(session, checked, group)
     places = session.places.along(group.path)
-    flush = session.places.first((group.flush,)) if group.flush else None
+    flush = session.helpers.place((group.flush,)) if group.flush else None
     suggestion = found.of(group) if found else None
     return {
         "kind": group.missing,
         "reports": group.count,
         "message": shown(message_of(session, checked, group)),
         "object": name,
+        "expression": found.stored_by(group)[0] if found else "",
+        "type": found.stored_by(group)[1] if found else "",
         "size": size,
         "by": helper_of(session, group).removeprefix(" by '").removesuffix("'"),
         "store": place_of(places[0] if places else None),
         "calls": [place_of(place) for place in places[1:]],
         "flush": place_of(flush),
+        "flush_note": flush_note_of(checked, group),
         "check": place_of(session.check_place(checked, group.check)),
         "at_end": group.check == checked.trace.entries,
         "entry": group.entry,
@@ -103,6 +130,18 @@ def group_of(session: Session, checked: Checked, group: Group, found: Suggestion
         "address": checked.trace.wanted[group.entry][0],
         "sites": list(map(show_site, group.path)),
         "suggestion": suggestion and suggestion_of(suggestion, not session.request.expand),
+    }
+
+
+def flush_note_of(checked: Checked, group: Group) -> dict[str, Any] | None:
+    """What the first flush after the store does wrong."""
+    note = checked.flush_notes.get(group.entry)
+    return note and {
+        "place": place_of(note.place),
+        "message": shown(note.message),
+        "covered": note.covered,
+        "of": note.object.size,
+        "object": note.object.name,
     }
 
 

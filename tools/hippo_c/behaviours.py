@@ -9,7 +9,7 @@ from .diagnostics import amount, images_in_words
 from .explore_answers import ending_in_words
 from .findings import Behaviour
 from .following import Crash
-from .page import escaped
+from .page_text import escaped
 from .program import REGION_BASE
 from .session import Session
 

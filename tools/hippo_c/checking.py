@@ -2,11 +2,13 @@
 import argparse
 import json
 import os
+import re
 import sys
 
-from . import baseline, depfile, fingerprints, running, watching
+from . import baseline, depfile, fingerprints, flush_notes, running, watching
 from .answer import answer_of
-from .diagnostics import Printer, amount, print_checked, print_declared, print_trap
+from .coverage import print_missed, united
+from .diagnostics import Printer, amount, print_checked, print_left_out, print_trap
 from .history import histories_of
 from .numbers import DEFAULT_TURNS, from_to
 from .page import page_of
@@ -33,6 +35,8 @@ def add_options(command: argparse.ArgumentParser) -> None:
     )
     command.add_argument("--verify-fix", action="store_true", help="check the C again with the suggestions applied")
     command.add_argument("--apply", action="store_true", help="edit the C files by the suggestions")
+    command.add_argument("--flush-with", metavar="FUNCTION", help="suggest this function of yours for flushes")
+    command.add_argument("--fence-with", metavar="FUNCTION", help="suggest this function or macro of yours for fences")
     command.add_argument("--json", metavar="FILE", help="write the answer as JSON, - for standard output")
     command.add_argument("--sarif", metavar="FILE", help="write the answer as SARIF 2.1.0")
     command.add_argument("--html", metavar="FILE", help="write the answer as a page for a browser")
@@ -41,9 +45,10 @@ def add_options(command: argparse.ArgumentParser) -> None:
     command.add_argument(
         "--declared",
         action="store_true",
-        help="show the reports of bytes that the program declares volatile to pmemcheck",
+        help="show the reports that the program leaves out: bytes declared volatile to pmemcheck, and suppressions",
     )
     command.add_argument("--no-coverage", action="store_true", help="do not count the lines of C that ran")
+    command.add_argument("--uncovered", action="store_true", help="list the lines of C that no input ran")
     depfile.add_option(command)
     watching.add_option(command)
 
@@ -62,42 +67,61 @@ def printer_of(options: argparse.Namespace) -> Printer:
 def check(options: argparse.Namespace, request: Request, progress: Progress) -> int:
     """Checks the program on each input: 0 if nothing was found, 1 if something was, 2 if a run did not end."""
     printer = printer_of(options)
-    if options.expand_macros and (options.diff or options.verify_fix or options.apply):
-        raise Trouble("--diff, --verify-fix and --apply edit the files as they are: leave out --expand-macros")
-    depfile.check_word(options)
+    refuse_words(options)
     known = baseline.read(options.baseline) if options.baseline else set()
-    request.wants_declared = True
+    request.wants_declared = request.heeds_suppressions = True
+    request.flush_with, request.fence_with = options.flush_with or "", options.fence_with or ""
     with Session(request, progress) as session:
         depfile.write_depfile(options, session)
         results = []
         for number, numbers in enumerate(request.inputs, 1):
             name = f"program.{number}.trace" if len(request.inputs) > 1 else "program.trace"
             results.append(session.check(numbers, name, not options.no_coverage))
+        if session.suppressions:
+            session.suppressions.settle(results)
+        flush_notes.give(session, results)
         wants_fix = options.fix or options.diff or options.verify_fix or options.html or options.sarif or options.apply
         if options.baseline or options.write_baseline or options.json or options.sarif or options.html:
             fingerprints.give(session, results)
         if options.write_baseline:
             baseline.write(options.write_baseline, session, results)
         left_out = baseline.leave_out(results, known)
-        wants_notes = options.fix or options.verify_fix or options.apply
         found = suggestions_for(session, results) if wants_fix else None
         write_forms(options, session, results, found, printer)
         progress.wipe()
         if "-" not in (options.diff, options.json, options.sarif):
-            print_all(printer, session, results, options, found if wants_notes else None)
-            if len(results) > 1:
-                print_together(printer, session, results)
-        if found and options.diff:
-            write_diff(found, options.diff, printer)
-        if found and options.verify_fix:
-            after = verify(session, results, found)
-            progress.wipe()
-            print_verified(printer, after, found)
-        if found and options.apply:
-            printer.line(f'edited: {amount(found.additions.apply(), "file")}')
+            print_all(printer, session, results, options, found)
+        if found:
+            use_edits(options, session, results, found, printer)
         if options.baseline and "-" not in (options.diff, options.json, options.sarif):
             baseline.print_left_out(printer, options.baseline, left_out, results)
     return code_of(results)
+
+
+def refuse_words(options: argparse.Namespace) -> None:
+    """Refuses words that do not fit together."""
+    if options.expand_macros and (options.diff or options.verify_fix or options.apply):
+        raise Trouble("--diff, --verify-fix and --apply edit the files as they are: leave out --expand-macros")
+    if options.uncovered and options.no_coverage:
+        raise Trouble("--uncovered lists lines that did not run: leave out --no-coverage")
+    for name in (options.flush_with, options.fence_with):
+        if name is not None and not re.fullmatch(r"[A-Za-z_]\w*", name, re.ASCII):
+            raise Trouble(f"--flush-with and --fence-with take the name of a function, not '{name}'")
+    depfile.check_word(options)
+
+
+def use_edits(
+    options: argparse.Namespace, session: Session, results: list[Checked], found: Suggestions, printer: Printer
+) -> None:
+    """Writes the edits of the suggestions as a diff, checks the program with them, or makes them."""
+    if options.diff:
+        write_diff(found, options.diff, printer)
+    if options.verify_fix:
+        after = verify(session, results, found)
+        session.progress.wipe()
+        print_verified(printer, after, found)
+    if options.apply:
+        printer.line(f'edited: {amount(found.additions.apply(), "file")}')
 
 
 def write_forms(
@@ -112,7 +136,11 @@ def write_forms(
     if options.sarif:
         write_text(options.sarif, json.dumps(sarif_of(answer), indent=2) + "\n", printer)
     if options.html:
-        write_text(options.html, page_of(answer, histories_of(session, results)), printer)
+        write_text(
+            options.html,
+            page_of(answer, histories_of(session, results), diff=found.additions.diff() if found else ""),
+            printer,
+        )
 
 
 def write_text(path: str, text: str, printer: Printer) -> None:
@@ -127,14 +155,21 @@ def write_text(path: str, text: str, printer: Printer) -> None:
 def print_all(
     printer: Printer, session: Session, results: list[Checked], options: argparse.Namespace, found: Suggestions | None
 ) -> None:
-    """Prints the results of all inputs."""
+    """Prints what is wrong with suppressions, the lines that did not run on demand, and the results of all inputs."""
+    for place, what in session.suppressions.said if session.suppressions else ():
+        printer.diagnostic(place, "warning", what, True)
+    if options.uncovered:
+        print_missed(printer, united(checked.coverage for checked in results))
+    wants_notes = options.fix or options.verify_fix or options.apply
     for number, checked in enumerate(results, 1):
         if len(results) > 1:
             printer.line(f'input {number}: {" ".join(map(str, checked.numbers))}'.rstrip())
-        notes = (lambda group: print_suggestion(printer, found.of(group))) if found else None
+        notes = (lambda group: print_suggestion(printer, found.of(group))) if found and wants_notes else None
         if options.declared:
-            print_declared(printer, session, checked)
+            print_left_out(printer, session, checked)
         print_checked(printer, session, checked, options.groups, notes)
+    if len(results) > 1:
+        print_together(printer, session, results)
     if note := output_note(session):
         printer.diagnostic(None, "note", note)
 

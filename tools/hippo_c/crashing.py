@@ -56,6 +56,9 @@ def add_options(command: argparse.ArgumentParser) -> None:
     add_recoveries(command)
     add_next_cuts(command)
     debugging.add_options(command)
+    command.add_argument(
+        "--html", metavar="FILE", help="write a page: what a check reports, what power cuts show, and what to add"
+    )
 
 
 def add_images(command: argparse.ArgumentParser) -> None:
@@ -141,6 +144,7 @@ def crash(options: argparse.Namespace, request: Request, progress: Progress) -> 
     if len(request.inputs) > 1:
         raise Trouble("crash takes one input")
     debugging.prepare(options)
+    request.heeds_suppressions = bool(options.html)
     printer = printer_of(options)
     with Session(request, progress) as session:
         path, ended = session.record(request.inputs[0], "program.trace")
@@ -155,6 +159,7 @@ def crash(options: argparse.Namespace, request: Request, progress: Progress) -> 
         chosen = (options.sample, options.images, options.picks, options.entries)
         if chosen == (None,) * 4 and recorded.startswith("stop"):
             return try_images(options, session, printer)
+        refuse_page(options)
         choice, points = points_to_try(options, path, first, last)
         fails = failing_test(recorded, options.status)
         found = explore(session, path, points, fails, options)
@@ -183,6 +188,15 @@ def points_to_try(
         return Choice(first, last, 0, 0, entries=1), iter([[single_point(options, first, last)]])
     choice = Choice(first, last, options.seed, 2 if options.sample is None else options.sample, options.images)
     return choice, images.points_of(path, choice, options.time is not None)
+
+
+def refuse_page(options: argparse.Namespace) -> None:
+    """Refuses a page where hippo alone makes the runs."""
+    if options.html:
+        raise Trouble(
+            "--html shows all images of a run that returns from main",
+            "leave out --entries, --pick, --sample and --images",
+        )
 
 
 def entries_of(text: str | None) -> tuple[int, int]:

@@ -6,6 +6,7 @@ from typing import TextIO
 
 from lowering.names import shortened
 
+from .by_file import print_files
 from .letters import shown, shown_line
 from .places import Place
 from .program import show_site
@@ -136,19 +137,23 @@ def print_group(printer: Printer, session: Session, checked: Checked, group: Gro
     printer.diagnostic(place, "warning", message_of(session, checked, group), True, show_site(group.path[0]))
     print_merged(printer, place)
     if group.flush:
-        flushed = session.places.along((group.flush,))
-        printer.diagnostic(
-            flushed[0] if flushed else None, "note", "no fence follows this flush", site=show_site(group.flush)
-        )
+        flushed = session.helpers.place((group.flush,))
+        printer.diagnostic(flushed, "note", "no fence follows this flush", site=show_site(group.flush))
+    if note := checked.flush_notes.get(group.entry):
+        printer.diagnostic(note.place, "note", note.message)
     print_calls(printer, places)
 
 
-def print_declared(printer: Printer, session: Session, checked: Checked) -> None:
-    """The groups of bytes that the program declares volatile, each with the place of the request."""
+def print_left_out(printer: Printer, session: Session, checked: Checked) -> None:
+    """The groups that the program leaves out, each with the place of the request to pmemcheck or of the suppression."""
     for declared in checked.declared:
         for group in declared.groups:
             print_group(printer, session, checked, group)
             printer.diagnostic(declared.place, "note", "the program declares these bytes volatile to pmemcheck here")
+    for suppressed in checked.suppressed:
+        for group in suppressed.groups:
+            print_group(printer, session, checked, group)
+            printer.diagnostic(suppressed.by.place, "note", f"suppressed here: {suppressed.by.reason}")
 
 
 def declared_line(checked: Checked) -> str:
@@ -213,12 +218,22 @@ def warnings_of(session: Session, checked: Checked) -> list[str]:
     return found
 
 
+def reported(checked: Checked) -> str:
+    """How many reports there are, and how many a suppression in the source leaves out."""
+    text = f'{amount(checked.reports, "report")} in {amount(len(checked.groups), "group")}'
+    if not checked.suppressed:
+        return text
+    reports = sum(item.reports for item in checked.suppressed)
+    groups = sum(len(item.groups) for item in checked.suppressed)
+    return f'{text}, {amount(reports, "report")} in {amount(groups, "group")} suppressed in the source'
+
+
 def counts_of(checked: Checked) -> str:
     """What ran."""
     trace = checked.trace
     text = f'{amount(trace.stores, "store")} to persistent memory, {amount(trace.asserts, "assert")}'
-    if checked.lines_ran and checked.lines_ran[1]:
-        ran, lines, whole = checked.lines_ran
+    if checked.coverage and checked.coverage.all:
+        ran, lines, whole = checked.coverage.counts
         text += f', {"" if whole else "at least "}{ran:,} of {amount(lines, "line")} of C ran'
     return text
 
@@ -242,6 +257,7 @@ def print_checked(
         printer.diagnostic(
             None, "error", f"the run was cut after {checked.trace.limit:,} turns; --limit N gives it more"
         )
+    print_files(printer, session, checked)
     if checked.declared:
         printer.line(declared_line(checked))
-    printer.line(f'{amount(checked.reports, "report")} in {amount(len(checked.groups), "group")}; {counts_of(checked)}')
+    printer.line(f"{reported(checked)}; {counts_of(checked)}")

@@ -1,6 +1,7 @@
 """Which instruction made each entry of a trace: a marked copy of the program prints a number at each instruction that makes entries."""
 import re
 from collections.abc import Iterator
+from typing import NamedTuple
 
 from lowering.externs import FENCES, LINE_FLUSHES
 
@@ -9,6 +10,7 @@ from .places import Places
 from .program import REGION_BASE, Instruction, Program, Site
 from .traces import pieces
 
+RANGE_FLUSHES = ("pmem_flush", "pmem_persist")
 HEADER_AND_END = ("START", "REGISTER", "INPUT", "IMAGE", "STOP", "TRAP", "CUT")
 
 
@@ -25,64 +27,79 @@ def operands(text: str) -> list[str]:
 
 
 def printed(instruction: Instruction) -> list[str]:
-    """The operands that decide whether an instruction makes an entry; none if it always or never makes one."""
+    """The address and the size that an instruction stores to or flushes, as far as it has them; they decide whether it makes an entry."""
     if instruction.text.startswith("store "):
         return [operands(instruction.text)[1]]
     callee = instruction.callee
     if callee in LINE_FLUSHES:
         return [operands(instruction.text)[0]]
-    if callee == "pmem_flush":
+    if callee in RANGE_FLUSHES:
         return operands(instruction.text)[:2]
     return []
 
 
 def makes_entry(instruction: Instruction, values: list[int], size: int) -> bool:
     """Whether an instruction with these operands makes an entry, where the region has this size."""
-    if not values:
+    if not values or instruction.callee in FENCES:
         return True
     in_region = REGION_BASE <= values[0] < REGION_BASE + size
     return in_region and (len(values) < 2 or values[1] != 0)
 
 
-def paths_of_entries(places: Places, numbers: list[int], path: str) -> dict[int, tuple[Site, ...]]:
+class Made(NamedTuple):
+    """What made an entry: the sites from the instruction outwards, and the address and the size that it was given."""
+
+    sites: tuple[Site, ...]
+    values: tuple[int, ...]
+
+
+def paths_of_entries(
+    places: Places, numbers: list[int], path: str, helpers: frozenset[str] = frozenset()
+) -> dict[int, tuple[Site, ...]]:
     """The site of each entry after the header, up to the first that does not fit the marked copy.
 
-    After a site in a function that is not the user's comes the site of the user's call that ran it."""
+    After a site in a function that is not the user's, or in a helper, come the sites of the calls that ran it, from the user's code on.
+    """
+    return {number: made.sites for number, made in entries_made(places, numbers, path, helpers)}
+
+
+def entries_made(places: Places, numbers: list[int], path: str, helpers: frozenset[str]) -> Iterator[tuple[int, Made]]:
+    """What made each entry, in the order of the trace."""
     program = places.program
     made = [
         (site, instruction)
         for site, instruction in program.sites()
-        if printed(instruction) or instruction.callee in (*FENCES, "pm_assert") or is_way_out(places, site, instruction)
+        if printed(instruction)
+        or instruction.callee in (*FENCES, "pm_assert")
+        or is_way_out(places, site, instruction, helpers)
     ]
     marks: dict[Site, tuple[list[str], list[str]]] = {}
     for number, (site, instruction) in enumerate(made):
-        after = [str(-1 - number)] if is_way_out(places, site, instruction) else []
+        after = [str(-1 - number)] if is_way_out(places, site, instruction, helpers) else []
         marks[site] = ([str(number), *printed(instruction)], after)
     text = marked_text(program, lambda site, _: marks.get(site, ([], [])))
-    found: dict[int, tuple[Site, ...]] = {}
     with marked_run(text, numbers) as run:
         ran = sites_in_order(made, run.marks(), program)
         for number, entry in enumerate(pieces(path), 1):
             if entry.startswith(HEADER_AND_END):
                 continue
-            sites, value = next(ran, ((), 0))
-            if not sites or entry.startswith("STORE") and int(entry.split(";")[1], 16) != value:
+            found = next(ran, None)
+            if found is None or entry.startswith("STORE") and int(entry.split(";")[1], 16) != found.values[0]:
                 break
-            found[number] = sites
-    return found
+            yield number, found
 
 
-def is_way_out(places: Places, site: Site, instruction: Instruction) -> bool:
-    """Whether an instruction is a call from the user's functions to one that is not the user's."""
+def is_way_out(places: Places, site: Site, instruction: Instruction, helpers: frozenset[str]) -> bool:
+    """Whether an instruction is a call from the user's functions to one that is not the user's, or a call of a helper."""
     functions = places.program.functions
     callee = functions.get(instruction.callee)
-    return callee is not None and not places.is_users_function(callee) and places.is_users_function(functions[site[0]])
+    if callee is None or not places.is_users_function(functions[site[0]]):
+        return False
+    return callee.name in helpers or not places.is_users_function(callee)
 
 
-def sites_in_order(
-    made: list[tuple[Site, Instruction]], marks: Iterator[int], program: Program
-) -> Iterator[tuple[tuple[Site, ...], int]]:
-    """The sites of the entries with the first operand of each, from the marks of a run."""
+def sites_in_order(made: list[tuple[Site, Instruction]], marks: Iterator[int], program: Program) -> Iterator[Made]:
+    """What made the entries, from the marks of a run."""
     size = program.region_size()
     outside: list[Site] = []
     for mark in marks:
@@ -95,4 +112,4 @@ def sites_in_order(
             continue
         values = [next(marks, 0) for _ in printed(instruction)]
         if makes_entry(instruction, values, size):
-            yield (site, *outside[-1:]), values[0] if values else 0
+            yield Made((site, *reversed(outside)), tuple(values))

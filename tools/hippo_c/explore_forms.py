@@ -17,7 +17,8 @@ from .explore_answers import ending_in_words, what_differs, what_fails
 from .findings import Found, Report
 from .following import Crash
 from .history import histories_of
-from .page import escaped, page_of
+from .page import page_of
+from .page_text import escaped, where
 from .program import Site
 from .sarif import RULES, location_of, sarif_of
 from .session import Checked, Session
@@ -40,25 +41,25 @@ def write_forms(
         return
     results = results_of(confirmed)
     fingerprints.give(session, results)
-    answer = {
-        **answer_of(session, results, None),
+    answer = {**answer_of(session, results, None), **of_power_cuts(session, found, confirmed, again)}
+    if options.json:
+        write_text(options.json, json.dumps(answer, indent=2) + "\n", printer)
+    if options.sarif:
+        write_text(options.sarif, json.dumps(sarif_with_failures(answer), indent=2) + "\n", printer)
+    if options.html:
+        page = page_of(answer, histories_of(session, results), failures_in_html(answer))
+        write_text(options.html, page, printer)
+
+
+def of_power_cuts(session: Session, found: Found, confirmed: Confirmed, again: Again) -> dict[str, Any]:
+    """What power cuts showed, as plain data."""
+    return {
         "failures": [failure_of(session, shown, again) for shown in confirmed.failures],
         "outputs": [outputs_of(session, shown, again) for shown in confirmed.outputs],
         "after_cuts": [after_cut_of(session, report, crashes, again) for report, crashes in confirmed.after_crashes],
         "crash_points": crash_points_of(session, confirmed),
         "covered": covered(session, found, confirmed),
     }
-    if options.json:
-        write_text(options.json, json.dumps(answer, indent=2) + "\n", printer)
-    if options.sarif:
-        write_text(options.sarif, json.dumps(sarif_with_failures(answer), indent=2) + "\n", printer)
-    if options.html:
-        page = page_of(answer, histories_of(session, results))
-        write_text(
-            options.html,
-            page.replace('<div class="panes">', f'{failures_in_html(answer)}<div class="panes">', 1),
-            printer,
-        )
 
 
 def results_of(confirmed: Confirmed) -> list[Checked]:
@@ -231,8 +232,3 @@ def failures_in_html(answer: dict[str, Any]) -> str:
 def row(finding: dict[str, Any], text: str) -> str:
     """A finding after a power cut as an item of the list."""
     return f'<li><b>{escaped(where(finding["place"]))}</b>: {escaped(text)}<br><code>{escaped(finding["again"])}</code></li>'
-
-
-def where(place: dict[str, Any] | None) -> str:
-    """A place as FILE:LINE."""
-    return f'{place["file"]}:{place["line"]}' if place else "a place that is not in the C"

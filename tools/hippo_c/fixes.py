@@ -4,19 +4,20 @@ A suggestion is not proved. The repaired text is proved; `--verify-fix` checks t
 from collections.abc import Sequence
 from dataclasses import dataclass
 
-from lowering.externs import LIBPMEM, LINE_FLUSHES
 from lowering.names import shortened
 
 from .copies import Copies
 from .edits import Additions
+from .flushing import Flushing
+from .loops import range_after
 from .objects import assigned_object, is_constructor, is_of_atomics, made_object, returned_object, stored_object
-from .parsing import parsed
 from .places import SYSTEM, Place
 from .plan import Insertion, Repair
 from .program import Site
 from .reports import Group
 from .session import Session
 from .syntax import Statement, Tree, Unclear, address_of
+from .trees import tree_of
 
 
 @dataclass
@@ -35,9 +36,7 @@ class Fixer:
 
     def __init__(self, session: Session, repair: Repair) -> None:
         self.session, self.repair, self.places = session, repair, session.places
-        callees = {instruction.callee for _, instruction in session.program.sites()}
-        self.uses_libpmem = bool(callees & LIBPMEM) and not callees & LINE_FLUSHES
-        self.fence = "pmem_drain();" if self.uses_libpmem else "_mm_sfence();"
+        self.words = Flushing(session)
         self.put_in: dict[Site, list[Insertion]] = {}
         for item in repair.insertions:
             if not item.clone:
@@ -48,6 +47,8 @@ class Fixer:
         if group.kind == "fence" and group.flush:
             return self.after_flush((group.flush,))
         paths = (group.path, *group.more)
+        if group.count > 1 and (after_loop := self.after_loop(group)):
+            return after_loop
         found = [suggestion for path in paths if (suggestion := self.for_path(path))]
         return max(found, key=lambda suggestion: len(suggestion.statements)) if found else None
 
@@ -81,15 +82,15 @@ class Fixer:
         place, tree, statement, offset = self.located(path[last + 1 :])
         if tree is None or statement is None:
             return None
-        fences = [self.fence] if fenced else []
+        fences = [self.fence(tree, statement)] if fenced else []
         if found := made_object(tree, statement):
-            text = f"pmem_flush({found[0]}, {found[1]});"
+            text = self.words.range(tree.file, statement.begin, *found)
             additions, reason = self.added(place, tree, statement, [text], fences)
             shown = " ".join([text, *fences])
             return Suggestion(
                 place, f"add '{shown}' after this statement, which makes the object", [text, *fences], additions, reason
             )
-        statements = ["pmem_flush(made, sizeof *made);", *fences]
+        statements = [self.words.range(tree.file, statement.begin, "made", "sizeof *made"), *fences]
         if returned := returned_object(tree, offset, statements):
             additions = Additions()
             additions.replace(tree, returned[0])
@@ -98,7 +99,10 @@ class Fixer:
 
     def located(self, path: Sequence[Site]) -> tuple[Place | None, Tree | None, Statement | None, int]:
         """The innermost place of the user's on a path, and the statement that stands there."""
-        place = self.places.first(path)
+        return self.standing(self.places.first(path))
+
+    def standing(self, place: Place | None) -> tuple[Place | None, Tree | None, Statement | None, int]:
+        """A place with the statement that stands there."""
         tree = self.tree_of(place) if place and place.exact else None
         if place is None or tree is None:
             return place, None, None, -1
@@ -107,23 +111,35 @@ class Fixer:
 
     def tree_of(self, place: Place) -> Tree | None:
         """The definition of the function that a place is in."""
-        session = self.session
-        units = session.request.sources()
-        units.sort(key=lambda file: file != place.file)
-        for unit in units:
-            for tree in parsed(unit, (f"-I{session.names.include}", *session.request.clang_of(unit))).named(
-                place.function
-            ):
-                offset = tree.offset(place.line, place.column)
-                if tree.file == place.file and tree.function.begin <= offset < tree.function.end:
-                    return tree
-        return None
+        return tree_of(self.session, place)
 
     def after_flush(self, path: Sequence[Site]) -> Suggestion:
         """A fence after a flush that no fence follows."""
-        place, tree, statement, _ = self.located(path)
-        additions, reason = self.added(place, tree, statement, [], [self.fence])
-        return Suggestion(place, f"add '{self.fence}' after this flush", [self.fence], additions, reason)
+        place, tree, statement, _ = self.standing(self.words.helpers.place(path))
+        fence = self.fence(tree, statement)
+        additions, reason = self.added(place, tree, statement, [], [fence])
+        return Suggestion(place, f"add '{fence}' after this flush", [fence], additions, reason)
+
+    def after_loop(self, group: Group) -> Suggestion | None:
+        """One flush of the range that a loop stores, after the loop, in place of a flush after each store; nothing if it is not known."""
+        items = self.put_in.get(group.path[0])
+        place, tree, statement, offset = self.located(group.path[:1])
+        if not items or place is None or tree is None or statement is None or not self.places.of(group.path[0]):
+            return None
+        stored = range_after(tree, offset)
+        if stored is None or not self.words.has_range(tree.file, statement.begin):
+            return None
+        fences = [self.fence(tree, stored.loop)] if any(item.is_fence for item in items) else []
+        text = self.words.range(tree.file, stored.loop.begin, stored.address, stored.size)
+        text = f"if ({stored.condition}) {text}" if stored.condition else text
+        additions = Additions()
+        additions.add(tree, stored.loop, [text], fences)
+        shown = " ".join([text, *fences])
+        return Suggestion(place, f"add '{shown}' after this loop", [text, *fences], additions)
+
+    def fence(self, tree: Tree | None, statement: Statement | None) -> str:
+        """The fence that can be written at a statement."""
+        return self.words.fence(tree.file if tree else "", statement.begin if statement else -1)
 
     def added(
         self, place: Place | None, tree: Tree | None, statement: Statement | None, flushes: list[str], fences: list[str]
@@ -139,14 +155,15 @@ class Fixer:
     def flush(self, path: Sequence[Site], fenced: bool, wide: bool) -> Suggestion:
         """A flush after the statement that stores, and a fence if none follows."""
         place, tree, statement, offset = self.located(path)
-        fences = [self.fence] if fenced else []
+        fence = self.fence(tree, statement)
+        fences = [fence] if fenced else []
         direct = bool(self.places.of(path[0]))
         try:
             text = self.of_object(path, tree, statement, offset) or self.flush_text(
                 place, tree, statement, offset, direct and not wide
             )
         except Unclear as unclear:
-            more = f", and then '{self.fence}'" if fenced else ""
+            more = f", and then '{fence}'" if fenced else ""
             return Suggestion(
                 place, f"flush what this statement stores{more}", fences, reason=self.in_library(path) or str(unclear)
             )
@@ -170,13 +187,15 @@ class Fixer:
         frames = self.session.program.at(path[0]).frames
         if is_of_atomics(frames and frames[0].function or function.name_in_c):
             address = stored_object(tree, statement, offset) or ""
-            line = f"pmem_flush({address}, sizeof(*({address})));" if self.uses_libpmem else f"_mm_clwb({address});"
+            line = self.words.line(tree.file, statement.begin, f"*({address})", address)
             return address and line
         inner = path[1] if len(path) > 1 and function.name_in_c in ("memcpy", "memmove") else path[0]
         if not self.places.is_users_function(self.session.program.functions[inner[0]]):
             return ""
         copied = assigned_object(tree, statement, offset)
-        return f"pmem_flush({address_of(copied)}, sizeof({copied}));" if copied else ""
+        if not copied:
+            return ""
+        return self.words.range(tree.file, statement.begin, address_of(copied), f"sizeof({copied})")
 
     def flush_text(
         self, place: Place | None, tree: Tree | None, statement: Statement | None, offset: int, one_line: bool
@@ -184,10 +203,9 @@ class Fixer:
         """The flush of what a statement stores at a place, if its expression can be repeated."""
         if tree is None or statement is None:
             raise Unclear(why_not(place, tree, statement))
-        if one_line and not self.uses_libpmem:
+        if one_line and not self.words.has_range(tree.file, statement.begin):
             return f"_mm_clwb({address_of(tree.stored(statement, offset))});"
-        address, size = tree.range(statement, offset)
-        return f"pmem_flush({address}, {size});"
+        return self.words.range(tree.file, statement.begin, *tree.range(statement, offset))
 
     def hoist(self, path: Sequence[Site], level: int, clone: str) -> Suggestion:
         """A flushing copy of a function that is called; if the function is not the user's, a flush of its range."""
@@ -195,15 +213,15 @@ class Fixer:
         if not self.places.is_users_function(original):
             return self.flush(path[level:], True, True)
         place, tree, statement, offset = self.located(path[level:])
-        name = original.name_in_c
-        additions, reason = self.added(place, tree, statement, [], [self.fence])
+        name, fence = original.name_in_c, self.fence(tree, statement)
+        additions, reason = self.added(place, tree, statement, [], [fence])
         copies = Copies(self)
         if additions and tree and copies.call(tree, offset, clone) and copies.finish():
             additions.merge(copies.additions)
         elif additions:
             additions, reason = None, copies.reason
-        text = f"call a copy of '{shortened(name)}' here that flushes what it stores, and then '{self.fence}'"
-        return Suggestion(place, text, [self.fence], additions, reason)
+        text = f"call a copy of '{shortened(name)}' here that flushes what it stores, and then '{fence}'"
+        return Suggestion(place, text, [fence], additions, reason)
 
 
 def why_not(place: Place | None, tree: Tree | None, statement: Statement | None) -> str:

@@ -11,40 +11,71 @@ from .session import Checked, Session
 from .traces import pieces
 
 MOST_EVENTS = 40
-# An event of a cache line: the number of its entry, its kind, and the offset and the size of its bytes.
+# An event of a cache line: the number of its entry, its kind, and the offset and the size of its bytes. Of several fences one after another
+# that change nothing (`idle`), there is one event, and the size is their number.
 Event = tuple[int, str, int, int]
 DURABLE, STORED, FLUSHED = ".", "s", "f"
+IDLE = "idle"
 
 
 @dataclass
 class History:
-    """The last events of a line before a check; `state` has a letter for each byte before the first of them."""
+    """The events of a line before a check that are shown: the stores that are reported with the first flush after each, and the last
+    events. `state` has a letter for each byte before the first of the last events."""
 
     line: int
     check: int
+    pinned: set[int] = field(default_factory=set)
     state: list[str] = field(default_factory=lambda: [DURABLE] * LINE)
     now: list[str] = field(default_factory=lambda: [DURABLE] * LINE)
     events: deque[Event] = field(default_factory=deque)
     left_out: int = 0
+    kept: list[tuple[int, str, Event]] = field(default_factory=list)
+    awaits_flush: bool = False
 
     def take(self, event: Event) -> None:
-        """Takes in an event; drops the oldest one if there are too many."""
+        """Takes in an event; drops the oldest one that need not be kept if there are too many."""
         changed = applied(self.now, event)
-        if event[1] == "fence" and changed == self.now and STORED not in changed:
+        if event[1] == "fence" and changed == self.now:
+            if STORED in changed:
+                self.take_idle(event[0])
             return
+        if event[1] == "flush" and self.awaits_flush:
+            self.pinned.add(event[0])
+        self.awaits_flush = event[0] in self.pinned and event[1] == "store" or self.awaits_flush and event[1] != "flush"
         self.now = changed
+        self.add(event)
+
+    def take_idle(self, entry: int) -> None:
+        """Takes in a fence that changes nothing."""
+        last = self.events[-1] if self.events else None
+        if last and last[1] == IDLE:
+            self.events[-1] = (last[0], IDLE, 0, last[3] + 1)
+        else:
+            self.add((entry, IDLE, 0, 1))
+
+    def add(self, event: Event) -> None:
+        """Adds an event to the last ones."""
         self.events.append(event)
         if len(self.events) > MOST_EVENTS:
-            self.state = applied(self.state, self.events.popleft())
-            self.left_out += 1
+            first = self.events.popleft()
+            if first[0] in self.pinned and first[1] != IDLE:
+                self.kept.append((self.left_out, "".join(self.state), first))
+                self.left_out = 0
+            else:
+                self.left_out += first[3] if first[1] == IDLE else 1
+            self.state = applied(self.state, first)
 
     def data(self, places: dict[int, str]) -> dict[str, Any]:
-        """The history as plain data, with the places in C of its events."""
-        rows = [[*event, places.get(event[0], "")] for event in self.events]
+        """The history as plain data, with the places in C of its events; of each kept event also what is left out before it."""
         return {
+            "kept": [
+                {"left_out": left_out, "state": state, "event": [*event, places.get(event[0], "")]}
+                for left_out, state, event in self.kept
+            ],
             "state": "".join(self.state),
             "left_out": self.left_out,
-            "events": rows,
+            "events": [[*event, places.get(event[0], "")] for event in self.events],
             "address": REGION_BASE + self.line * LINE,
             "check": self.check,
         }
@@ -55,6 +86,8 @@ def applied(state: list[str], event: Event) -> list[str]:
     _, kind, offset, size = event
     if kind == "store":
         return state[:offset] + [STORED] * size + state[offset + size :]
+    if kind == IDLE:
+        return state
     before, after = (STORED, FLUSHED) if kind == "flush" else (FLUSHED, DURABLE)
     return [after if letter == before else letter for letter in state]
 
@@ -74,6 +107,8 @@ def histories(session: Session, checked: Checked) -> list[dict[str, Any]]:
         History((checked.trace.wanted[group.entry][0] - REGION_BASE) // LINE, group.check) for group in checked.groups
     ]
     unique = {(history.line, history.check): history for history in sorted(by_group, key=lambda one: one.check)}
+    for group, history in zip(checked.groups, by_group):
+        unique[history.line, history.check].pinned.add(group.entry)
     by_line: dict[int, list[History]] = {}
     for history in unique.values():
         by_line.setdefault(history.line, []).append(history)
@@ -114,10 +149,11 @@ def events_of(
 
 
 def entry_places(session: Session, checked: Checked) -> dict[int, str]:
-    """`FILE:LINE` of each entry whose site is known."""
-    paths = paths_of_entries(session.places, checked.numbers, checked.path)
+    """`FILE:LINE` of each entry whose site is known; what a helper such as `persist(p, n)` does is named by its caller."""
+    helpers = session.helpers
+    paths = paths_of_entries(session.places, checked.numbers, checked.path, helpers.functions)
     short: dict[tuple[object, ...], str] = {}
     for path in set(paths.values()):
-        place = session.places.first(path)
+        place = helpers.place(path)
         short[path] = place.short if place else ""
     return {entry: short[path] for entry, path in paths.items()}

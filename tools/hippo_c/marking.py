@@ -94,6 +94,16 @@ def checks_of(program: Program) -> list[Site]:
     ]
 
 
+def only_sites(program: Program, asserts: int) -> list[Site] | None:
+    """The sites of all checks of a run, if the program has at most one assert and one return of main; otherwise nothing."""
+    sites = checks_of(program)
+    of_asserts = [site for site in sites if program.at(site).callee == "pm_assert"]
+    returns = [site for site in sites if site not in of_asserts]
+    if len(of_asserts) > 1 or len(returns) != 1:
+        return None
+    return of_asserts * asserts + returns
+
+
 def exits_of(program: Program) -> list[Site]:
     """The calls of `exit` and similar functions, outside the runtime."""
     return [site for site, instruction in program.sites() if instruction.callee in EXITS and site[0] not in EXITS]

@@ -28,9 +28,11 @@ class Types:
         self.text = text
         self.nodes = {number: fields or items or "" for number, _, fields, items in NODE.findall(text)}
         self.variables: dict[str, str | None] = {}
+        self.definitions: dict[str, str] = {}
         for name, number in VARIABLE.findall(text):
             variable = self.link(number, "var") or number
             self.variables[name.strip('"')] = self.link(variable, "type")
+            self.definitions[name.strip('"')] = variable
 
     @cached_property
     def stored(self) -> StoredTypes:

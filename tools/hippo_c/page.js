@@ -1,10 +1,16 @@
 'use strict';
 const data = JSON.parse(document.getElementById('data').textContent);
 const detail = document.getElementById('detail');
+const sources = document.getElementById('sources');
 const list = document.getElementById('groups');
 const filter = document.getElementById('filter');
-const rows = [...list.children];
-const texts = rows.map(row => row.textContent.toLowerCase());
+const rows = [...list.querySelectorAll('li[id]')];
+const headings = [...list.querySelectorAll('li.file')];
+const tabs = [...document.querySelectorAll('[role=tab]')];
+const texts = rows.map((row, number) => {
+  const {store, kind, object, message, calls} = data.groups[number];
+  return [kind, object, message, store?.file, ...[store, ...calls].map(place => place?.function), row.textContent].join(' ').toLowerCase();
+});
 let chosen = -1;
 let marked = null;
 
@@ -31,7 +37,13 @@ function goTo(place) {
   marked?.classList.remove('chosen');
   marked = row;
   row.classList.add('chosen');
-  row.scrollIntoView({block: 'center'});
+  toMiddle(sources, row);
+}
+
+// Scrolls a pane, and not the page, so that a row of it is in its middle.
+function toMiddle(pane, row) {
+  const [outer, inner] = [pane, row].map(node => node.getBoundingClientRect());
+  pane.scrollTop += inner.top - outer.top - (outer.height - inner.height) / 2;
 }
 
 function item(list, before, place, after = '') {
@@ -45,15 +57,14 @@ function step(state, [, kind, offset, size]) {
   return state.map((old, byte) => {
     if (kind === 'store') return byte >= offset && byte < offset + size ? 's' : old;
     if (kind === 'flush') return old === 's' ? 'f' : old;
-    return old === 'f' ? 'd' : old;
+    if (kind === 'fence') return old === 'f' ? 'd' : old;
+    return old;
   });
 }
 
 function bytesRow(label, where, state, mark, name) {
   const row = element('tr', undefined, name ? {class: name} : {});
-  const cell = element('td');
-  cell.append(where && where.file ? link(where, label) : label);
-  row.append(cell, element('td', where && where.text || ''));
+  row.append(element('td', label), element('td', where.split('/').pop(), {title: where}));
   const bytes = element('div', undefined, {class: 'bytes'});
   state.forEach((letter, byte) => {
     const hit = mark && byte >= mark[0] && byte < mark[0] + mark[1] ? ' hit' : '';
@@ -65,21 +76,41 @@ function bytesRow(label, where, state, mark, name) {
   return row;
 }
 
+const letters = state => [...state].map(letter => letter === '.' ? '' : letter);
+
+// A row for what is not shown one by one: fences that change nothing, or earlier events.
+function foldedRow(text) {
+  const row = element('tr', undefined, {class: 'folded'});
+  row.append(element('td', text, {colspan: 3}));
+  return row;
+}
+
 function picture(group) {
   const table = element('table', undefined, {class: 'picture'});
   const history = group.history;
   const offset = group.address - history.address;
   const mark = [offset, Math.min(group.size, 64 - offset)];
-  let state = [...history.state].map(letter => letter === '.' ? '' : letter);
-  if (history.left_out) table.append(bytesRow(`${history.left_out} earlier`, null, state, mark));
-  for (const event of history.events) {
-    state = step(state, event);
+  const earlier = number => `${number} earlier ${number === 1 ? 'event' : 'events'}`;
+  function add(state, event) {
     const [entry, kind, , size, where] = event;
+    if (kind === 'idle') {
+      table.append(foldedRow(`${size} ${size === 1 ? 'fence' : 'fences'} without effect`));
+      return state;
+    }
+    const now = step(state, event);
     const label = kind === 'store' ? `store ${size}` : kind;
-    table.append(bytesRow(label, {text: where || `entry ${entry}`}, state, mark, entry === group.entry ? 'report' : ''));
+    table.append(bytesRow(label, where || `entry ${entry}`, now, mark, entry === group.entry ? 'report' : ''));
+    return now;
   }
-  table.append(bytesRow(group.at_end ? 'end of run' : 'check', {text: group.check ? `${group.check.file}:${group.check.line}` : ''},
-    state, mark, 'report'));
+  for (const {left_out, state, event} of history.kept) {
+    if (left_out) table.append(foldedRow(earlier(left_out)));
+    add(letters(state), event);
+  }
+  let state = letters(history.state);
+  if (history.left_out) table.append(foldedRow(earlier(history.left_out)));
+  for (const event of history.events) state = add(state, event);
+  const check = group.check ? `${group.check.file}:${group.check.line}` : '';
+  table.append(bytesRow(group.at_end ? 'end of run' : 'check', check, state, mark, 'report'));
   return table;
 }
 
@@ -93,6 +124,43 @@ function legend() {
   return made;
 }
 
+function fallback(text) {
+  const area = element('textarea');
+  area.value = text;
+  document.body.append(area);
+  area.select();
+  const done = document.execCommand('copy');
+  area.remove();
+  return done;
+}
+
+async function copy(button, text) {
+  let done = true;
+  try { await navigator.clipboard.writeText(text); } catch { done = fallback(text); }
+  button.textContent = done ? 'Copied' : 'Not copied';
+  setTimeout(() => { button.textContent = 'Copy'; }, 1500);
+}
+
+function suggestion({by_hand, reason, text, place, statements}) {
+  const made = element('p', `Suggestion${by_hand ? ` (by hand: ${reason})` : ''}: ${text}. `, {class: 'suggestion'});
+  if (place) made.append(link(place));
+  if (!by_hand) {
+    const button = element('button', 'Copy', {class: 'copy', title: statements.join('\n')});
+    button.addEventListener('click', () => copy(button, statements.join('\n')));
+    made.append(' ', button);
+  }
+  return made;
+}
+
+function shownIn(inputs) {
+  const made = element('p', 'Shown by: ', {class: 'hint'});
+  made.append(inputs.map(({input, numbers, reports}) => {
+    const words = numbers.slice(0, 8).join(' ') + (numbers.length > 8 ? ' ..' : '');
+    return `input ${input}${words ? ` (${words})` : ''}: ${reports}`;
+  }).join('; '));
+  return made;
+}
+
 function show(number) {
   const group = data.groups[number];
   const close = element('button', '×', {class: 'close', 'aria-label': 'Close'});
@@ -100,18 +168,21 @@ function show(number) {
   const path = element('ol');
   if (group.store) item(path, 'the store: ', group.store, ` in ${group.store.function}`);
   if (group.flush) item(path, 'the flush that no fence follows: ', group.flush);
+  if (group.flush_note) item(path, `${group.flush_note.message}: `, group.flush_note.place);
   for (const place of group.calls) item(path, 'called by ', place, ` in ${place.function}`);
   if (group.check) item(path, group.at_end ? 'the return of main: ' : 'the check: ', group.check);
   detail.replaceChildren(close, element('h3', group.message), path);
-  if (group.suggestion) {
-    const text = element('p', `Suggestion${group.suggestion.by_hand ? ` (by hand: ${group.suggestion.reason})` : ''}: ${group.suggestion.text}. `);
-    if (group.suggestion.place) text.append(link(group.suggestion.place));
-    detail.append(text);
+  if (group.expression) {
+    const of = group.type ? `, a part of ${group.type}` : '';
+    detail.append(element('p', `In C it is ${group.expression}${of}.`));
   }
+  if (group.suggestion) detail.append(suggestion(group.suggestion));
+  if (group.inputs.length > 1) detail.append(shownIn(group.inputs));
   const where = `Cache line of the first report: entry ${group.entry}, checked at entry ${group.check_entry}`;
   detail.append(element('h4', where), legend(), picture(group));
   detail.append(element('p', `${group.sites.join(' ')}`, {class: 'hint'}));
   detail.hidden = false;
+  detail.scrollTop = 0;
 }
 
 function hide() {
@@ -124,11 +195,11 @@ function choose(number, focus) {
   chosen = number;
   const row = document.getElementById(`g${number}`);
   row.classList.add('chosen');
-  row.scrollIntoView({block: 'nearest'});
+  toMiddle(list.parentElement, row);
   if (focus) row.firstElementChild.focus({preventScroll: true});
   show(number);
   goTo(data.groups[number].store);
-  history.replaceState(null, '', `#g${number}`);
+  history.replaceState(null, '', `#${data.groups[number].name}`);
 }
 
 function next(step) {
@@ -137,9 +208,22 @@ function next(step) {
   }
 }
 
+function openTab(name, isUsers) {
+  for (const tab of tabs) {
+    const open = tab.getAttribute('aria-controls') === name;
+    tab.setAttribute('aria-selected', open);
+    document.getElementById(tab.getAttribute('aria-controls')).hidden = !open;
+  }
+  if (name === 'findings' && chosen >= 0) goTo(data.groups[chosen].store);
+  if (isUsers) history.replaceState(null, '', `#${name === 'findings' && chosen >= 0 ? data.groups[chosen].name : name}`);
+}
+
 document.addEventListener('click', event => {
-  const button = event.target.closest('button[data-group]');
+  const button = event.target.closest('button');
   if (!button) return;
+  if (button.dataset.copy) copy(button, document.getElementById(button.dataset.copy).textContent);
+  if (button.role === 'tab' || button.getAttribute('role') === 'tab') openTab(button.getAttribute('aria-controls'), true);
+  if (button.dataset.group === undefined) return;
   const all = (button.dataset.all || button.dataset.group).split(' ').map(Number);
   choose(all[(all.indexOf(chosen) + 1) % all.length]);
 });
@@ -161,7 +245,23 @@ filter.addEventListener('input', () => {
     const hidden = !texts[number].includes(wanted);
     if (row.hidden !== hidden) row.hidden = hidden;
   });
+  for (const heading of headings) {
+    let row = heading.nextElementSibling;
+    while (row && row.id && row.hidden) row = row.nextElementSibling;
+    heading.hidden = !row || !row.id;
+  }
 });
 
-const first = /^#g(\d+)$/.exec(location.hash);
-if (first) choose(Number(first[1]));
+// The address names a tab, or a group by its fingerprint; otherwise the first group is chosen.
+function start() {
+  const named = decodeURIComponent(location.hash.slice(1));
+  const tab = tabs.find(tab => tab.getAttribute('aria-controls') === named);
+  const group = data.groups.findIndex(group => group.name === named);
+  const numbered = /^g(\d+)$/.exec(named);
+  openTab(tab ? named : group >= 0 || numbered ? 'findings' : tabs[0]?.getAttribute('aria-controls'));
+  if (tab && named !== 'findings') return;
+  choose(group >= 0 ? group : numbered ? Number(numbered[1]) : 0);
+}
+
+start();
+window.addEventListener('hashchange', start);

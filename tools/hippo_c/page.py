@@ -1,44 +1,66 @@
-"""The answer as one page for a browser: the C with the reports at their lines, and pictures of cache lines."""
+"""The answer as one page for a browser: the C with the reports at their lines, pictures of cache lines, power cuts, and the edits."""
+from __future__ import annotations
+
 import base64
 import hashlib
-import html
 import json
 import os
-from collections import defaultdict
+from itertools import groupby
 from typing import Any
 
 from lowering.languages import is_source
 
 from .diagnostics import amount
 from .letters import shown
-from .sources import lines_of
+from .page_source import Sources
+from .page_text import escaped, where
+from .united import united
 
 FOLDER = os.path.dirname(os.path.abspath(__file__))
 
 
-def page_of(answer: dict[str, Any], histories: list[list[dict[str, Any]]]) -> str:
-    """The page; it needs no network and no other file."""
-    groups = []
-    for number, (item, lines) in enumerate(zip(answer["inputs"], histories), 1):
-        for group, history in zip(item["groups"], lines):
-            groups.append({**group, "input": number, "history": history})
+def page_of(answer: dict[str, Any], histories: list[list[dict[str, Any]]], crashes: str = "", diff: str = "") -> str:
+    """The page; it needs no network and no other file. `crashes` is the HTML of what power cuts show, `diff` that of all edits."""
+    groups = united(answer, histories)
     files = sorted(
         {place["file"] for group in groups for place in places_in(group)}
         | {file for file in answer["files"] if is_source(file)}
     )
     numbers = {file: number for number, file in enumerate(files)}
+    sources = Sources(groups, (answer["lines"] or {}).get("not_run", {}))
     parts = {
         "title": escaped(f'hippo-c: {", ".join(answer["files"])}'),
         "style": part("page.css"),
         "script": part("page.js"),
+        "tabs": tabs_of(groups, crashes, diff),
         "summary": summary(answer),
-        "list": "".join(row(number, group) for number, group in enumerate(groups)),
-        "sources": "".join(source(file, numbers[file], groups) for file in files),
+        "list": list_of(answer, groups),
+        "suppressed": suppressed_of(answer),
+        "sources": "".join(sources.section(file, numbers[file]) for file in files),
+        "crashes": crashes or '<p class="hint">Nothing: this command cut no power.</p>',
+        "diff": diff_in_html(diff),
         "about": escaped(answer["about"]),
         "data": data_of(groups, numbers),
         "policy": policy(part("page.css"), part("page.js")),
     }
     return part("page.html").format(**parts)
+
+
+def tabs_of(groups: list[dict[str, Any]], crashes: str, diff: str) -> str:
+    """The buttons of the tabs that have something; the first is chosen."""
+    hunks = sum(line.startswith("@@ ") for line in diff.split("\n"))
+    rows = [
+        ("findings", "Findings", len(groups), bool(groups) or not crashes),
+        ("crashes", "Crashes", None, bool(crashes)),
+    ]
+    rows.append(("fixes", "Fixes", hunks, bool(diff)))
+    there = [row for row in rows if row[3]]
+    return "".join(
+        f'<button role="tab" id="tab-{name}" aria-controls="{name}" aria-selected="{str(not number).lower()}">{title}'
+        + (f" <b>{count:,}</b>" if count is not None else "")
+        + "</button>"
+        for number, (name, title, count, _) in enumerate(there)
+    )
 
 
 def data_of(groups: list[dict[str, Any]], numbers: dict[str, int]) -> str:
@@ -56,11 +78,6 @@ def with_shown_names(data: Any) -> Any:
     return {key: shown(value) if key == "file" else with_shown_names(value) for key, value in data.items()}
 
 
-def escaped(text: str) -> str:
-    """A text as it stands in an element or an attribute."""
-    return html.escape(shown(text))
-
-
 def policy(style: str, script: str) -> str:
     """What a browser may load for the page and run in it: this style and this script, and nothing from elsewhere."""
     marks = [base64.b64encode(hashlib.sha256(part.encode()).digest()).decode() for part in (script, style)]
@@ -76,7 +93,10 @@ def part(name: str) -> str:
 def places_in(group: dict[str, Any]) -> list[dict[str, Any]]:
     """The places in the user's C that a group names."""
     suggestion = group["suggestion"] and group["suggestion"]["place"]
-    return [place for place in (group["store"], group["flush"], group["check"], suggestion, *group["calls"]) if place]
+    note = group["flush_note"] and group["flush_note"]["place"]
+    return [
+        place for place in (group["store"], group["flush"], group["check"], suggestion, note, *group["calls"]) if place
+    ]
 
 
 def summary(answer: dict[str, Any]) -> str:
@@ -96,63 +116,73 @@ def summary(answer: dict[str, Any]) -> str:
         rows += [f'<p class="warning">{escaped(text)}</p>' for text in item["warnings"]]
         if item["trap"]:
             place = item["trap"]["place"]
-            where = f' at {place["file"]}:{place["line"]}' if place else ""
+            at = f" at {where(place)}" if place else ""
             rows.append(
-                f'<p class="warning">The run ended with a trap{escaped(where)}: {escaped(item["trap"]["meaning"])}</p>'
+                f'<p class="warning">The run ended with a trap{escaped(at)}: {escaped(item["trap"]["meaning"])}</p>'
             )
+    rows += [
+        f'<p class="warning">{escaped(where(item["place"]))}: {escaped(item["message"])}</p>'
+        for item in answer["suppressions"]
+    ]
     return "".join(rows)
+
+
+def list_of(answer: dict[str, Any], groups: list[dict[str, Any]]) -> str:
+    """The groups in the order of their first stores; groups of one file that follow one another have one heading."""
+    flushes = {item["file"]: item["flushes"] for item in answer["groups_of_files"]}
+    parts = []
+    numbered = enumerate(groups)
+    for file, here in groupby(numbered, key=file_of):
+        why = ", which has no flush" if flushes.get(file) == 0 else ""
+        rows = list(here)
+        title = f"{file or 'no file of yours'}: {amount(len(rows), 'group')}{why}"
+        parts.append(f'<li class="file">{escaped(title)}</li>')
+        parts += [row(number, group) for number, group in rows]
+    return "".join(parts)
+
+
+def file_of(numbered: tuple[int, dict[str, Any]]) -> str:
+    """The file of a group's store."""
+    store = numbered[1]["store"]
+    return str(store["file"]) if store else ""
 
 
 def row(number: int, group: dict[str, Any]) -> str:
     """A group in the list."""
     place = group["store"]
-    where = f'{os.path.basename(place["file"])}:{place["line"]}' if place else "no line"
+    at = f'{place["function"]}:{place["line"]}' if place else "no line"
+    inputs = f' · {amount(len(group["inputs"]), "input")}' if len(group["inputs"]) > 1 else ""
     return (
         f'<li id="g{number}"><button data-group="{number}"><span class="kind {group["kind"]}">{group["kind"]}</span>'
-        f'<span class="where">{escaped(where)}</span><span class="count">{group["reports"]:,}</span>'
-        f'<span class="object">{escaped(group["object"])}</span></button></li>'
+        f'<span class="where">{escaped(at)}</span><span class="count">{group["reports"]:,}{inputs}</span>'
+        f'<span class="object">{escaped(group["object"])}{escaped(typed(group))}</span></button></li>'
     )
 
 
-def source(file: str, number: int, groups: list[dict[str, Any]]) -> str:
-    """A file: a row for each line, with the counts of its groups, and the suggested statements after it."""
-    at: defaultdict[int, list[int]] = defaultdict(list)
-    added: defaultdict[int, list[str]] = defaultdict(list)
-    for index, group in enumerate(groups):
-        if group["store"] and group["store"]["file"] == file:
-            at[group["store"]["line"]].append(index)
-        suggestion = group["suggestion"]
-        if suggestion and suggestion["place"] and suggestion["place"]["file"] == file:
-            texts = suggestion["statements"] if not suggestion["by_hand"] else [f'// {suggestion["text"]}']
-            added[suggestion["place"]["line"]] += [
-                text for text in texts if text not in added[suggestion["place"]["line"]]
-            ]
+def typed(group: dict[str, Any]) -> str:
+    """The C and the type of what is stored, where the object of its own is only an arena."""
+    if not group["expression"]:
+        return ""
+    of = f' in {group["type"]}' if group["type"] else ""
+    return f' = {group["expression"]}{of}'
+
+
+def suppressed_of(answer: dict[str, Any]) -> str:
+    """What the source suppresses, with its reasons."""
     rows = []
-    lines = lines_of(file)
-    if lines in ([], [""]):
-        rows.append('<p class="hint">The lines are not shown: clang read no file of this name and content.</p>')
-    for line, code in enumerate(lines[:-1] if lines and not lines[-1] else lines, 1):
-        rows.append(line_row(number, line, code, at[line] if line in at else [], groups))
-        indent = code[: len(code) - len(code.lstrip())]
-        rows += [
-            f'<div class="line added"><span></span><span>+</span><code>{escaped(indent + text)}</code></div>'
-            for text in added.get(line, [])
-        ]
-    return f'<section><h2>{escaped(file)}</h2><div class="source">{"".join(rows)}</div></section>'
+    for item in answer["inputs"]:
+        for one in item["suppressed"]:
+            text = f'<li>{escaped(where(one["place"]))}: {escaped(one["reason"])} ({amount(one["reports"], "report")})</li>'
+            rows += [text] if text not in rows else []
+    if not rows:
+        return ""
+    return f'<details class="suppressed"><summary>Suppressed in the source: {len(rows)}</summary><ul>{"".join(rows)}</ul></details>'
 
 
-def line_row(file: int, line: int, code: str, here: list[int], groups: list[dict[str, Any]]) -> str:
-    """A line of a file, with the number of its reports."""
-    mark = ""
-    if here:
-        count = sum(groups[index]["reports"] for index in here)
-        title = ", ".join(sorted({groups[index]["kind"] for index in here}))
-        mark = (
-            f'<button class="badge" data-group="{here[0]}" data-all="{" ".join(map(str, here))}" '
-            f'title="{title}" aria-label="{amount(count, "report")}, {title}">{count:,}</button>'
-        )
-    kind = " reported" if here else ""
-    return (
-        f'<div class="line{kind}" id="f{file}l{line}"><span>{mark}</span><span>{line}</span>'
-        f"<code>{escaped(code)}</code></div>"
+def diff_in_html(diff: str) -> str:
+    """A unified diff with a class for each sort of line."""
+    kinds = {"+": "added", "-": "removed", "@": "hunk"}
+    return "".join(
+        f'<span class="{kinds.get(line[:1], "")}">{escaped(line)}\n</span>'
+        for line in diff.removesuffix("\n").split("\n")
     )

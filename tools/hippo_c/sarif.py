@@ -28,6 +28,8 @@ def sarif_of(answer: dict[str, Any]) -> dict[str, Any]:
     results = []
     for item in answer["inputs"]:
         results += [result_of(group, item["numbers"]) for group in item["groups"]]
+        for one in item["suppressed"]:
+            results += [suppressed_result(group, one, item["numbers"]) for group in one["groups"]]
         if item["trap"]:
             results.append(trap_result(item["trap"]))
     ended = all(item["ended"].startswith("stop") for item in answer["inputs"])
@@ -89,6 +91,14 @@ def result_of(group: dict[str, Any], numbers: list[int]) -> dict[str, Any]:
     if group["suggestion"] and group["suggestion"]["edits"]:
         result["fixes"] = [fix_of(group["suggestion"])]
     return result
+
+
+def suppressed_result(group: dict[str, Any], by: dict[str, Any], numbers: list[int]) -> dict[str, Any]:
+    """A group that the source suppresses, as a result with the reason."""
+    result = result_of({**group, "fingerprint": "", "suggestion": None}, numbers)
+    del result["partialFingerprints"]
+    suppression = {"kind": "inSource", "justification": by["reason"], "location": location_of(by["place"])}
+    return {**result, "suppressions": [suppression]}
 
 
 def fix_of(suggestion: dict[str, Any]) -> dict[str, Any]:

@@ -18,13 +18,16 @@ from . import marking, running, sources
 from .builds import is_of_build
 from .built_objects import Objects
 from .boundaries import Boundary, Check, Placing
+from .coverage import Coverage, coverage_of
 from .declared import Declarations, Declared
+from .helpers import Helpers
 from .names import Names
 from .paths import Path, Paths
 from .places import Place, Places
 from .program import Program, Site
 from .progress import Progress
 from .reports import Group, grouped, joined
+from .suppressions import Suppressed, Suppressions, are_mentioned
 from .traces import Trace, read_trace
 from .traps import Trap, find_trap
 from .trouble import Trouble
@@ -32,6 +35,7 @@ from .writing import whole_file
 
 if TYPE_CHECKING:
     from .crashed_inputs import CrashedInput
+    from .flush_notes import FlushNote
 
 MOST_MARKS = 50_000_000
 IGNORE_OUTPUT = "--ignore-output"
@@ -53,6 +57,9 @@ class Request:
     boundaries: list[Boundary] = field(default_factory=list)
     crashed: list[CrashedInput] = field(default_factory=list)
     wants_declared: bool = False
+    heeds_suppressions: bool = False
+    flush_with: str = ""
+    fence_with: str = ""
     compile_commands: str = ""
     is_strict: bool = True
     traps_unsupported: bool = False
@@ -108,16 +115,24 @@ class Checked:
     ended: str
     check_sites: dict[int, Site] = field(default_factory=dict)
     trap: Trap | None = None
-    lines_ran: tuple[int, int, bool] | None = None
+    coverage: Coverage | None = None
     idle: list[str] = field(default_factory=list)
     is_crashed: bool = False
     left_out: tuple[int, int] = (0, 0)
     declared: list[Declared] = field(default_factory=list)
+    suppressed: list[Suppressed] = field(default_factory=list)
+    flush_notes: dict[int, FlushNote] = field(default_factory=dict)
 
     @property
     def reports(self) -> int:
         """The number of reports in all groups."""
         return sum(group.count for group in self.groups)
+
+    @property
+    def left_out_groups(self) -> list[Group]:
+        """The groups of reports that the program itself leaves out."""
+        declared = [group for item in self.declared for group in item.groups]
+        return declared + [group for item in self.suppressed for group in item.groups]
 
 
 @dataclass(frozen=True)
@@ -148,9 +163,16 @@ class Session:
             self.program, self.places, self.names = lowered.program, lowered.places, lowered.names
             self.lower_notes, self.boundary_checks = lowered.notes, lowered.boundary_checks
             self.declarations = Declarations(self, lowered.requests) if lowered.requests else None
+            heeds = request.heeds_suppressions and are_mentioned(self)
+            self.suppressions = Suppressions(self) if heeds else None
         except BaseException:
             self.room.close()
             raise
+
+    @cached_property
+    def helpers(self) -> Helpers:
+        """The functions of the user's that only flush and fence."""
+        return Helpers(self.places)
 
     def __enter__(self) -> Session:
         return self
@@ -234,12 +256,15 @@ class Session:
             running.lines_of(["check", self.text_path, path]), "checking", "reports"
         )
         declared: list[Declared] = []
+        suppressed: list[Suppressed] = []
         if self.declarations and (reported := list(lines)):
             lines, declared = self.declarations.split(reported, numbers, path)
+        if self.suppressions and (reported := list(lines)):
+            lines, suppressed = self.suppressions.split(reported, path)
         groups = joined(grouped(lines, self.paths), lambda site: bool(self.places.of(site)))
-        shown = [*groups, *(group for item in declared for group in item.groups)]
-        trace = read_trace(path, self.program, {group.entry for group in shown})
-        checked = Checked(numbers, path, groups, trace, ended.how, declared=declared)
+        checked = Checked(numbers, path, groups, Trace(), ended.how, declared=declared, suppressed=suppressed)
+        shown = [*groups, *checked.left_out_groups]
+        checked.trace = read_trace(path, self.program, {group.entry for group in shown})
         if kind := ended.word("trap"):
             self.progress.say("looking for the trap")
             checked.trap = find_trap(self.program, numbers, kind)
@@ -255,42 +280,22 @@ class Session:
 
     def check_sites(self, checked: Checked) -> dict[int, Site]:
         """The site of each check that a group names, by the number of its entry; the return of main is one of the checks."""
-        wanted = {
-            group.check for group in [*checked.groups, *(group for item in checked.declared for group in item.groups)]
-        }
+        wanted = {group.check for group in [*checked.groups, *checked.left_out_groups]}
         trace = checked.trace
         if not wanted:
             return {}
-        sites = self.only_sites(trace)
+        sites = marking.only_sites(self.program, trace.asserts)
         if sites is None:
             self.progress.say("looking for the checks")
             sites = marking.sites_of_checks(self.program, checked.numbers, trace.asserts, checked.ended != "cut")
         numbered = dict(zip([*trace.assert_numbers, trace.entries], sites))
         return {number: numbered[number] for number in wanted if number in numbered}
 
-    def only_sites(self, trace: Trace) -> list[Site] | None:
-        """The sites of all checks of a run, if the program has at most one assert and one return of main; otherwise nothing."""
-        sites = marking.checks_of(self.program)
-        asserts = [site for site in sites if self.program.at(site).callee == "pm_assert"]
-        returns = [site for site in sites if site not in asserts]
-        if len(asserts) > 1 or len(returns) != 1:
-            return None
-        return asserts * trace.asserts + returns
-
     def note_what_ran(self, checked: Checked) -> None:
-        """Notes the number of lines of the user's functions that ran, the number of all, whether the whole run was counted, and which
-        boundaries the run never met."""
+        """Notes the lines of the user's functions that ran, and which boundaries the run never met."""
         self.progress.say("counting lines")
         ran, whole = marking.blocks_that_ran(self.program, checked.numbers, MOST_MARKS)
-        checked.lines_ran = *self.lines_in(ran), whole
+        checked.coverage = coverage_of(self.places, ran, whole)
         met = {check.where for site, check in self.boundary_checks.items() if site[:2] in ran}
         if whole:
             checked.idle = sorted({check.where for check in self.boundary_checks.values()} - met)
-
-    def lines_in(self, ran: set[tuple[str, str]]) -> tuple[int, int]:
-        """The number of lines of the user's functions in these blocks, and in all."""
-        lines: dict[bool, set[tuple[str, int]]] = {True: set(), False: set()}
-        for site, instruction in self.program.sites():
-            if instruction.frames:
-                lines[site[:2] in ran].update(place[:2] for place in self.places.of(site) if place.exact)
-        return len(lines[True]), len(lines[True] | lines[False])

@@ -1,8 +1,9 @@
 """The files as clang reads them: unchanged, or with their macros expanded line by line."""
+import contextlib
 import json
 import os
 import re
-from collections.abc import Callable
+from collections.abc import Callable, Iterator
 from functools import cache
 
 from .clang import clang_for
@@ -22,6 +23,20 @@ def take_from(files: Callable[[], dict[str, set[str]]]) -> None:
     """Lets the lines of these files be shown."""
     compiled.append(files)
     forget()
+
+
+@contextlib.contextmanager
+def in_place_of(files: dict[str, bytes]) -> Iterator[None]:
+    """Lets these contents stand for those of the files, as clang reads them by an overlay."""
+    before = dict(expanded)
+    expanded.update((os.path.abspath(file), content) for file, content in files.items())
+    forget()
+    try:
+        yield
+    finally:
+        expanded.clear()
+        expanded.update(before)
+        forget()
 
 
 def forget() -> None:

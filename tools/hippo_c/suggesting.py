@@ -1,17 +1,19 @@
 """The suggestions for all groups: from hippo's repair, compiled by clang, shown, written as a diff, verified."""
 import tempfile
-from dataclasses import dataclass, replace
+from dataclasses import dataclass, field, replace
 
 from . import running
 from .compiling import Compiling
 from .diagnostics import Printer, amount
 from .edits import Additions
+from .enclosing import is_plain_bytes
 from .fixes import Fixer, Suggestion
 from .plan import Repair
 from .program import Program
 from .reports import Group
 from .session import Checked, Session
-from .sources import overlay
+from .sources import in_place_of, overlay
+from .syntax import Unclear
 from .writing import STANDARD_OUTPUT, output_file
 
 
@@ -21,10 +23,15 @@ class Suggestions:
 
     by_group: list[tuple[Group, Suggestion]]
     additions: Additions
+    stored: dict[int, tuple[str, str]] = field(default_factory=dict)
 
     def of(self, group: Group) -> Suggestion | None:
         """The suggestion for a group."""
         return next((suggestion for one, suggestion in self.by_group if one is group), None)
+
+    def stored_by(self, group: Group) -> tuple[str, str]:
+        """For a store to plain bytes, what C stores to and the type around it; otherwise nothing."""
+        return self.stored.get(id(group), ("", ""))
 
     @property
     def without_edit(self) -> int:
@@ -56,11 +63,27 @@ def suggestions_for(session: Session, results: list[Checked]) -> Suggestions:
     session.progress.say("looking for the statements")
     for checked in results:
         for group in checked.groups:
+            found.stored[id(group)] = stored_in_c(fixer, checked, group)
             suggestion = fixer.suggest(group)
             if suggestion:
                 found.by_group.append((group, suggestion))
     found.additions = Compiling(session, [suggestion for _, suggestion in found.by_group]).kept()
     return found
+
+
+def stored_in_c(fixer: Fixer, checked: Checked, group: Group) -> tuple[str, str]:
+    """For a store to plain bytes, such as those of an arena, the text of what C stores to, and the type that it is a part of."""
+    if not is_plain_bytes(fixer.session.names, *checked.trace.wanted[group.entry]):
+        return "", ""
+    _, tree, statement, offset = fixer.located(group.path)
+    if tree is None or statement is None:
+        return "", ""
+    try:
+        text, node = tree.target(statement, offset)
+    except Unclear:
+        return "", ""
+    around = node.inner[0] if node.kind == "MemberExpr" and node.inner else node
+    return text, around.type.removesuffix("*").strip()
 
 
 def print_suggestion(printer: Printer, suggestion: Suggestion | None) -> None:
@@ -75,9 +98,9 @@ def print_suggestion(printer: Printer, suggestion: Suggestion | None) -> None:
 def verify(session: Session, results: list[Checked], found: Suggestions) -> list[Checked]:
     """The checks of the C with all edits, on the same inputs."""
     with tempfile.TemporaryDirectory(prefix="hippo-c-") as folder:
-        edited = overlay(found.additions.edited(), folder)
-        request = replace(session.request, clang=[*session.request.clang, *edited], folder="")
-        with Session(request, session.progress) as again:
+        texts = found.additions.edited()
+        request = replace(session.request, clang=[*session.request.clang, *overlay(texts, folder)], folder="")
+        with in_place_of(texts), Session(request, session.progress) as again:
             return [
                 again.check(checked.numbers, f"again.{number}.trace", coverage=False)
                 for number, checked in enumerate(results)

@@ -1,7 +1,7 @@
 // Runs at the end of a page of hippo-c: uses its keys, and leaves what it sees as JSON in the title of the page.
 const press = (key, target = document) => target.dispatchEvent(new KeyboardEvent('keydown', {key, bubbles: true, cancelable: true}));
 const line = () => document.querySelector('.line.chosen')?.id;
-const seen = () => ({chosen, hidden: detail.hidden, line: line(), hash: location.hash, heading: detail.querySelector('h3')?.textContent});
+const seen = () => ({chosen, name: data.groups[chosen]?.name, hidden: detail.hidden, line: line(), hash: location.hash, heading: detail.querySelector('h3')?.textContent});
 
 function isInside(inner, outer) {
   const [a, b] = [inner, outer].map(node => node.getBoundingClientRect());
@@ -61,7 +61,7 @@ press('j');
 found.skips = seen();
 document.querySelectorAll('.badge')[5].click();
 found.badge = seen();
-const texts_of_the_page = ['h1', '.hint', '.warning', 'nav .kind', 'nav .where', 'nav .count', 'nav .object', '.line code', '.reported code',
+const texts_of_the_page = ['h1', '.c', '.t', '.w', '.n', '.p', '.copy', '.tabs button', 'nav .file', '.hint', '.warning', 'nav .kind', 'nav .where', 'nav .count', 'nav .object', '.line code', '.reported code',
   '.added code', '.badge', 'aside h3', 'aside a', 'aside .hint', 'footer', 'kbd'];
 found.contrasts = Object.fromEntries(texts_of_the_page.map(name => [name, contrast(name)]));
 document.title = JSON.stringify(found);

@@ -9,8 +9,8 @@ BROWSER = shutil.which("chromium") or shutil.which("chromium-browser") or shutil
 PROBE = """<script>
 const press = key => document.dispatchEvent(new KeyboardEvent('keydown', {key, bubbles: true}));
 const seen = () => [chosen, detail.hidden, document.querySelectorAll('.picture tr').length, document.querySelector('.line.chosen')?.id];
-const found = [];
-for (const key of ['j', 'j', 'j', 'k', 'Escape']) { press(key); found.push(seen()); }
+const found = [seen()];
+for (const key of ['j', 'j', 'k', 'Escape']) { press(key); found.push(seen()); }
 filter.value = 'tail';
 filter.dispatchEvent(new Event('input'));
 found.push(rows.filter(row => !row.hidden).length);

@@ -15,6 +15,7 @@ from .of_lowering import EDITS as OF_LOWERING
 from .of_pmdk import EDITS as OF_PMDK
 from .of_refusals import EDITS as OF_REFUSALS
 from .of_runtime import EDITS as OF_RUNTIME
+from .of_suppressions import EDITS as OF_SUPPRESSIONS
 
 __all__ = ["EDITS", "Edit"]
 EDITS: list[Edit] = [
@@ -25,6 +26,7 @@ EDITS: list[Edit] = [
     *OF_HIPPO_C,
     *OF_HIPPO_C_FILES,
     *OF_BUILDS,
+    *OF_SUPPRESSIONS,
     *OF_EXPLORE,
     *OF_EXPLORE_JUDGED,
     *OF_LAUNCHER,

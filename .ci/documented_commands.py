@@ -27,20 +27,15 @@ PAGES = [
     *sorted(TOP.glob("examples/*/README.md")),
 ]
 # Where the commands of a page run, if not in the page's own folder. A command that begins with a dot runs at the top.
-FOLDERS = {"README.md": "examples", "docs/COMMANDS.md": "examples", "docs/FROM_C.md": "."}
+FOLDERS = {"README.md": "examples", "docs/COMMANDS.md": "examples", "docs/FROM_C.md": ".", "docs/HIPPO_C.md": "examples/store"}
 OF_USERS = "an example of files that each user has"
 FETCHES = "it fetches the source of PMDK, and takes an hour"
 NOT_RUN = {
     ".ci/run --quick": "it takes minutes",
     "hippo-c explore store.c driver.c --inputs inputs --time 60 --corpus corpus": OF_USERS,
-    "hippo-c check --check-return 'put,del' engine.c driver.c": OF_USERS,
-    "hippo-c check --check-return 'engine.c:tree_.*=root' --check-call reply engine.c driver.c": OF_USERS,
-    "hippo-c check --commit log.c:112 log.c driver.c": OF_USERS,
-    "hippo-c check --commit ulog_store,root engine.c driver.c": OF_USERS,
     "tools/tests/debian/pmdk/run_programs.py": FETCHES,
     "tools/tests/debian/pmdk/run_tests.py": FETCHES,
     "tools/tests/debian/pmdk/run_bugs.py": FETCHES,
-    "hippo-c crash engine.c --entries 168 --pick 0:23 --debug image": OF_USERS,
     "hippo-c check FILE... [OPTIONS] [--args WORD...] [-- CLANG-ARGUMENTS...]": "a synopsis",
 }
 CLANG_TOOLS = ("clang-19", "opt-19", "llc-19", "llvm-link-19", "llvm-extract-19")

@@ -63,7 +63,7 @@ class Scanner:
     def comment(self, offset: int, text: str) -> None:
         """A comment at an offset."""
         begin, end = self.last
-        if end >= 0 and not self.closed and not self.source[end:offset].strip(" \t"):
+        if end >= 0 and not self.source[end:offset].strip(" \t"):
             self.found.append((offset, text, (begin, end)))
         elif self.open[-1].begin >= 0 and not self.closed:
             self.waiting.append((offset, text))

@@ -258,8 +258,10 @@ function start() {
   const tab = tabs.find(tab => tab.getAttribute('aria-controls') === named);
   const group = data.groups.findIndex(group => group.name === named);
   const numbered = /^g(\d+)$/.exec(named);
-  openTab(tab ? named : group >= 0 || numbered ? 'findings' : tabs[0]?.getAttribute('aria-controls'));
-  if (tab && named !== 'findings') return;
+  const first = tabs.find(tab => tab.getAttribute('aria-selected') === 'true').getAttribute('aria-controls');
+  const open = tab ? named : group >= 0 || numbered ? 'findings' : first;
+  openTab(open);
+  if (open !== 'findings') return;
   choose(group >= 0 ? group : numbered ? Number(numbered[1]) : 0);
 }
 

@@ -47,19 +47,15 @@ def page_of(answer: dict[str, Any], histories: list[list[dict[str, Any]]], crash
 
 
 def tabs_of(groups: list[dict[str, Any]], crashes: str, diff: str) -> str:
-    """The buttons of the tabs that have something; the first is chosen."""
+    """The buttons of the tabs that have something; the findings are chosen if there are any, and otherwise what power cuts show."""
     hunks = sum(line.startswith("@@ ") for line in diff.split("\n"))
-    rows = [
-        ("findings", "Findings", len(groups), bool(groups) or not crashes),
-        ("crashes", "Crashes", None, bool(crashes)),
-    ]
-    rows.append(("fixes", "Fixes", hunks, bool(diff)))
-    there = [row for row in rows if row[3]]
+    there = [("findings", f"Findings <b>{len(groups):,}</b>")]
+    there += [("crashes", "Crashes")] if crashes else []
+    there += [("fixes", f"Fixes <b>{hunks:,}</b>")] if diff else []
+    chosen = "crashes" if crashes and not groups else "findings"
     return "".join(
-        f'<button role="tab" id="tab-{name}" aria-controls="{name}" aria-selected="{str(not number).lower()}">{title}'
-        + (f" <b>{count:,}</b>" if count is not None else "")
-        + "</button>"
-        for number, (name, title, count, _) in enumerate(there)
+        f'<button role="tab" id="tab-{name}" aria-controls="{name}" aria-selected="{str(name == chosen).lower()}">{title}</button>'
+        for name, title in there
     )
 
 

@@ -7,10 +7,11 @@ from typing import Any
 from .common import EXAMPLES, RING_INPUT, Case
 
 HEAD = "#include <hippo.h>\n"
-TEN_LINES = """\
+ELEVEN_LINES = """\
 ring.c:47:3: warning: store of 8 bytes to 'ring.slots[2].text[48]' by 'memcpy' is not durable at the check in ring.c:49 [missing-flush, 36 reports]
    47 |   memcpy(slot->text, text, length);
       |   ^
+ring.c:48:3: note: the flush here covers 48 of the 112 bytes of 'ring.slots[2].text'
 ring.c:84:7: note: 'put' is called here, by 'main'
 ring.c:62:11: warning: store of 8 bytes to 'ring.tail' is not durable at the return of main in ring.c:90 [missing-fence]
    62 |   r->tail += 1;
@@ -31,10 +32,10 @@ class Check(Case):
         found: dict[str, Any] = json.loads(self.read("a.json"))["inputs"][0]
         return found
 
-    def test_the_ring_in_ten_lines(self) -> None:
+    def test_the_ring_in_eleven_lines(self) -> None:
         self.take("ring_buffer", "ring.c")
         ran = self.hippo_c("check", "ring.c", *RING_INPUT, code=1)
-        self.assertEqual(ran.stdout, TEN_LINES)
+        self.assertEqual(ran.stdout, ELEVEN_LINES)
         self.assertEqual(ran.stderr, "")
 
     def test_colours_are_asked_for(self) -> None:
@@ -88,7 +89,7 @@ class Check(Case):
             "-O0",
             code=0,
         )
-        self.assertEqual(found["lines"], {"ran": 3, "all": 5, "whole": True})
+        self.assertEqual(found["lines"], {"ran": 3, "all": 5, "whole": True, "not_run": {"a.c": [[5, 6]]}})
 
     def test_inputs_by_file_and_by_lines(self) -> None:
         self.take("from_c", "undo.c")

@@ -128,6 +128,7 @@ class Storage(Case):
         self.assertIn("'n' is not durable at the call of 'print_i64'", ran.stdout)
         ran = self.hippo_c("crash", "acknowledged.c", "--runs", "2000", code=1)
         self.assertRegex(ran.stdout, r"see it again: hippo-c crash acknowledged\.c --entries \d+ --pick.* --prints \d+")
+        self.assertRegex(ran.stdout, r"an acknowledged operation is lost: print 1 \(acknowledged\.c:\d+\)")
 
     def test_redo_twice(self) -> None:
         """A power cut in the recovery shows a redo that must not run twice."""

@@ -71,7 +71,7 @@ EDITS = [
         "tools/hippo_c/diagnostics.py",
         "    shown = checked.groups[:most] if most else checked.groups\n",
         "    shown = checked.groups[:-1]\n",
-        f"{CHECK}.Check.test_the_ring_in_ten_lines",
+        f"{CHECK}.Check.test_the_ring_in_eleven_lines",
     ),
     Edit(
         "warning_of_nothing_checked_is_lost",
@@ -220,9 +220,9 @@ EDITS = [
     Edit(
         "lines_that_did_not_run_count",
         "counts each line as one that ran",
-        "tools/hippo_c/session.py",
-        "                lines[site[:2] in ran].update(",
-        "                lines[True].update(",
+        "tools/hippo_c/coverage.py",
+        "            lines[site[:2] in ran].update(",
+        "            lines[True].update(",
         f"{CHECK}.Check.test_lines_that_ran",
     ),
 ]

@@ -28,8 +28,8 @@ EDITS = [
         "suppression_after_a_block",
         "takes a comment after a block for one about its last statement",
         MARKS,
-        "        if end >= 0 and not self.closed and not self.source[end:offset]",
-        "        if end >= 0 and not self.source[end:offset]",
+        '.strip(" \\t"):',
+        '.strip(" \\t}"):',
         f"{TEST}.Marks.test_statements",
     ),
     Edit(

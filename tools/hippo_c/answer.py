@@ -114,8 +114,6 @@ def group_of(session: Session, checked: Checked, group: Group, found: Suggestion
         "reports": group.count,
         "message": shown(message_of(session, checked, group)),
         "object": name,
-        "expression": found.stored_by(group)[0] if found else "",
-        "type": found.stored_by(group)[1] if found else "",
         "size": size,
         "by": helper_of(session, group).removeprefix(" by '").removesuffix("'"),
         "store": place_of(places[0] if places else None),

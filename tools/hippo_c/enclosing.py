@@ -68,31 +68,3 @@ def levels(
             path, start, offset = f"{path}[{offset // row}]", start + offset // row * row, offset % row
         if size:
             yield from levels(types, element, offset, start, path)
-
-
-def is_plain_bytes(names: Names, address: int, size: int) -> bool:
-    """Whether a store of a size goes to an object that is only bytes for C, such as an arena, so that its name says nothing."""
-    found = names.program.object_at(address)
-    if not found or size < 2:
-        return False
-    item, offset = found
-    types, number = names.type_of(item.name, item.size)
-    return types is None or number is None or scalar_size(types, number, offset) == 1
-
-
-def scalar_size(types: Types, number: str | None, offset: int) -> int:
-    """The size of the scalar at an offset of a type; 0 for a gap."""
-    number = types.plain(number)
-    if number is None:
-        return 0
-    if types.tag(number) == "DW_TAG_array_type":
-        element = types.link(number, "baseType")
-        size = types.bytes(element)
-        return scalar_size(types, element, offset % size) if size else 0
-    if types.tag(number) not in CLASSES:
-        return types.bytes(number)
-    for member in types.items(number):
-        at, size = types.value(member, "offset") // 8, types.value(member, "size") // 8
-        if types.tag(member) == "DW_TAG_member" and at <= offset < at + size:
-            return scalar_size(types, types.link(member, "baseType"), offset - at)
-    return 0

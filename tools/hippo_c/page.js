@@ -172,10 +172,6 @@ function show(number) {
   for (const place of group.calls) item(path, 'called by ', place, ` in ${place.function}`);
   if (group.check) item(path, group.at_end ? 'the return of main: ' : 'the check: ', group.check);
   detail.replaceChildren(close, element('h3', group.message), path);
-  if (group.expression) {
-    const of = group.type ? `, a part of ${group.type}` : '';
-    detail.append(element('p', `In C it is ${group.expression}${of}.`));
-  }
   if (group.suggestion) detail.append(suggestion(group.suggestion));
   if (group.inputs.length > 1) detail.append(shownIn(group.inputs));
   const where = `Cache line of the first report: entry ${group.entry}, checked at entry ${group.check_entry}`;

@@ -151,16 +151,8 @@ def row(number: int, group: dict[str, Any]) -> str:
     return (
         f'<li id="g{number}"><button data-group="{number}"><span class="kind {group["kind"]}">{group["kind"]}</span>'
         f'<span class="where">{escaped(at)}</span><span class="count">{group["reports"]:,}{inputs}</span>'
-        f'<span class="object">{escaped(group["object"])}{escaped(typed(group))}</span></button></li>'
+        f'<span class="object">{escaped(group["object"])}</span></button></li>'
     )
-
-
-def typed(group: dict[str, Any]) -> str:
-    """The C and the type of what is stored, where the object of its own is only an arena."""
-    if not group["expression"]:
-        return ""
-    of = f' in {group["type"]}' if group["type"] else ""
-    return f' = {group["expression"]}{of}'
 
 
 def suppressed_of(answer: dict[str, Any]) -> str:

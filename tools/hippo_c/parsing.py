@@ -65,7 +65,6 @@ class Reader:
             raw.get("kind", ""), -1, -1, False, raw.get("opcode", ""), raw.get("name", "") or raw.get("member", "")
         )
         node.has_else = raw.get("hasElse", False)
-        node.type = raw.get("type", {}).get("qualType", "")
         for key, value in raw.items():
             if key == "loc":
                 self.location(value)

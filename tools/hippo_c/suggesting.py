@@ -1,19 +1,17 @@
 """The suggestions for all groups: from hippo's repair, compiled by clang, shown, written as a diff, verified."""
 import tempfile
-from dataclasses import dataclass, field, replace
+from dataclasses import dataclass, replace
 
 from . import running
 from .compiling import Compiling
 from .diagnostics import Printer, amount
 from .edits import Additions
-from .enclosing import is_plain_bytes
 from .fixes import Fixer, Suggestion
 from .plan import Repair
 from .program import Program
 from .reports import Group
 from .session import Checked, Session
 from .sources import in_place_of, overlay
-from .syntax import Unclear
 from .writing import STANDARD_OUTPUT, output_file
 
 
@@ -23,15 +21,10 @@ class Suggestions:
 
     by_group: list[tuple[Group, Suggestion]]
     additions: Additions
-    stored: dict[int, tuple[str, str]] = field(default_factory=dict)
 
     def of(self, group: Group) -> Suggestion | None:
         """The suggestion for a group."""
         return next((suggestion for one, suggestion in self.by_group if one is group), None)
-
-    def stored_by(self, group: Group) -> tuple[str, str]:
-        """For a store to plain bytes, what C stores to and the type around it; otherwise nothing."""
-        return self.stored.get(id(group), ("", ""))
 
     @property
     def without_edit(self) -> int:
@@ -63,27 +56,11 @@ def suggestions_for(session: Session, results: list[Checked]) -> Suggestions:
     session.progress.say("looking for the statements")
     for checked in results:
         for group in checked.groups:
-            found.stored[id(group)] = stored_in_c(fixer, checked, group)
             suggestion = fixer.suggest(group)
             if suggestion:
                 found.by_group.append((group, suggestion))
     found.additions = Compiling(session, [suggestion for _, suggestion in found.by_group]).kept()
     return found
-
-
-def stored_in_c(fixer: Fixer, checked: Checked, group: Group) -> tuple[str, str]:
-    """For a store to plain bytes, such as those of an arena, the text of what C stores to, and the type that it is a part of."""
-    if not is_plain_bytes(fixer.session.names, *checked.trace.wanted[group.entry]):
-        return "", ""
-    _, tree, statement, offset = fixer.located(group.path)
-    if tree is None or statement is None:
-        return "", ""
-    try:
-        text, node = tree.target(statement, offset)
-    except Unclear:
-        return "", ""
-    around = node.inner[0] if node.kind == "MemberExpr" and node.inner else node
-    return text, around.type.removesuffix("*").strip()
 
 
 def print_suggestion(printer: Printer, suggestion: Suggestion | None) -> None:

@@ -42,7 +42,6 @@ class Node:
     inner: list["Node"] = field(default_factory=list)
     from_macro: bool = False
     has_else: bool = False
-    type: str = ""
 
     def walk(self) -> Iterator["Node"]:
         """The node and all nodes in it."""
@@ -145,11 +144,7 @@ class Tree:
         return line[: len(line) - len(line.lstrip(b" \t"))].decode()
 
     def stored(self, statement: Statement, place: int) -> str:
-        """The text of what the statement stores to at a place, if it can be evaluated again without an effect."""
-        return self.target(statement, place)[0]
-
-    def target(self, statement: Statement, place: int) -> tuple[str, Node]:
-        """The expression to which the statement stores at a place, as text and as a node, if it can be evaluated again without an effect."""
+        """The expression to which the statement stores at a place, if it can be evaluated again without an effect."""
         if any(node.kind in CONDITIONS or node.opcode in ("&&", "||") for node in statement.node.walk()):
             raise Unclear("the statement stores under a condition")
         stores = [node for node in statement.node.walk() if node.stores]
@@ -164,7 +159,7 @@ class Tree:
         end = self.operator(target) if left.macro and exact else left.end
         if left.macro and not (exact and statement.node is target):
             raise Unclear("a macro makes the assignment")
-        return self.text(left.begin, end).strip(), left
+        return self.text(left.begin, end).strip()
 
     def operator(self, node: Node) -> int:
         """Where the operator of an assignment stands."""

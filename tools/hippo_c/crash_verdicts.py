@@ -3,22 +3,16 @@ from __future__ import annotations
 
 import argparse
 
-from . import fingerprints, flush_notes
+from . import crash_page
 from .again import Again
-from .answer import answer_of
 from .confirming import Confirmed, Confirming
 from .diagnostics import Printer, amount, images_in_words
 from .explore_answers import print_failure, print_outputs
-from .explore_forms import failures_in_html, of_power_cuts
 from .explore_options import words_of
 from .exploring import check_engine, run_engine
 from .findings import Found
-from .history import histories_of
 from .native import Engine
-from .page import page_of
 from .session import Session
-from .suggesting import suggestions_for
-from .writing import output_file
 
 NONE_TRIED = (
     "the next run fails from what this run leaves, although nothing is lost: no power cut is needed, so none was tried"
@@ -45,32 +39,12 @@ def try_images(options: argparse.Namespace, session: Session, printer: Printer) 
     for outputs in confirmed.outputs:
         print_outputs(printer, session, outputs, again)
     print_verdict(printer, found, confirmed)
-    write_page(options, session, found, confirmed, printer)
+    crash_page.write(options, session, found, confirmed)
     if interrupted or confirmed.interrupted:
         return 130
     if confirmed.failures or confirmed.outputs:
         return 1
     return 0 if found.summary.get("behaviours") else 2
-
-
-def write_page(
-    options: argparse.Namespace, session: Session, found: Found, confirmed: Confirmed, printer: Printer
-) -> None:
-    """Writes the page: what a check of the run reports, what power cuts show, and what to add."""
-    if not options.html:
-        return
-    checked = session.check(session.request.inputs[0], "checked.trace")
-    if session.suppressions:
-        session.suppressions.settle([checked])
-    flush_notes.give(session, [checked])
-    fingerprints.give(session, [checked])
-    suggestions = suggestions_for(session, [checked])
-    cuts = of_power_cuts(session, found, confirmed, Again(options, session))
-    answer = {**answer_of(session, [checked], suggestions), **cuts}
-    page = page_of(answer, histories_of(session, [checked]), failures_in_html(answer), suggestions.additions.diff())
-    session.progress.wipe()
-    with output_file(options.html) as file:
-        file.write(page.encode("utf-8", "replace"))
 
 
 def print_verdict(printer: Printer, found: Found, confirmed: Confirmed) -> None:

@@ -9,7 +9,7 @@ from collections.abc import Callable, Iterable, Iterator
 from concurrent.futures import FIRST_COMPLETED, Future, ThreadPoolExecutor, wait
 from dataclasses import dataclass, field
 
-from . import debugging, images, running
+from . import crash_page, debugging, images, running
 from .checking import printer_of
 from .crash_answers import image_of, print_crashes
 from .crash_verdicts import try_images
@@ -56,9 +56,7 @@ def add_options(command: argparse.ArgumentParser) -> None:
     add_recoveries(command)
     add_next_cuts(command)
     debugging.add_options(command)
-    command.add_argument(
-        "--html", metavar="FILE", help="write a page: what a check reports, what power cuts show, and what to add"
-    )
+    crash_page.add_option(command)
 
 
 def add_images(command: argparse.ArgumentParser) -> None:
@@ -159,7 +157,7 @@ def crash(options: argparse.Namespace, request: Request, progress: Progress) -> 
         chosen = (options.sample, options.images, options.picks, options.entries)
         if chosen == (None,) * 4 and recorded.startswith("stop"):
             return try_images(options, session, printer)
-        refuse_page(options)
+        crash_page.refuse(options)
         choice, points = points_to_try(options, path, first, last)
         fails = failing_test(recorded, options.status)
         found = explore(session, path, points, fails, options)
@@ -188,15 +186,6 @@ def points_to_try(
         return Choice(first, last, 0, 0, entries=1), iter([[single_point(options, first, last)]])
     choice = Choice(first, last, options.seed, 2 if options.sample is None else options.sample, options.images)
     return choice, images.points_of(path, choice, options.time is not None)
-
-
-def refuse_page(options: argparse.Namespace) -> None:
-    """Refuses a page where hippo alone makes the runs."""
-    if options.html:
-        raise Trouble(
-            "--html shows all images of a run that returns from main",
-            "leave out --entries, --pick, --sample and --images",
-        )
 
 
 def entries_of(text: str | None) -> tuple[int, int]:

@@ -45,7 +45,7 @@ document.getElementById('tab-fixes').click();
 found.fixes = {...seen(), diff: document.getElementById('diff').textContent};
 document.getElementById('tab-findings').click();
 found.back = seen();
-filter.value = 'put';
+filter.value = 'store.count';
 filter.dispatchEvent(new Event('input'));
 found.filtered = rows.filter(row => !row.hidden).length;
 found.requests = performance.getEntriesByType('resource').length;

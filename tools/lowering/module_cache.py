@@ -16,6 +16,7 @@ from collections.abc import Callable
 from typing import Any
 
 from .before_passes import Facts, facts_of
+from .bytecode import is_own
 from .reads import READS, read_list
 from .up_to_date import State, digest_of, identity_of_tools, is_unchanged, state_of
 
@@ -77,6 +78,8 @@ def kept_unit(command: list[str], make: Callable[[], tuple[str, Facts]]) -> tupl
 def read_entry(path: str) -> tuple[str, State, dict[str, Any]] | None:
     """The module of an entry, the state that it was made from, if that is unchanged, and its facts; otherwise nothing."""
     try:
+        if not is_own(os.path.dirname(path)):
+            return None
         with open(path, encoding="latin-1") as file:
             head, _, text = file.read().partition("\n")
         entry = json.loads(head)
@@ -94,7 +97,7 @@ def write_entry(path: str, text: str, state: State, facts: dict[str, Any]) -> No
     folder = os.path.dirname(path)
     head = json.dumps({"digest": digest(head_of(facts) + text), "state": state, "facts": facts})
     with contextlib.suppress(OSError):
-        os.makedirs(folder, exist_ok=True)
+        os.makedirs(folder, mode=0o700, exist_ok=True)
         number, made = tempfile.mkstemp(dir=folder, prefix="new.")
         try:
             with open(number, "w", encoding="latin-1") as out:

@@ -61,6 +61,8 @@ class Cache(ClangCase):
         other = text.replace("@lrand48(", "@of_cache(") + "define i64 @lrand48() {\n  ret i64 77\n}\n"
         self.write(path, head, other)
         self.assertIn("ret i64 77", self.lowered())
+        os.chmod(os.path.dirname(path), 0o777)  # then others may have written it
+        self.assertEqual(self.lowered(), first)
 
     def test_an_entry_of_other_files_is_not_taken(self) -> None:
         """A file, what stands in a folder, or the entry itself has changed since."""

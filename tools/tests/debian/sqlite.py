@@ -65,7 +65,7 @@ def main() -> int:
     step("native build", [*clang, "-o", "native", *files, f"{TOP}/tools/external_functions.c", "-lm"], folder)
     native = step("native run", ["./native"], folder)
     hippo_c = [sys.executable, "-B", f"{TOP}/tools/hippo-c"]
-    words = [*files, f"-I{folder}", *DEFINED, "--file-calls", "--limit", "100000000000"]
+    words = [*files, f"-I{folder}", *DEFINED, "--file-calls", "--single-thread", "--limit", "100000000000"]
     lowered = step("lower and run", [*hippo_c, "run", *words], folder)
     step("run again", [*hippo_c, "run", *words], folder)
     checked = step("check", [*hippo_c, "check", *words, "--groups", "3", "--no-coverage"], folder, (0, 1))

@@ -10,6 +10,8 @@ ABSEIL = [
     f"absl/{name}.cc"
     for name in ("base/internal/raw_logging", "base/internal/throw_delegate", "container/internal/raw_hash_set")
 ]
+# Without locales, and with a long double that is a double, since no other has arithmetic.
+FORMAT = ("-DFMT_HEADER_ONLY", "-DFMT_STATIC_THOUSANDS_SEPARATOR=','", "-mlong-double-64")
 DOUBLE_CONVERSION = "bignum bignum-dtoa cached-powers double-to-string fast-dtoa fixed-dtoa string-to-double strtod"
 LEVELDB = (
     "db/builder db/dbformat db/filename db/log_reader db/log_writer db/memtable db/write_batch "
@@ -72,7 +74,7 @@ CPP_PIECES = [
     of_headers("flatbuffers", "libflatbuffers-dev", "tables that are read in place", *THREAD, *TEXT),
     of_headers("msgpack", f"libmsgpack-cxx-dev {BOOST}", "packed values", *THREAD, *TEXT),
     of_headers("json", "nlohmann-json3-dev", "JSON and its binary forms", *THREAD, *TEXT),
-    of_headers("format", "libfmt-dev", "texts of numbers", *TEXT, flags=("-DFMT_HEADER_ONLY",)),
+    of_headers("format", "libfmt-dev", "texts of numbers", *TEXT, flags=FORMAT),
     of_sources("abseil_btree", "abseil", "B-trees", ABSEIL[:2], ["."], *THREAD, *TEXT),
     of_sources("abseil_hash", "abseil", "hash tables with SSE2", ABSEIL, ["."], *THREAD, *TEXT),
     of_sources(

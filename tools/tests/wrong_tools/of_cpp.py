@@ -91,14 +91,6 @@ EDITS = [
         "test_cpp.Cpp.test_block_beyond_the_heap",
     ),
     Edit(
-        "counter_stands_still",
-        "gives the same time at each reading of the processor's counter, so that a loop which waits does not end",
-        "tools/lowering/counter.py",
-        "STEP = 1000\n",
-        "STEP = 0\n",
-        "test_cpp.Cpp.test_intrinsics_of_engines",
-    ),
-    Edit(
         "refusal_in_a_header_of_the_library",
         "refuses a part of the library at the line of its header",
         "tools/lowering/users.py",

@@ -27,7 +27,12 @@ PAGES = [
     *sorted(TOP.glob("examples/*/README.md")),
 ]
 # Where the commands of a page run, if not in the page's own folder. A command that begins with a dot runs at the top.
-FOLDERS = {"README.md": "examples", "docs/COMMANDS.md": "examples", "docs/FROM_C.md": ".", "docs/HIPPO_C.md": "examples/store"}
+FOLDERS = {
+    "README.md": "examples",
+    "docs/COMMANDS.md": "examples",
+    "docs/FROM_C.md": ".",
+    "docs/HIPPO_C.md": "examples/store",
+}
 OF_USERS = "an example of files that each user has"
 FETCHES = "it fetches the source of PMDK, and takes an hour"
 NOT_RUN = {

@@ -15,7 +15,8 @@ from .places import Place
 from .pools import end_of
 from .program import REGION_BASE
 from .progress import Progress
-from .session import Request, Session
+from .request import Request
+from .session import Session
 from .traces import pieces
 
 LINE = 64

@@ -14,7 +14,8 @@ from .numbers import DEFAULT_TURNS, from_to
 from .page import page_of
 from .progress import Progress
 from .sarif import sarif_of
-from .session import Checked, Request, Session
+from .request import Request
+from .session import Checked, Session
 from .suggesting import Suggestions, print_suggestion, print_verified, suggestions_for, verify, write_diff
 from .together import print_together
 from .traps import find_trap

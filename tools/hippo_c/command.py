@@ -16,7 +16,7 @@ from .letters import shown
 from .numbers import numbers_in
 from .progress import Progress
 from .reading import text_of
-from .session import Request
+from .request import Request
 from .trouble import Trouble
 from .outputs import check_outputs
 

@@ -24,7 +24,7 @@ from . import (
 )
 from .numbers import MOST_TURNS, from_to
 from .progress import Progress
-from .session import Request
+from .request import Request
 
 DESCRIPTION = """Durability of C programs, by lines of C.
 

@@ -17,7 +17,8 @@ from .following import PAST_INPUT, follow
 from .images import Choice, Point
 from .numbers import from_to, seconds
 from .progress import Progress
-from .session import Request, Session
+from .request import Request
+from .session import Session
 from .traces import pieces
 from .trouble import Trouble
 

@@ -21,7 +21,8 @@ from .native import Engine, accepted
 from .pool_starts import PoolFiles
 from .progress import Progress
 from .reading import text_of
-from .session import Request, Session
+from .request import Request
+from .session import Session
 from .trouble import Trouble
 from .writing import output_file
 

@@ -8,7 +8,8 @@ from .diagnostics import amount
 from .images import CacheLines, Point
 from .program import REGION_BASE, Global
 from .progress import Progress
-from .session import Request, Session
+from .request import Request
+from .session import Session
 from .traces import pieces
 from .trouble import Trouble
 from .writing import output_file

@@ -19,7 +19,8 @@ from .places import Place
 from .plan import Repair
 from .program import Site
 from .progress import Progress
-from .session import Checked, Request, Session
+from .request import Request
+from .session import Checked, Session
 from .suggesting import read_repair, repaired_program
 from .traces import Trace, read_trace
 from .trouble import Trouble

@@ -19,7 +19,7 @@ from .trouble import Trouble
 from .writing import whole_file
 
 if TYPE_CHECKING:
-    from .session import Request
+    from .request import Request
 
 TOOLS = os.path.dirname(os.path.dirname(os.path.abspath(__file__)))
 # Exit codes of hippo: a run trapped, a run was cut, no crash leaves the image of a pick.

@@ -22,7 +22,8 @@ from hippo_c.program import parse_site  # noqa: E402
 from hippo_c.progress import Progress  # noqa: E402
 from hippo_c.reports import Group  # noqa: E402
 from hippo_c.running import lines_of  # noqa: E402
-from hippo_c.session import Request, Session  # noqa: E402
+from hippo_c.request import Request  # noqa: E402
+from hippo_c.session import Session  # noqa: E402
 from hippo_c.traces import pieces as entries_of  # noqa: E402
 from packages import Packages  # noqa: E402
 from pieces import PIECES, Piece  # noqa: E402

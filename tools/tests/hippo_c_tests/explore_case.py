@@ -7,7 +7,8 @@ from .common import Case
 from hippo_c.native import Engine
 from hippo_c.program import Program
 from hippo_c.progress import Progress
-from hippo_c.session import Request, Session
+from hippo_c.request import Request
+from hippo_c.session import Session
 
 BUGS = os.path.join(os.path.dirname(__file__), "bugs")
 NAMES = sorted(name[:-2] for name in os.listdir(BUGS) if name.endswith(".c"))

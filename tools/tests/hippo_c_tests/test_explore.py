@@ -13,7 +13,8 @@ from hippo_c.findings import shortened
 from hippo_c.native import Engine
 from hippo_c.program import Program
 from hippo_c.progress import Progress
-from hippo_c.session import Request, Session
+from hippo_c.request import Request
+from hippo_c.session import Session
 
 
 class Images(BugCase):

@@ -13,7 +13,8 @@ from hippo_c.engine_lines import Reader
 from hippo_c.judging import Judge
 from hippo_c.native import Engine
 from hippo_c.progress import Progress
-from hippo_c.session import Request, Session
+from hippo_c.request import Request
+from hippo_c.session import Session
 from hippo_c.trouble import Trouble
 
 # A store between a flush of its line and the fence: only the store before the flush is durable.

@@ -14,7 +14,8 @@ from hippo_c.native import Engine
 from hippo_c.operations import cuts_of
 from hippo_c.progress import Progress
 from hippo_c.ran import ran
-from hippo_c.session import Request, Session
+from hippo_c.request import Request
+from hippo_c.session import Session
 
 LOST = f"{BUGS}/lost_acknowledgement"
 # Only the last sum is durable before it is printed. With OTHER the recovery fails for a reason that no print gives.

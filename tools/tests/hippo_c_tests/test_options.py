@@ -8,6 +8,7 @@ from lowering import options
 
 GIVEN = {
     "heap": ["64K"],
+    "heap-on-stack": ["32K"],
     "pool": ["a=4K", "b=8K,first"],
     "environment": ["HOME=/root", "A=b c"],
     "array-bound": ["128"],

@@ -8,7 +8,8 @@ NOFLUSH = 32  # PMEMOBJ_F_MEM_NOFLUSH
 
 
 class Bug(NamedTuple):
-    """A bug: its name, its file and line, what is taken away, the map whose run is tried, and what is lost."""
+    """A bug: its name, its file and line, what is taken away, the map whose run is tried, what is lost, and, for a bug that is equivalent
+    in these runs, why."""
 
     name: str
     file: str
@@ -16,6 +17,7 @@ class Bug(NamedTuple):
     away: str
     map: int
     what: str
+    why: str = ""
 
 
 BUGS = [

@@ -1,17 +1,19 @@
 #!/usr/bin/env python3
-"""Seeded bugs in libpmemobj and its maps (bugs.py): which checks find them, and whether the repair of what is found leaves nothing.
+"""Seeded bugs in libpmemobj and its maps (bugs.py): what finds each, and whether the repair of what is reported leaves nothing.
 
-Each bug is made in the lowered text, by the places of its instructions. Three checks are tried: at the return of main; when each call
-of the API of a map returns; and at commit points of libpmemobj's own logs. A bug is found by a check if stores of some kind and place are
-reported more often than without the bug, on the same input. It prints a table; the exit code is 1 if a repair leaves a report."""
+Each bug is on or off by a number in the lowered text (seeding.py). In this order are tried: checks at the return of main; when each call of
+the API of a map returns; at commit points of libpmemobj and of a map; and power cuts, in the operations on a pool that is there and in
+its creation. A check finds a bug if stores of some kind and place are reported more often than without it, on the same input; a power cut
+finds it if hippo confirms a run that fails. It prints a table. The exit code is 1 if a repair leaves a report, or if a bug that ran
+was not found and bugs.py does not say why it is equivalent."""
 from __future__ import annotations
 
+import hashlib
 import os
 import re
 import sys
 import tempfile
 from collections import Counter
-from concurrent.futures import ThreadPoolExecutor
 
 sys.dont_write_bytecode = True
 HERE = os.path.dirname(os.path.abspath(__file__))
@@ -20,158 +22,163 @@ sys.path[:0] = [HERE, os.path.dirname(HERE), TOOLS]
 from hippo_c import boundaries, commits  # noqa: E402
 from hippo_c.places import Places  # noqa: E402
 from hippo_c.program import Program, parse_site  # noqa: E402
-from steps import Setting, run  # noqa: E402
+from steps import run  # noqa: E402
 
-from bugs import BUGS, CALL, FENCE, FLUSH, NOFLUSH, Bug  # noqa: E402
-from run_programs import MAP_NAMES, PIECES, Work, arguments_of, map_input, source_of  # noqa: E402
+from bugs import BUGS, Bug  # noqa: E402
+from cutting import Cutting  # noqa: E402
+from seeding import seeded, with_bug  # noqa: E402
+from work import (  # noqa: E402
+    ANY_CODE,
+    MAP_NAMES,
+    MAPS,
+    Work,
+    arguments_of,
+    ended,
+    map_input,
+    options_of,
+    print_head,
+    print_row,
+    setting_of,
+    source_of,
+)
 
 API = "map_insert,map_remove,map_create,pmemobj_alloc,pmemobj_free"
-# Where libpmemobj commits: the start of these functions, which make a log valid, apply it or clear it, and the end of what writes an undo entry.
-COMMITS = "ulog_store,operation_process,palloc_publish,ulog_clobber,ulog_clobber_data,ulog_inc_gen_num"
+# Where libpmemobj commits: the start of these functions, which make a log valid, apply it or clear it, or publish an object; the end of what
+# writes an undo entry; and the stores of a header of a run, of a zone, and of the mark that the count of hashmap_atomic is right.
+COMMITS = (
+    "ulog_store,operation_process,palloc_publish,ulog_clobber,ulog_clobber_data,ulog_inc_gen_num,memblock.c:1432,heap.c:574,"
+    "hashmap_atomic.c:255"
+)
 UNDO = "ulog_entry_buf_create"
 CHECKS: dict[str, list[boundaries.Boundary]] = {
-    "end": [],
-    "return": [boundaries.boundary_of(boundaries.RETURN, word) for word in API.split(",")],
-    "commit": [
+    "check": [],
+    "--check-return": [boundaries.boundary_of(boundaries.RETURN, word) for word in API.split(",")],
+    "--commit": [
         boundaries.boundary_of(boundaries.RETURN, UNDO),
         *(boundaries.Boundary(commits.OPTION, word, re.compile(word), "", "") for word in COMMITS.split(",")),
     ],
 }
-FLAGS = re.compile(r"i32 (-?\d+)\)$")
-HEADINGS = ("bug", "place", "what is lost", "map", "at the end", "at returns", "at commit points", "after the repair")
+OPERATIONS, FEW, SPARES = 60, 6, 5
+SECONDS = 8
+NOT_FOUND = "equivalent"
+HEADINGS = ("bug", "place", "what is lost", "map", "found by", "new reports", "after the repair", "how")
+# What is missing of a store, and the places along its path.
+Kinds = Counter[tuple[str, tuple[str, ...]]]
+
+
+class Checked:
+    """The seeded text with the checks of one kind, and what the runs without a bug report."""
+
+    def __init__(self, bugs: Bugs, name: str) -> None:
+        self.bugs, self.name = bugs, name.strip("-")
+        self.text = boundaries.Placing(bugs.text, CHECKS[name]).placed() if CHECKS[name] else bugs.text
+        self.places = Places(Program(self.text))
+        self.clean: dict[int, tuple[Kinds, str]] = {}
+
+    def reports(self, text: str, numbers: list[int]) -> tuple[Kinds, str]:
+        """The kinds and places of the reports of a run, and what identifies its trace."""
+        hippo, path, trace = self.bugs.hippo, self.path("ll"), self.path("trace")
+        with open(path, "w", encoding="latin-1") as file:
+            file.write(text)
+        done = run([hippo, "record", path, "--", *map(str, numbers)], self.bugs.folder, codes=ANY_CODE)
+        with open(trace, "w", encoding="ascii") as file:
+            file.write(done.stdout)
+        found: Kinds = Counter()
+        for line in run([hippo, "check", path, trace], self.bugs.folder).stdout.splitlines():
+            sites = tuple(map(parse_site, line.rpartition("path ")[2].split(" ")))
+            found[line.split(" ")[1], tuple(map(str, self.places.along(sites)))] += 1
+        return found, hashlib.sha256(f"{done.stdout} {ended(done)}".encode()).hexdigest()
+
+    def path(self, end: str) -> str:
+        """A file of the run."""
+        return f"{self.bugs.folder}/bug.{self.name}.{end}"
+
+    def new(self, bug: Bug) -> int | None:
+        """The number of new reports with a bug; nothing if the run does not reach it."""
+        numbers = map_input(bug.map, OPERATIONS, spares=SPARES)
+        if bug.map not in self.clean:
+            self.clean[bug.map] = self.reports(self.text, numbers)
+        known, mark = self.clean[bug.map]
+        found, own = self.reports(with_bug(self.text, bug), numbers)
+        return None if own == mark else (found - known).total()
+
+    def after(self) -> str:
+        """The number of reports after the repair of the last run."""
+        words = [self.bugs.hippo, "rerun", self.path("ll"), self.path("trace")]
+        said = run(words, self.bugs.folder, codes=ANY_CODE).stderr
+        found: list[str] = re.findall(r"^after (\d+)$", said, re.M)
+        return found[0] if found else "refused"
 
 
 class Bugs:
-    """The program without a bug, its runs, and what they report."""
+    """The seeded text, its checks, and its engines: from a pool that is there, and from none."""
 
-    def __init__(self, work: Work, text: str = "") -> None:
+    def __init__(self, work: Work) -> None:
         self.work, self.folder, self.hippo = work, work.folder, work.setting.hippo
-        self.text = text or work.lowered(PIECES[0], "--lines")
-        self.clean: dict[tuple[str, int], tuple[Counter[tuple[str, tuple[str, ...]]], str]] = {}
+        self.text, self.counts = seeded(work.lowered(MAPS, "--lines"))
+        self.checks: dict[str, Checked] = {}
+        self.cuttings: dict[bool, tuple[str, Cutting]] = {}
 
-    def with_checks(self, text: str, check: str) -> str:
-        """A text with the checks of one kind."""
-        return boundaries.Placing(text, CHECKS[check]).placed() if CHECKS[check] else text
+    def check(self, name: str) -> Checked:
+        """The checks of a kind."""
+        if name not in self.checks:
+            self.checks[name] = Checked(self, name)
+        return self.checks[name]
 
-    def reports(self, name: str, text: str, kind: int) -> tuple[Counter[tuple[str, tuple[str, ...]]], str, str]:
-        """The kinds and places of the reports of a run, its trace's file, and how it ends."""
-        path, trace = f"{self.folder}/{name}.ll", f"{self.folder}/{name}.trace"
-        with open(path, "w", encoding="latin-1") as file:
-            file.write(text)
-        with open(trace, "w", encoding="ascii") as file:
-            done = run(
-                [self.hippo, "record", path, "--", *map(str, map_input(kind))], self.folder, codes=tuple(range(128))
-            )
-            file.write(done.stdout)
-        places = Places(Program(text))
-        found: Counter[tuple[str, tuple[str, ...]]] = Counter()
-        for line in run([self.hippo, "check", path, trace], self.folder).stdout.splitlines():
-            kind_of, path_of = line.split(" ")[1], line.rpartition("path ")[2]
-            found[kind_of, tuple(map(str, places.along(tuple(map(parse_site, path_of.split(" "))))))] += 1
-        return found, trace, done.stderr.strip().splitlines()[-1]
-
-    def without_bug(self, check: str, kind: int) -> tuple[Counter[tuple[str, tuple[str, ...]]], str]:
-        """The reports of the program without a bug, and its trace."""
-        if (check, kind) not in self.clean:
-            found, trace, _ = self.reports(f"clean.{check}.{kind}", self.with_checks(self.text, check), kind)
-            with open(trace, encoding="ascii") as file:
-                self.clean[check, kind] = (found, file.read())
-        return self.clean[check, kind]
+    def cutting(self, has_pool: bool) -> tuple[str, Cutting]:
+        """The text that starts from a created pool, or from none, and its engine."""
+        if has_pool not in self.cuttings:
+            text = self.text
+            if has_pool:
+                pool = f"{self.folder}/created.pool"
+                self.work.answer("pool", MAPS, "--input", "7", "--of", "data.pool", "-o", pool)
+                text, _ = seeded(self.work.lowered(MAPS, "--lines", options=options_of(pool)))
+            self.cuttings[has_pool] = (text, Cutting(text, f"{self.folder}/cut.{has_pool}", self.hippo))
+        return self.cuttings[has_pool]
 
     def row(self, bug: Bug) -> tuple[str, ...]:
         """The row of a bug."""
-        text, count = with_bug(self.text, bug)
-        head = (
-            bug.name,
-            f"{os.path.basename(bug.file)}:{bug.line}" if bug.line else os.path.basename(bug.file),
-            bug.what,
-            MAP_NAMES[bug.map],
-        )
-        if not count:
+        place = f"{os.path.basename(bug.file)}:{bug.line}" if bug.line else os.path.basename(bug.file)
+        head = (bug.name, place, bug.what, MAP_NAMES[bug.map])
+        if not self.counts[bug.name]:
             return (*head, "no call at this line", "", "", "")
-        columns, after = [], ""
-        for check in CHECKS:
-            known, clean_trace = self.without_bug(check, bug.map)
-            name = f"{bug.name}.{check}"
-            found, trace, ended = self.reports(name, self.with_checks(text, check), bug.map)
-            with open(trace, encoding="ascii") as file:
-                if file.read() == clean_trace:
-                    return (*head, "not executed", "", "", "")
-            new = (found - known).total()
-            columns.append(str(new) if ended == "stop 0" else f"{new}, {ended}")
-            if new and not after:
-                after = (
-                    re.findall(
-                        r"^after (\d+)$",
-                        run(
-                            [self.hippo, "rerun", f"{self.folder}/{name}.ll", trace],
-                            self.folder,
-                            codes=tuple(range(128)),
-                        ).stderr,
-                        re.M,
-                    )
-                    or ["refused"]
-                )[0]
-            os.unlink(trace)
-            os.unlink(f"{self.folder}/{name}.ll")
-        return (*head, *columns, after)
+        for name in CHECKS:
+            new = self.check(name).new(bug)
+            if new is None:
+                return (*head, "not executed", "", "", "")
+            if new:
+                return (*head, name, str(new), self.check(name).after(), "")
+        return (*head, *self.cut(bug))
 
-
-def with_bug(text: str, bug: Bug) -> tuple[str, int]:
-    """The text with a bug, and the number of calls that are changed."""
-    out, count, function = [], 0, ""
-    for line in text.split("\n"):
-        if line.startswith("define "):
-            function = line
-        code, mark, comment = line.partition(" ; ")
-        changed = (
-            change(code, bug, function) if " call " in code and (is_at(comment, bug) or bug.away == FENCE) else code
-        )
-        count += changed != code
-        if changed:
-            out.append(changed + mark + comment)
-    return "\n".join(out), count
-
-
-def is_at(comment: str, bug: Bug) -> bool:
-    """Whether an instruction is of the statement at the bug's line, where inlined functions are those of headers."""
-    return f"/{bug.file}:{bug.line}:" in comment.split(" < ")[-1]
-
-
-def change(code: str, bug: Bug, function: str) -> str:
-    """A call as the bug has it; nothing if the bug takes it away."""
-    target = re.match(r"(\s+%\S+) = call (\S+) ", code)
-    if bug.away == FENCE:
-        return (
-            re.sub(r"call void @call\.void\.ptr\.i64\(ptr [^,]*, ", "call void @own.pmem_flush(", code)
-            if "@obj_norep_persist(" in function
-            else code
-        )
-    if bug.away == FLUSH:
-        return FLAGS.sub(lambda found: f"i32 {int(found[1]) | NOFLUSH})", code)
-    if target:
-        return f"{target[1]} = add i32 0, 0" if target[2] == "i32" else code
-    return ""
+    def cut(self, bug: Bug) -> tuple[str, str, str, str]:
+        """What power cuts find of a bug; without a failure, why it is equivalent in these runs."""
+        number, tried = BUGS.index(bug) + 1, []
+        for has_pool in (True, False):
+            text, cutting = self.cutting(has_pool)
+            numbers = map_input(bug.map, OPERATIONS if has_pool else FEW, spares=SPARES if has_pool else 2)
+            found = cutting.found(number, numbers, SECONDS)
+            where = "in the operations" if has_pool else "in the creation"
+            for failure in found.failures.values():
+                if last := cutting.confirmed(failure, with_bug(text, bug), numbers):
+                    return "crash", "", "", f"{last} after a power cut {where}"
+            tried.append(f"{found.summary.get('images', 0):,} images {where}")
+        return NOT_FOUND if bug.why else "NOT FOUND", "", "", f"{bug.why or '?'}; {' and '.join(tried)} recover"
 
 
 def main() -> int:
-    """Tries each bug; returns 0 if no repair leaves a report."""
+    """Tries each bug; returns 0 if all are found or equivalent, and no repair leaves a report."""
     options = arguments_of(__doc__).parse_args()
-    print("| " + " | ".join(HEADINGS) + " |\n|" + "---|" * len(HEADINGS), flush=True)
+    print_head(HEADINGS)
     rows = []
     with tempfile.TemporaryDirectory() as scratch:
-        if options.keep:
-            os.makedirs(options.keep, exist_ok=True)
-        bugs = Bugs(Work(source_of(options), Setting(options.top, options.hippo, options.keep or scratch, None)))
-        chosen = [bug for bug in BUGS if not options.names or bug.name in options.names]
-        with ThreadPoolExecutor(options.jobs) as workers:
-            for row in workers.map(bugs.row, chosen):
-                rows.append(row)
-                print("| " + " | ".join(row) + " |", flush=True)
-    ran = [row for row in rows if row[5]]
-    found = [row for row in ran if any(column.split(",")[0] != "0" for column in row[4:7])]
-    print(f"{len(rows)} bugs, {len(ran)} executed, {len(found)} found by checks")
-    return 0 if all(row[7] in ("", "0") for row in rows) else 1
+        bugs = Bugs(Work(source_of(options), setting_of(options, scratch)))
+        for bug in BUGS:
+            if not options.names or bug.name in options.names:
+                rows.append(bugs.row(bug))
+                print_row(rows[-1])
+    counts = Counter(row[4] for row in rows)
+    print(f"{len(rows)} bugs: " + ", ".join(f"{count} {name}" for name, count in counts.most_common()))
+    return 0 if not counts["NOT FOUND"] and all(row[6] in ("", "0") for row in rows) else 1
 
 
 if __name__ == "__main__":

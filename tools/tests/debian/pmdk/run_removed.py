@@ -27,7 +27,17 @@ from hippo_c.program import Program  # noqa: E402
 from steps import Setting, run  # noqa: E402
 
 from library import EXAMPLE  # noqa: E402
-from run_programs import MAP_NAMES, OPTIONS, Piece, Work, arguments_of, source_of  # noqa: E402
+from work import (
+    MAP_NAMES,
+    Piece,
+    Work,
+    arguments_of,
+    options_of,
+    print_head,
+    print_row,
+    setting_of,
+    source_of,
+)  # noqa: E402
 
 PIECE = Piece("opened_maps", needs_maps=True)
 # The value of the global in the text: no number of a call.
@@ -66,9 +76,7 @@ def wrapper(callee: str, arguments: str) -> str:
 
 def removable(text: str) -> tuple[str, list[Removed]]:
     """The text in which each TX_ADD of the maps can be left out, and all of them."""
-    lines = text.split("\n")
-    found: list[Removed] = []
-    wrappers: dict[str, str] = {}
+    lines, found, wrappers = text.split("\n"), list[Removed](), dict[str, str]()
     for index, line in enumerate(lines):
         call = CALL.fullmatch(line)
         place = re.search(rf"/{EXAMPLE}/\S*/(\w+)\.c:(\d+):\d+$", call[4]) if call else None
@@ -105,7 +113,18 @@ class Trying:
         with open(path, "wb") as file:
             file.write(content.replace(before, (number or NONE).to_bytes(8, "little")))
         shutil.copymode(self.engine.path, path)
-        options = f"--time {seconds} --crashes 0 --given 1 --least 0 --greatest {GREATEST}".split()
+        options = [
+            "--time",
+            str(seconds),
+            "--crashes",
+            "0",
+            "--given",
+            "1",
+            "--least",
+            "0",
+            "--greatest",
+            str(GREATEST),
+        ]
         words = self.engine.words("explore", numbers, *options)
         process = subprocess.Popen([path, *words[1:]], stdout=subprocess.PIPE, text=True)
         try:
@@ -149,29 +168,23 @@ def processor_seconds(process: int) -> float:
 
 def text_of(work: Work) -> str:
     """The lowered text of the maps, with a pool that a run of the same program creates."""
-    pool, files = f"{work.folder}/maps.pool", work.files_of(PIECE)
-    commands = work.library.write_commands(f"{work.folder}/{PIECE.name}.json")
-    same = ["--cache", f"{work.folder}/modules", "--compile-commands", commands, *files]
+    pool = f"{work.folder}/maps.pool"
     if not os.path.exists(pool):
-        words = ["pool", *OPTIONS, *same, "--of", "data.pool", "-o", pool, "--", "-w"]
-        run([sys.executable, work.hippo_c, *words], work.folder, {"HIPPO_PROGRAM": work.setting.hippo})
-    options = [f"{word},{pool}" if word.startswith("data.pool=") else word for word in OPTIONS]
-    return run([f"{work.setting.top}/tools/lower", *options, "--lines", *same, "--", "-w"], work.folder).stdout
+        work.answer("pool", PIECE, "--of", "data.pool", "-o", pool)
+    return work.lowered(PIECE, "--lines", options=options_of(pool))
 
 
 def main() -> int:
     """Tries each call; returns 0 if hippo confirms all that is found."""
     options = arguments_of(__doc__).parse_args()
     with tempfile.TemporaryDirectory() as scratch:
-        if options.keep:
-            os.makedirs(options.keep, exist_ok=True)
-        setting = Setting(options.top, options.hippo, options.keep or scratch, None)
+        setting = setting_of(options, scratch)
         text, calls = removable(text_of(Work(source_of(options), setting)))
         trying = Trying(text, setting)
         calls = [one for one in calls if not options.names or MAP_NAMES[one.kind] in options.names]
         for kind in sorted({one.kind for one in calls}):
             trying.search(0, Removed(0, "", kind).numbers(), SECONDS_WITHOUT)
-        print("| " + " | ".join(HEADINGS) + " |\n|" + "---|" * len(HEADINGS), flush=True)
+        print_head(HEADINGS)
         found = confirmed = 0
         for removed in calls:
             report, seconds = trying.search(removed.number, removed.numbers(), SECONDS)
@@ -186,7 +199,7 @@ def main() -> int:
                     " ".join(map(str, report.numbers)),
                     str(is_confirmed),
                 ]
-            print("| " + " | ".join([removed.place, MAP_NAMES[removed.kind], *cells]) + " |", flush=True)
+            print_row((removed.place, MAP_NAMES[removed.kind], *cells))
     print(f"{len(calls)} calls, {found} found, {confirmed} confirmed")
     return 0 if found == confirmed else 1
 

@@ -1,6 +1,7 @@
 #!/usr/bin/env python3
 """PMDK's own unit tests, unchanged, natively and in hippo: each text that a test writes becomes a number (ut.c), and the numbers of both
-runs must be the same. It prints a table, and the exit code is 1 if fewer tests than `--least` print the same."""
+runs must be the same. It prints a table with a reason for each test that is out; the exit code is 1 if fewer tests than `--least` print the
+same, or if a test that prints the same is said to be out."""
 from __future__ import annotations
 
 import argparse
@@ -14,18 +15,30 @@ from concurrent.futures import ThreadPoolExecutor
 
 sys.dont_write_bytecode = True
 HERE = os.path.dirname(os.path.abspath(__file__))
-sys.path.insert(0, os.path.dirname(HERE))
+sys.path[:0] = [HERE, os.path.dirname(HERE)]
 from steps import Differs, Setting, run  # noqa: E402
 
 from library import Library  # noqa: E402
-from run_programs import UUID, arguments_of, source_of  # noqa: E402
-from tests import TESTS, Test  # noqa: E402
+from tests import NOT_TRIED, TESTS, Test  # noqa: E402
+from work import (  # noqa: E402
+    ANY_CODE,
+    UUID,
+    arguments_of,
+    native_object,
+    print_head,
+    print_row,
+    setting_of,
+    source_of,
+)
 
-OPTIONS = ["--single-thread", "--file-calls", "--ignore-output", "--heap", "15M", "--pool", "uuid=64,uuid"]
+OPTIONS = (
+    "--single-thread --file-calls --ignore-output --unaligned --array-bound 16K --heap 14M --heap-on-stack 12M".split()
+)
 SUPPORT = ("ut_alloc", "ut_file", "ut_pthread")
-HEADINGS = ("test", "arguments", "result", "numbers", "entries", "reports")
-SECONDS = 120
-NATIVE = ("clang-19", "-O0", "-w", "-mclwb", "-mclflushopt")
+HEADINGS = ("test", "arguments", "result", "numbers", "entries", "reports", "stores, flushes, fences")
+SECONDS = 300
+LIMIT = ["--limit", "20000000000"]
+MOCK = re.compile(r"^FUNC_MOCK(?:_RET_ALWAYS(?:_VOID)?)?\((\w+),", re.M)
 
 
 class Tests:
@@ -44,101 +57,62 @@ class Tests:
 
     def object_of(self, file: str) -> str:
         """The native object of a file of the library."""
-        target = f"{self.folder}/{os.path.basename(os.path.dirname(file))}.{os.path.basename(file)}.o"
-        if not os.path.exists(target):
-            run(
-                [
-                    "clang-19",
-                    "-O1",
-                    "-c",
-                    "-w",
-                    "-mclwb",
-                    "-mclflushopt",
-                    f"-I{self.setting.top}/tools",
-                    *self.library.arguments[file],
-                    "-o",
-                    target,
-                    file,
-                ],
-                self.folder,
-            )
-        return target
+        return native_object(self.setting, file, self.library.arguments[file])
 
     def files_of(self, test: Test) -> list[str]:
         """The files of a test."""
         folder = f"{self.tests}/{test.name}"
         names = sorted(name for name in glob.glob(f"{folder}/*.c") if "win" not in os.path.basename(name))
-        return self.library.note(names, [*self.library.of_tests, f"-I{folder}"])
+        names += [f"{self.tests}/{test.uses}"] if test.uses else []
+        return self.library.note(names, self.arguments_of(test))
+
+    def arguments_of(self, test: Test) -> list[str]:
+        """The arguments of clang for the files of a test."""
+        folders = [f"{self.tests}/{test.name}", *([os.path.dirname(f"{self.tests}/{test.uses}")] if test.uses else [])]
+        return [*self.library.of_tests, *(f"-I{folder}" for folder in folders)]
 
     def wraps_of(self, test: Test) -> list[str]:
         """The functions that the test replaces by its own, as PMDK's Makefile finds them for the linker."""
         found: set[str] = set()
         for path in glob.glob(f"{self.tests}/{test.name}/*.c"):
             with open(path, encoding="utf-8") as file:
-                found |= set(re.findall(r"^FUNC_MOCK(?:_RET_ALWAYS(?:_VOID)?)?\((\w+),", file.read(), re.M))
+                found |= set(MOCK.findall(file.read()))
         return sorted(found)
+
+    def build(self, test: Test) -> str:
+        """The native program."""
+        program, tools = f"{self.folder}/{test.name}.native", f"{self.setting.top}/tools"
+        words = ["clang-19", "-O0", "-w", "-mclwb", "-mclflushopt", f"-I{tools}", *self.arguments_of(test)]
+        words += ["-o", program, *self.files_of(test), *self.objects]
+        words += [f"{tools}/external_functions.c", *(f"-Wl,--wrap={name}" for name in self.wraps_of(test))]
+        run([*words, "-Wl,--allow-multiple-definition", "-ldl", "-lpthread"], self.folder)
+        return program
 
     def native(self, test: Test) -> tuple[str, int]:
         """What the native test prints, and its exit code."""
-        program, folder = f"{self.folder}/{test.name}.native", f"{self.tests}/{test.name}"
-        wraps = [f"-Wl,--wrap={name}" for name in self.wraps_of(test)]
-        tools = f"{self.setting.top}/tools"
-        command = [*NATIVE, f"-I{tools}", *self.library.of_tests, f"-I{folder}", "-o", program]
-        command += [*self.files_of(test), *self.objects, f"{tools}/external_functions.c", *wraps]
-        run([*command, "-Wl,--allow-multiple-definition", "-ldl", "-lpthread"], self.folder)
+        program = self.build(test)
         with tempfile.TemporaryDirectory(dir=self.folder) as place:
             for pool in test.pools.split():
                 name, _, rest = pool.partition("=")
                 if "," in rest:
                     run(["cp", f'{self.folder}/{rest.split(",")[1]}', f"{place}/{name}"], place)
-            try:
-                done = subprocess.run(
-                    [program, *test.arguments.split()],
-                    cwd=place,
-                    env={**os.environ, "PMEM_IS_PMEM_FORCE": "1"},
-                    stdin=subprocess.DEVNULL,
-                    capture_output=True,
-                    encoding="latin-1",
-                    timeout=SECONDS,
-                    check=False,
-                )
-            except subprocess.TimeoutExpired:
-                raise Differs(f"the native run takes more than {SECONDS} s") from None
+            done = timed([program, *test.arguments.split()], place, "the native run")
+        os.unlink(program)
         return done.stdout, done.returncode
 
     def lowered(self, test: Test) -> str:
         """The file of the lowered text."""
         files = [*self.files_of(test), *self.support, *self.library.files]
         commands = self.library.write_commands(f"{self.folder}/{test.name}.json")
-        pools = [word for pool in test.pools.split() for word in ("--pool", pool)]
-        wraps = [f"--wrap={name}" for name in self.wraps_of(test)]
-        arguments = ["--args", *test.arguments.split()]
-        done = subprocess.run(
-            [
-                f"{self.setting.top}/tools/lower",
-                *OPTIONS,
-                *pools,
-                *wraps,
-                *test.options.split(),
-                "--cache",
-                f"{self.folder}/modules",
-                "--compile-commands",
-                commands,
-                *files,
-                *arguments,
-                "--",
-                "-w",
-            ],
-            cwd=self.folder,
-            capture_output=True,
-            encoding="latin-1",
-            check=False,
-        )
+        pools = [word for pool in [*test.pools.split(), "uuid=64,uuid"] for word in ("--pool", pool)]
+        words = [f"{self.setting.top}/tools/lower", *OPTIONS, *pools, *test.options.split()]
+        words += [f"--wrap={name}" for name in self.wraps_of(test)]
+        words += ["--cache", f"{self.folder}/modules", "--compile-commands", commands, *files]
+        words += ["--args", *test.arguments.split(), "--", "-w"]
+        done = subprocess.run(words, cwd=self.folder, capture_output=True, encoding="latin-1", check=False)
         if done.returncode:
-            said = [line for line in done.stderr.splitlines() if " note: " not in line]
-            raise Differs(
-                "refused: " + re.sub(r"^lower: (?:\S+:\d+: )?", "", said[0]).partition(": ")[0] if said else "refused"
-            )
+            said = [line for line in done.stderr.splitlines() if " note: " not in line] or [""]
+            raise Differs("refused: " + re.sub(r"^lower: (?:\S+:\d+: )?", "", said[0]).partition(": ")[0])
         text = f"{self.folder}/{test.name}.ll"
         with open(text, "w", encoding="latin-1") as file:
             file.write(done.stdout)
@@ -149,50 +123,55 @@ class Tests:
         try:
             expected = self.native(test)
             text = self.lowered(test)
-            printed, how = self.in_hippo(text)
+            done = timed([self.setting.hippo, "run", text, *LIMIT], self.folder, "hippo")
+            how = (done.stderr.strip().splitlines() or [""])[-1]
             if how != f"stop {expected[1]}":
                 raise Differs(f"{how} in hippo, {expected[1]} natively")
-            if printed != expected[0]:
-                pairs = zip([*printed.split(), ""], [*expected[0].split(), ""])
-                raise Differs(
-                    f"other numbers from the {next(number for number, (one, other) in enumerate(pairs, 1) if one != other)}. on"
-                )
-            entries, reports = self.checked(text)
+            if done.stdout != expected[0]:
+                pairs = zip([*done.stdout.split(), ""], [*expected[0].split(), ""])
+                first = next(number for number, (one, other) in enumerate(pairs, 1) if one != other)
+                raise Differs(f"other numbers from the {first}. on")
+            checked = self.checked(text)
         except Differs as difference:
-            return False, (test.name, test.arguments[:40], str(difference), "", "", "")
-        return True, (test.name, test.arguments[:40], "same", len(expected[0].split()), entries, reports)
+            why = f": {test.why}" if test.why else ""
+            return False, (test.name, test.arguments[:40], f"{difference}{why}", "", "", "", "")
+        return True, (test.name, test.arguments[:40], "same", len(expected[0].split()), *checked)
 
-    def in_hippo(self, text: str) -> tuple[str, str]:
-        """What hippo prints, and how the run ends."""
-        try:
-            done = subprocess.run(
-                [self.setting.hippo, "run", text, "--limit", "20000000000"],
-                stdin=subprocess.DEVNULL,
-                capture_output=True,
-                encoding="latin-1",
-                timeout=SECONDS,
-                check=False,
-            )
-        except subprocess.TimeoutExpired:
-            raise Differs(f"hippo takes more than {SECONDS} s") from None
-        return done.stdout, (done.stderr.strip().splitlines() or [""])[-1]
-
-    def checked(self, text: str) -> tuple[int, int]:
-        """The number of entries of the run's trace, and of reports, with those that PMDK declares volatile."""
-        trace = text[:-3] + ".trace"
+    def checked(self, text: str) -> tuple[int, int, str]:
+        """The entries of the run's trace, the reports, with those that PMDK declares volatile, and the entries of each kind."""
+        trace, counts = text[:-3] + ".trace", dict.fromkeys(("STORE", "FLUSH", "FENCE"), 0)
         with open(trace, "wb") as out:
-            subprocess.run(
-                [self.setting.hippo, "record", text, "--limit", "20000000000"],
-                stdout=out,
-                stderr=subprocess.DEVNULL,
-                check=False,
-            )
-        with open(trace, "rb") as file:
-            entries = sum(1 for _ in file)
-        said = run([self.setting.hippo, "check", text, trace], self.folder, codes=tuple(range(128))).stderr
+            words = [self.setting.hippo, "record", text, *LIMIT]
+            subprocess.run(words, stdout=out, stderr=subprocess.DEVNULL, check=False)
+        entries = 0
+        with open(trace, encoding="ascii") as file:
+            for entries, entry in enumerate(file, 1):
+                word = entry.partition(";")[0].strip()
+                for counted in ("FLUSH", "FENCE") if word == "PERSIST" else (word,):
+                    if counted in counts:
+                        counts[counted] += 1
+        said = run([self.setting.hippo, "check", text, trace], self.folder, codes=ANY_CODE).stderr
         os.unlink(trace)
         os.unlink(text)
-        return entries, int(re.findall(r"^reports (\d+)$", said, re.M)[-1])
+        of_kinds = ", ".join(f"{count:,}" for count in counts.values())
+        return entries, int(re.findall(r"^reports (\d+)$", said, re.M)[-1]), of_kinds
+
+
+def timed(words: list[str], folder: str, what: str) -> subprocess.CompletedProcess[str]:
+    """A run that must end in some time."""
+    try:
+        return subprocess.run(
+            words,
+            cwd=folder,
+            env={**os.environ, "PMEM_IS_PMEM_FORCE": "1"},
+            stdin=subprocess.DEVNULL,
+            capture_output=True,
+            encoding="latin-1",
+            timeout=SECONDS,
+            check=False,
+        )
+    except subprocess.TimeoutExpired:
+        raise Differs(f"{what} takes more than {SECONDS} s") from None
 
 
 def main() -> int:
@@ -200,22 +179,22 @@ def main() -> int:
     parser = arguments_of(__doc__)
     parser.add_argument("--least", type=int, default=40, help="how many tests must print the same (40)")
     options: argparse.Namespace = parser.parse_args()
-    print("| " + " | ".join(HEADINGS) + " |\n|" + "---|" * len(HEADINGS), flush=True)
+    print_head(HEADINGS)
+    same, wrong = 0, []
     with tempfile.TemporaryDirectory() as scratch:
-        if options.keep:
-            os.makedirs(options.keep, exist_ok=True)
-        tests = Tests(source_of(options), Setting(options.top, options.hippo, options.keep or scratch, None))
+        tests = Tests(source_of(options), setting_of(options, scratch))
         chosen = [test for test in TESTS if not options.names or test.name in options.names]
-        same = 0
         with ThreadPoolExecutor(options.jobs) as workers:
-            for is_same, row in workers.map(tests.row, chosen):
+            for test, (is_same, row) in zip(chosen, workers.map(tests.row, chosen)):
                 same += is_same
-                print(
-                    "| " + " | ".join(f"{value:,}" if isinstance(value, int) else str(value) for value in row) + " |",
-                    flush=True,
-                )
-    print(f"{same} of {len(chosen)} tests print the same")
-    return 0 if same >= min(options.least, len(chosen)) else 1
+                wrong += [test.name] if is_same and test.why else []
+                print_row(row)
+    for name, why in () if options.names else NOT_TRIED.items():
+        print_row((name, "", f"not tried: {why}", "", "", "", ""))
+    print(f"{same} of {len(chosen)} tests print the same, {len(NOT_TRIED)} are not tried")
+    if wrong:
+        print(f'said to be out, and the same: {", ".join(wrong)}')
+    return 0 if same >= min(options.least, len(chosen)) and not wrong else 1
 
 
 if __name__ == "__main__":

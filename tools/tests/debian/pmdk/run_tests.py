@@ -37,6 +37,7 @@ OPTIONS = (
 SUPPORT = ("ut_alloc", "ut_file", "ut_pthread")
 HEADINGS = ("test", "arguments", "result", "numbers", "entries", "reports", "stores, flushes, fences")
 SECONDS = 300
+FATAL = "1000002"  # what ut.c prints where a test gives up
 LIMIT = ["--limit", "20000000000"]
 MOCK = re.compile(r"^FUNC_MOCK(?:_RET_ALWAYS(?:_VOID)?)?\((\w+),", re.M)
 
@@ -122,6 +123,8 @@ class Tests:
         """Whether a test prints the same in hippo, and its row."""
         try:
             expected = self.native(test)
+            if expected[1] or FATAL in expected[0].split():
+                raise Differs(f"it fails natively, with {expected[1]}")
             text = self.lowered(test)
             done = timed([self.setting.hippo, "run", text, *LIMIT], self.folder, "hippo")
             how = (done.stderr.strip().splitlines() or [""])[-1]

@@ -31,7 +31,19 @@ ADVICE = {
     "limit": "hippo has this limit",
 }
 # Of the refusals at one place in the C++ library, those of the highest rank say which part has no form; the others are left out.
-RANKS = {"stream": 2, "threads": 2, "files": 2, "exception": 1, "library": 0, "option": 0, "missing": 0, "atomic": 0}
+RANKS = {
+    "stream": 2,
+    "threads": 2,
+    "files": 2,
+    "exception": 1,
+    "float": 1,
+    "library": 0,
+    "option": 0,
+    "missing": 0,
+    "atomic": 0,
+}
+# Kinds whose reasons name different functions, each of which is shown.
+NAMED = ("option", "missing")
 # How a place with a line ends.
 AT_LINE = re.compile(r":\d+: $")
 
@@ -65,10 +77,12 @@ class Refusals:
             places.append(line)
 
     def add_once(self, refusal: Refused, place: str, name: str) -> None:
-        """Notes a refusal for what stands at a place in the source, once for each place and reason."""
-        places = self.kinds.setdefault(refusal.kind, {}).setdefault(str(refusal), [])
+        """Notes a refusal for what stands at a place in the source, once for each place and kind."""
+        reasons = self.kinds.setdefault(refusal.kind, {})
+        places = reasons.setdefault(str(refusal), [])
+        known = places if refusal.kind in NAMED else [line for lines in reasons.values() for line in lines]
         is_end = name.startswith("~") and any(f": {name[1:]}: " in line for line in places)
-        if not is_end and not any(line.startswith(place) for line in places):
+        if not is_end and not any(line.startswith(place) for line in known):
             places.append(f'{place}{name.lstrip("~")}: {refusal}')
             if not AT_LINE.search(place):
                 self.of_files.add(places[-1])

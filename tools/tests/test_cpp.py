@@ -1,7 +1,7 @@
 #!/usr/bin/env python3
 """Each C++ program in `cpp/` prints, lowered at each level, what clang's own build of it prints (`comparing.py`), or ends as its
-comments say: each `// refused: TEXT` is in the messages of tools/lower, which refuses the program with one line for each of its lines
-at most, and no `// no line: TEXT` is;
+comments say: each `// refused: TEXT` is in the messages of tools/lower, which refuses the program with one line at most
+for each line that comes to the library, and no `// no line: TEXT` is;
 `// trap: LINE` is the line of the `throw` at which the run traps, after a part of what the own build prints,
 and with `// traps: in the library` it traps there."""
 import glob
@@ -96,7 +96,7 @@ class Cpp(Comparing):
         """What is wrong with a refusal."""
         code, printed, errors = self.lower(level, file, source)
         unwanted = re.findall("^// no line: (.*)$", source, re.M)
-        places = re.findall(rf"^lower: (\S*{re.escape(os.path.basename(file))}:\d+): ", errors, re.M)
+        places = re.findall(rf"^lower: (\S*{re.escape(os.path.basename(file))}:\d+): std::", errors, re.M)
         is_right = (
             (code, printed) == (5, "")
             and all(text in errors for text in texts)

@@ -1,4 +1,5 @@
-// refused: of long double
+// refused: refused_random_real.cpp:8: std::uniform_real_distribution::operator(): 
+// refused: long double
 #include <hippo.h>
 #include <random>
 int main() {

@@ -12,7 +12,6 @@ ABSEIL = [
 ]
 # Without locales, and with a long double that is a double, since no other has arithmetic.
 FORMAT = ("-DFMT_HEADER_ONLY", "-DFMT_STATIC_THOUSANDS_SEPARATOR=','", "-mlong-double-64")
-DOUBLE_CONVERSION = "bignum bignum-dtoa cached-powers double-to-string fast-dtoa fixed-dtoa string-to-double strtod"
 LEVELDB = (
     "db/builder db/dbformat db/filename db/log_reader db/log_writer db/memtable db/write_batch "
     "table/block table/block_builder table/filter_block table/format table/iterator table/merger "
@@ -77,13 +76,6 @@ CPP_PIECES = [
     of_headers("format", "libfmt-dev", "texts of numbers", *TEXT, flags=FORMAT),
     of_sources("abseil_btree", "abseil", "B-trees", ABSEIL[:2], ["."], *THREAD, *TEXT),
     of_sources("abseil_hash", "abseil", "hash tables with SSE2", ABSEIL, ["."], *THREAD, *TEXT),
-    of_sources(
-        "double_conversion",
-        "double-conversion",
-        "texts of numbers",
-        [f"double-conversion/{name}.cc" for name in DOUBLE_CONVERSION.split()],
-        ["."],
-    ),
     of_sources("tinyxml", "tinyxml2", "XML", ["tinyxml2.cpp"], ["."], *TEXT),
     of_sources("pugixml", "pugixml", "XML", ["src/pugixml.cpp"], ["src"]),
     of_sources(

@@ -117,7 +117,7 @@ def attempt(build: Build, source: str, folder: str) -> list[object]:
     said = run([*HIPPO_C, "repair", *words, "--for", build.part, "-o", "part.o"], folder)
     added = next(line for line in said.splitlines() if line.startswith("added: "))
     after = next(line for line in said.splitlines() if " before, " in line)
-    run([*HIPPO_C, "crash", *words, "--entries", "9", "--debug", "image"], folder, (0, 1))
+    run([*HIPPO_C, "crash", *words, "--entries", "9", "--pick", "--debug", "image"], folder, (0, 1))
     for name in ("program", "image", "debug.gdb"):
         if not os.path.exists(f"{folder}/image/{name}"):
             raise Differs(f"crash --debug wrote no {name}")

@@ -64,15 +64,15 @@ class Project(Case):
             self.write(name, text)
 
     def commands(self, *entries: dict[str, object]) -> None:
-        """Writes the list of a build; without entries, that of the three files."""
+        """Writes the list of a build; without entries, that of the three files, of which the first has an argument of its own."""
         words = ["cc", "-I../include", "-DSLOTS=4", "-O2", "-c"]
         given = entries or (
-            {"directory": self.path("build"), "file": "../src/store.c", "arguments": [*words, "../src/store.c"]},
             {
                 "directory": self.path("build"),
                 "file": "../src/other.c",
                 "arguments": [*words, "-DMORE=9", "../src/other.c"],
             },
+            {"directory": self.path("build"), "file": "../src/store.c", "arguments": [*words, "../src/store.c"]},
             {"directory": self.path("build"), "file": "../main.c", "arguments": [*words, "../main.c"]},
         )
         self.write("build/compile_commands.json", json.dumps(given))

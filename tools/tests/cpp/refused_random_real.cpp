@@ -1,4 +1,4 @@
-// refused: refused_random_real.cpp:8: std::uniform_real_distribution::operator(): 
+// refused: refused_random_real.cpp:8: std::uniform_real_distribution::operator():
 // refused: long double
 #include <hippo.h>
 #include <random>

@@ -1,6 +1,7 @@
 """The answers about C++ in each form: names, places in templates and headers, diffs, SARIF, pages, crash images, object files, and an
 installation."""
 import json
+import re
 import os
 
 from .common import Case, built_program
@@ -80,8 +81,10 @@ class Answers(Case):
         self.assertEqual((region["artifactLocation"]["uri"], region["region"]["startLine"]), ("./table.h", self.line))
         self.assertTrue(result["fixes"])
         page = self.read("page.html")
-        self.assertTrue("constinit store::Table&lt;unsigned long, unsigned long, 8&gt; table;" in page)
-        self.assertFalse("store::Table<" in page)
+        self.assertIn(
+            "constinit store::Table&lt;unsigned long, unsigned long, 8&gt; table;", re.sub("<[^<>]*>", "", page)
+        )
+        self.assertNotIn("store::Table<", page)
         self.assertEqual(self.command("sh", "-c", "patch -s -p0 <fix.diff").returncode, 0)
         self.assertRegex(self.hippo_c("check", "main.cpp", "--input", "3", *FLAGS, code=0).stdout, r"(?m)^0 reports")
 

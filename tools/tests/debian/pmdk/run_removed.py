@@ -113,18 +113,7 @@ class Trying:
         with open(path, "wb") as file:
             file.write(content.replace(before, (number or NONE).to_bytes(8, "little")))
         shutil.copymode(self.engine.path, path)
-        options = [
-            "--time",
-            str(seconds),
-            "--crashes",
-            "0",
-            "--given",
-            "1",
-            "--least",
-            "0",
-            "--greatest",
-            str(GREATEST),
-        ]
+        options = f"--time {seconds} --crashes 0 --given 1 --least 0 --greatest {GREATEST}".split()
         words = self.engine.words("explore", numbers, *options)
         process = subprocess.Popen([path, *words[1:]], stdout=subprocess.PIPE, text=True)
         try:

@@ -3,6 +3,7 @@ from __future__ import annotations
 
 import json
 import os
+import stat
 import struct
 from collections.abc import Iterator
 from typing import Any, NamedTuple
@@ -30,8 +31,10 @@ class Unit(NamedTuple):
 
 
 def is_object(path: str) -> bool:
-    """Whether a file is an object or an archive."""
+    """Whether a file is an object or an archive. A pipe is none: what is read of it is gone."""
     try:
+        if not stat.S_ISREG(os.stat(path).st_mode):
+            return False
         with open(path, "rb") as file:
             return file.read(8).startswith((ELF, ARCHIVE, THIN))
     except OSError:

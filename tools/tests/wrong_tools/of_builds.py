@@ -89,4 +89,12 @@ EDITS = [
         "        return 0\n",
         f"{OF_BUILDS}.Objects.test_compilers_and_what_they_refuse",
     ),
+    Edit(
+        "text_of_a_pipe_is_lost",
+        "reads the first bytes of a pipe to see whether it is an object, so that the text of the pipe is gone",
+        "tools/lowering/objects.py",
+        "        if not stat.S_ISREG(os.stat(path).st_mode):\n            return False\n",
+        "",
+        "test_lower_ends.Ends.test_an_input_from_a_pipe",
+    ),
 ]

@@ -7,7 +7,7 @@ from .diagnostics import Printer
 from .plan import Repair
 from .program import Function, Site
 
-# From how many clones of one call on a note says why they are so many; of more clones than that, the others are counted together.
+# A call that makes more clones than this gets a note with the reason. A list shows this many clones, and counts the others together.
 MANY_CLONES = 32
 
 
@@ -39,7 +39,7 @@ def why_many(found: Repair, site: Site) -> str:
     made = f"; {len(reached):,} clones in all, since it comes to"
     by_pointer = [clone for clone in reached if found.program.functions[found.clones[clone]].is_dispatch]
     if not by_pointer:
-        return f"{made} so many functions that may store"
+        return f"{made} many functions that may store"
     most = max(sum(not is_added(found, name) for name in called_by(found, clone)) for clone in by_pointer)
     return f"{made} a call by pointer, which may call {counted(most, 'function', 'functions')}"
 

@@ -34,7 +34,7 @@ def refuse(options: argparse.Namespace) -> None:
 
 
 def write(options: argparse.Namespace, session: Session, found: Found, confirmed: Confirmed) -> None:
-    """Writes the page, if it is asked for."""
+    """Writes the page if `--html` names a file."""
     if not options.html:
         return
     checked = session.check(session.request.inputs[0], "checked.trace")

@@ -13,6 +13,7 @@ from . import crash_page, debugging, images, running
 from .checking import printer_of
 from .crash_answers import image_of, print_crashes
 from .crash_verdicts import try_images
+from .explore_options import add_recovery
 from .following import PAST_INPUT, follow
 from .images import Choice, Point
 from .numbers import from_to, seconds
@@ -96,20 +97,9 @@ def add_recoveries(command: argparse.ArgumentParser) -> None:
         action="store_true",
         help="an image also fails if main returns another number than in the recorded run",
     )
-    command.add_argument(
-        "--atomic",
-        action="store_true",
-        help="each command that the program reads must be done or not done after a power cut",
-    )
+    add_recovery(command)
     command.add_argument(
         "--crashes", type=from_to(1, 4), default=2, metavar="N", help="power cuts one after another that are tried (2)"
-    )
-    command.add_argument(
-        "--recover",
-        action="append",
-        default=[],
-        metavar="FUNCTION",
-        help="the recovery ends when this function returns",
     )
     command.add_argument(
         "--runs",
@@ -120,7 +110,7 @@ def add_recoveries(command: argparse.ArgumentParser) -> None:
 
 
 def add_next_cuts(command: argparse.ArgumentParser) -> None:
-    """The options of one run: what comes after its power cut, and what it is told."""
+    """The options of one run: the power cuts after the first one, and what hippo_prints returns."""
     command.add_argument(
         "--then",
         nargs="+",

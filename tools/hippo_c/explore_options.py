@@ -1,4 +1,4 @@
-"""The words of the command explore: its options, and what the engine is told of them."""
+"""The options of the command explore, and the words of the engine that follow from them."""
 from __future__ import annotations
 
 import argparse
@@ -66,14 +66,19 @@ def add_power_cuts(command: argparse.ArgumentParser) -> None:
         help="power cuts one after another that are tried; 2 cuts the recovery too, 0 tries none (2)",
     )
     command.add_argument(
+        "--status", action="store_true", help="a run after a power cut also fails if main returns another number"
+    )
+    add_recovery(command)
+
+
+def add_recovery(command: argparse.ArgumentParser) -> None:
+    """The options that say where a recovery ends, and what must be whole after it."""
+    command.add_argument(
         "--recover",
         action="append",
         default=[],
         metavar="FUNCTION",
         help="the recovery ends when this function returns",
-    )
-    command.add_argument(
-        "--status", action="store_true", help="a run after a power cut also fails if main returns another number"
     )
     command.add_argument(
         "--atomic",

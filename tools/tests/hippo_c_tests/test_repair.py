@@ -86,7 +86,7 @@ class Repair(Case):
         calls = f"static void all(long *to) {{ {' '.join(f'{name}(to);' for name in names)} }}\n"
         for text, called, more, why in (
             (table, "all[k]", 10, "a call by pointer, which may call 40 functions"),
-            (calls, "all", 9, "so many functions that may store"),
+            (calls, "all", 9, "many functions that may store"),
         ):
             self.write("a.c", end + text + main.format(called))
             ran = self.hippo_c("repair", "a.c", "-o", "a.ll", "--input", "7", code=0)
